@@ -1,0 +1,5 @@
+pub mod Rising
+pub mod Merged
+pub mod Above
+pub mod Told
+pub mod Same

@@ -1,0 +1,48 @@
+-- The delta of two trees, path by path.
+use Rattle.std.specs.Prelude.{List, [], ◌∷◌, ◌++◌, map, filter, Option}
+use Rattle.std.specs.List.{flat_map}
+use Rattle.std.specs.List.Sorted.{IsStrictlySortedBy}
+use Rattle.std.specs.FinMap.{FinMap, empty, insert, get, keys}
+use Rattle.res_path.specs.Paths.{Names, path_cmp}
+use Rattle.ws_elem.specs.declared.element.Element.{Element}
+use Rattle.ws_elem.specs.Trees.{Tree}
+use Rattle.delta_kind.specs.declared.node.DeltaNode.{DeltaNode}
+use Rattle.delta_kind.specs.Flags.{kind_of, flags_of, differs}
+
+-- what became of the path p, by its entries before and after
+abbrev pub node_of : Names → Option Element → Option Element → DeltaNode
+node_of p a b = record { path = p; kind = kind_of a b; flags = flags_of a b }
+
+-- what became of the path p from a to b
+abbrev pub node_at : Tree → Tree → Names → DeltaNode
+node_at a b p = node_of p (get a p) (get b p)
+
+-- the paths of either tree that came, went or have a flag
+abbrev pub changed : Tree → Tree → List Names
+changed a b = filter (λ p. differs (get a p) (get b p)) (keys a ++ keys b)
+
+-- all above p, the root first
+abbrev pub above : Names → List Names
+above [] = []
+above (name ∷ p) = [] ∷ map (λ q. name ∷ q) (above p)
+
+-- the set with these paths
+abbrev pub put_paths : FinMap path_cmp (Unit {0}) → List Names → FinMap path_cmp (Unit {0})
+put_paths s [] = s
+put_paths s (p ∷ ps) = put_paths (insert s p tt) ps
+
+-- these paths and all above them, each once and in path order
+abbrev pub with_above : List Names → List Names
+with_above ps = keys (put_paths empty (flat_map (λ p. above p ++ p ∷ []) ps))
+
+-- a node for each changed path and each path above one, in path order
+abbrev pub delta : Tree → Tree → List DeltaNode
+delta a b = map (node_at a b) (with_above (changed a b))
+
+-- the paths rise, so that none comes twice
+abbrev pub InPathOrder : List Names → Type 0
+InPathOrder = IsStrictlySortedBy path_cmp
+
+-- the paths of nodes
+abbrev pub paths_of : List DeltaNode → List Names
+paths_of = map (λ node. node.path)

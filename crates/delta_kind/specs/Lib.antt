@@ -1,0 +1,4 @@
+pub mod Flags
+pub mod Deltas
+pub mod Rows
+pub mod Walks

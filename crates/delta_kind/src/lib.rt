@@ -1,0 +1,24 @@
+//! What changed from one tree to another, path by path, as the platform's resource deltas tell it.
+//!
+//! - `flags`: the platform's kinds and flags of a change, and when each holds.
+//! - `node`: a `DeltaNode`, what became of one path.
+//! - `delta`: a `Delta`, the nodes in path order.
+//! - `row`: a `Row`, a path with its entries before and after.
+//! - `walk`: the rows of two trees, walked side by side.
+//! - `making`: the delta of two trees, and the one pass over rows that makes it.
+#![tactic(auto)]
+
+mod delta;
+mod flags;
+mod making;
+mod node;
+mod row;
+#[cfg(test)]
+mod tests;
+mod walk;
+
+pub use delta::Delta;
+pub use flags::{ADDED, CHANGED, CONTENT, NO_CHANGE, OPEN, REMOVED, REPLACED};
+pub use making::{compare, delta_of_rows};
+pub use node::DeltaNode;
+pub use row::Row;

@@ -1,0 +1,4 @@
+pub mod Area
+pub mod Moments
+pub mod Reading
+pub mod Writes

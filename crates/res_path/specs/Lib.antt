@@ -1,0 +1,5 @@
+pub mod Names
+pub mod Paths
+pub mod PathLaws
+pub mod Parts
+pub mod Order

@@ -1,0 +1,20 @@
+use Rattle.std.proofs.Common.{Err, sym, ◌∙◌, ap, ◌∷◌, ◌++◌, []}
+use Rattle.std.proofs.lemmas.Result.{err_from_is_err_and}
+use Rattle.script_lang.specs.Lines.{lines_of}
+use Rattle.script_lang.specs.declared.error.ScriptError.TheVariants.{BadLine}
+use Rattle.script_lang.proofs.Taken.{phase_bad_end, phase_read}
+use Rattle.script_lang.proofs.Read.{err_same}
+use Rattle.script_lang.proofs.grammar.phase.Goals as goal
+
+pub returns-in_err-keyword-2-clause-bad : goal.returns-in_err-keyword-2-clause-bad
+returns-in_err-keyword-2-clause-bad c = λ number e.
+    let p = err_from_is_err_and c.from_residual-in_err-keyword-2.result c.from_residual-in_err-keyword-2.ensures.1 in
+    phase_bad_end (lines_of c.args.reader.now.rest) (lines_of c.keyword.new.reader.rest) (lines_of c.job.new.reader.rest) c.in_ok-job.job
+    c.in_ok-keyword.ensures.taken c.in_ok-job.ensures.read
+    (c.in_err-keyword-2.ensures.bad number (ap Err (sym p.2 ∙ err_same p.0 (BadLine number) (sym p.1 ∙ e))))
+
+pub returns-clause-read : goal.returns-clause-read
+returns-clause-read c =
+    phase_read (lines_of c.args.reader.now.rest) (lines_of c.keyword.new.reader.rest) (lines_of c.job.new.reader.rest) (lines_of c.keyword-2.new.reader.rest) c.new.result c.in_ok-job.job
+    c.in_ok-keyword.ensures.taken c.in_ok-job.ensures.read c.in_ok-keyword-2.ensures.taken
+    (c.new.ensures ∙ c.in_ok-push.ensures.items ∙ ap (λ items. items ++ c.in_ok-job.job ∷ []) c.new-jobs.ensures.items)

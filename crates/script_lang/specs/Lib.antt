@@ -1,0 +1,5 @@
+pub mod Words
+pub mod Lines
+pub mod Commands
+pub mod Scripts
+pub mod Reading

@@ -1,0 +1,26 @@
+//! Scripts of jobs: what a script is, and how a text is read as one.
+//!
+//! - `script`: a `Script`: phases of jobs of commands.
+//! - `words`: the words of a line.
+//! - `reader`: the lines of a text, one after another.
+//! - `command`: which command the words of a line are.
+//! - `grammar`: the script that a text spells.
+//! - `error`: why a text is no script.
+#![tactic(auto)]
+
+mod command;
+mod error;
+mod grammar;
+mod reader;
+mod script;
+#[cfg(test)]
+mod tests;
+mod words;
+
+pub use error::ScriptError;
+pub use grammar::parse;
+pub use script::{Command, Commands, Job, Jobs, Phase, Phases, Script};
+use std::alloc::AllocError;
+
+/// Want of memory, as std tells it.
+pub type NoMemory = AllocError;

@@ -1,0 +1,9 @@
+pub mod Places
+pub mod Cases
+pub mod WholeKept
+pub mod Told
+pub mod Batches
+pub mod Grown
+pub mod StampsKept
+pub mod SoundKept
+pub mod SessionsKept

@@ -1,0 +1,27 @@
+-- A workspace while it is open.
+use Rattle.std.specs.Prelude.{◌≡◌, List}
+use Rattle.ws_elem.specs.Trees.{Whole}
+use Rattle.ws_core.specs.declared.history.Entry.{Entry}
+use Rattle.ws_core.specs.declared.state.State.{State}
+use Rattle.ws_core.specs.Histories.{Legal, replay}
+use Rattle.ws_core.specs.Stamps.{Stamped}
+
+-- the state that a workspace was opened with, what was done since, and the state now
+pub record Session : Type 0 where
+  pub opened : State
+  pub history : List Entry
+  pub state : State
+
+-- what holds of a state at every moment
+pub record IsSound (s : State) : Type 0 where
+  pub tree : Whole s.tree
+  pub told : Whole s.told
+  pub stamps : Stamped s
+
+-- what holds of an open workspace at every moment
+pub record IsSession (x : Session) : Type 0 where
+  -- the opened state's tree has been told
+  pub opened : x.opened.told ≡ x.opened.tree
+  pub legal : Legal x.opened x.history
+  pub state : x.state ≡ replay x.opened x.history
+  pub sound : IsSound x.state

@@ -1,0 +1,58 @@
+//! What was done.
+ghost use Rattle.std.specs.Prelude.{◌≡◌, ◌↔◌, [], length, IsTrue};
+
+use crate::{Event, Reply};
+use std::marker::Model;
+
+/// An event, the pass that asked it, and the reply.
+#[derive(Debug, Drop)]
+pub struct Entry {
+    pub pass: u64,
+    pub event: Event,
+    pub reply: Reply,
+}
+
+/// What was done, in order. A contract sees the list of entries.
+#[derive(Debug, Drop)]
+pub struct History {
+    entries: Vec<Entry>,
+}
+
+impl Model for History {
+    ghost use Rattle.std.specs.Prelude.{List};
+    ghost use Rattle.ws_core.specs.declared.history.Entry.{Entry};
+
+    ghost Value = { List Entry };
+
+    ghost view = { λ h. h.entries.items };
+}
+
+impl History {
+    /// The history with these entries, of which nothing is copied.
+    pub fn of(entries: Vec<Entry>) -> History
+        ensures { result ≡ entries.items }
+    {
+        History { entries }
+    }
+
+    /// The entries, in order.
+    pub fn entries(&self) -> &[Entry]
+        ensures { result.now ≡ self.now }
+    {
+        self.entries.as_slice()
+    }
+
+    /// How many entries.
+    pub fn len(&self) -> usize
+        ensures { result ≡ length self.now }
+    {
+        self.entries.len()
+    }
+
+    /// Whether nothing was done.
+    pub fn is_empty(&self) -> bool
+        ensures { IsTrue result ↔ (self.now ≡ []) }
+    {
+        self.entries.is_empty()
+    }
+}

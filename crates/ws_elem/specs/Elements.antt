@@ -1,0 +1,17 @@
+-- Elements.
+use Rattle.std.specs.Prelude.{ℕ, false, []}
+use Rattle.ws_elem.specs.declared.kind.Kind.{Kind}
+use Rattle.ws_elem.specs.declared.element.Element.{Element}
+
+-- an element with a kind and a node, and nothing else: no contents, closed, no description, not derived
+abbrev pub bare : Kind → ℕ → Element
+bare kind node = record {
+  kind = kind;
+  node = node;
+  stamp = 0;
+  opened = false;
+  desc_stamp = 0;
+  derived = false;
+  desc = [];
+  bytes = [];
+}

@@ -1,0 +1,4 @@
+pub mod Kinds
+pub mod Elements
+pub mod Trees
+pub mod Walks

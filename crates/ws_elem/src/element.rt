@@ -1,0 +1,50 @@
+//! What the workspace keeps of one resource.
+ghost use Rattle.std.specs.Prelude.{◌≡◌, IfOk};
+ghost use Rattle.ws_elem.specs.Elements.{bare};
+
+use crate::{Kind, NoMemory};
+use bytes::Bytes;
+
+/// What the workspace keeps of one resource. A contract sees its fields, a text as its bytes.
+#[derive(Clone, Debug, PartialEq, Eq, Drop)]
+pub struct Element {
+    pub kind: Kind,
+    /// Tells this resource from all others, also from one that was at the same path before it.
+    pub node: u64,
+    /// Changes with the contents; 0 but for files.
+    pub stamp: u64,
+    /// Only of an open project.
+    pub opened: bool,
+    /// Changes with the description; 0 but for projects.
+    pub desc_stamp: u64,
+    pub derived: bool,
+    /// The description's text; empty but for projects.
+    pub desc: Bytes,
+    /// The contents; empty but for files.
+    pub bytes: Bytes,
+}
+
+impl Element {
+    /// An element with this kind and this node, and nothing else. It takes no memory.
+    pub fn bare(kind: Kind, node: u64) -> Element
+        ensures { result ≡ bare kind node }
+    {
+        Element {
+            kind,
+            node,
+            stamp: 0,
+            opened: false,
+            desc_stamp: 0,
+            derived: false,
+            desc: Bytes::new(),
+            bytes: Bytes::new(),
+        }
+    }
+
+    /// An equal element, which shares the texts.
+    pub fn copy(&self) -> Result<Element, NoMemory>
+        ensures { IfOk result (λ copy. copy ≡ self.now) }
+    {
+        self.clone()
+    }
+}

@@ -1,0 +1,7 @@
+pub mod Disk
+pub mod Faults
+pub mod Laws
+pub mod Memory
+pub mod Replay
+pub mod Stepping
+pub mod Streams

@@ -1,0 +1,83 @@
+use crate::{Failed, MemSink, MemSource, Sink, Source, StdSink, StdSource};
+use std::alloc::Global;
+use std::process::Abort;
+use std::test::Fail;
+
+fn source_of(alloc: Global, text: &str) -> Result<MemSource, Fail> {
+    Ok(MemSource::new(alloc, text.as_bytes().to_vec(alloc)?))
+}
+
+#[test]
+fn a_source_gives_its_bytes_once_and_then_its_end(rt: HostRuntime) -> Result<(), Fail> {
+    let mut source = source_of(rt.alloc(), "abcde")?.giving_at_most(3);
+    let mut buf = *b"----";
+    assert_eq!(rt; source.read(&mut buf), Ok(3));
+    assert_eq!(rt; buf, *b"abc-");
+    assert_eq!(rt; source.left(), b"de".as_slice());
+    assert_eq!(rt; source.read(&mut []), Ok(0));
+    assert_eq!(rt; source.read(&mut buf), Ok(2));
+    assert_eq!(rt; buf, *b"dec-");
+    assert_eq!(rt; source.read(&mut buf), Ok(0));
+    assert_eq!(rt; source.calls(), 4);
+    assert_eq!(rt; source.faults(), 0);
+    Ok(())
+}
+
+#[test]
+fn a_read_that_is_to_fail_takes_nothing(rt: HostRuntime) -> Result<(), Fail> {
+    let alloc = rt.alloc();
+    let mut source = source_of(alloc, "abc")?.failing_at(vec![in alloc; 1, 2]?);
+    let mut buf = [0; 2];
+    assert_eq!(rt; source.read(&mut buf), Ok(2));
+    assert_eq!(rt; source.read(&mut buf), Err(Failed));
+    assert_eq!(rt; source.read(&mut buf), Err(Failed));
+    assert_eq!(rt; buf, *b"ab");
+    assert_eq!(rt; source.faults(), 2);
+    assert_eq!(rt; source.read(&mut buf), Ok(1));
+    assert_eq!(rt; buf, *b"cb");
+    Ok(())
+}
+
+#[test]
+fn a_sink_keeps_what_it_took(rt: HostRuntime) -> Result<(), Fail> {
+    let alloc = rt.alloc();
+    let mut sink = MemSink::new(alloc)
+        .taking_at_most(2)
+        .failing_at(vec![in alloc; 1]?);
+    sink.reserve(5)?;
+    assert_eq!(rt; sink.write(b"abc"), Ok(2));
+    assert_eq!(rt; sink.write(b"c"), Err(Failed));
+    assert_eq!(rt; sink.write(b"c"), Ok(1));
+    assert_eq!(rt; sink.write(b""), Ok(0));
+    assert_eq!(rt; sink.written(), b"abc".as_slice());
+    assert_eq!(rt; sink.calls(), 4);
+    assert_eq!(rt; sink.faults(), 1);
+    Ok(())
+}
+
+/// An answer, and the count of faults after it.
+fn is_told(rt: &impl Abort, answer: Result<usize, Failed>, size: usize, faults: u64) {
+    match answer {
+        Ok(count) => {
+            assert!(rt; count <= size);
+            assert_eq!(rt; faults, 0);
+        }
+        Err(Failed) => {
+            assert_eq!(rt; faults, 1);
+        }
+    }
+}
+
+#[test]
+fn standard_input_gives_no_more_than_asked_or_fails(rt: HostRuntime) {
+    let mut source = StdSource::new(rt.stdin());
+    let answer = source.read(&mut []);
+    is_told(&rt, answer, 0, source.faults());
+}
+
+#[test]
+fn standard_output_takes_some_of_a_piece_or_fails(rt: HostRuntime) {
+    let mut sink = StdSink::new(rt.stdout());
+    let answer = sink.write(b"written by a test\n");
+    is_told(&rt, answer, 18, sink.faults());
+}

@@ -1,0 +1,69 @@
+-- The order in which a script is run by one worker.
+use Rattle.std.specs.Prelude.{◌≡◌, ℕ, Bool, true, false, List, [], ◌∷◌, ◌++◌, map}
+use Rattle.std.specs.List.{flat_map}
+use Rattle.script_lang.specs.declared.script.Command.{Command}
+use Rattle.script_lang.specs.declared.script.Command.TheVariants as commands
+use Rattle.script_lang.specs.declared.script.Job.{Job}
+use Rattle.script_lang.specs.declared.script.Phase.{Phase}
+use Rattle.ws_core.specs.declared.event.Event.{Event}
+use Rattle.ws_core.specs.declared.event.Event.TheVariants.{Enter, Leave, Schedule, Take, Finish, Batch, EndBatch, Checkpoint, CreateProject, CreateFile, Delete}
+use Rattle.ws_core.specs.declared.history.Entry.{Entry}
+use Rattle.ws_core.specs.declared.state.State.{State}
+use Rattle.ws_core.specs.Histories.{has_entered}
+
+-- who asks what
+abbrev pub Call : Type 0
+Call = ℕ × Event
+
+abbrev pub call_of : Entry → Call
+call_of x = (x.pass, x.event)
+
+abbrev pub event_of : Command → Event
+event_of (commands.CreateProject p) = CreateProject p
+event_of (commands.CreateFile p bytes) = CreateFile p bytes
+event_of (commands.Delete p) = Delete p
+event_of commands.Batch = Batch
+event_of commands.EndBatch = EndBatch
+event_of commands.Checkpoint = Checkpoint
+
+-- the worker, pass 1, asks what a command says
+abbrev pub command_call : Command → Call
+command_call command = (1, event_of command)
+
+-- pass 0 schedules a job
+abbrev pub schedule_call : Job → Call
+schedule_call job = (0, Schedule job.name job.priority)
+
+-- the worker takes a job, does its commands in order and finishes
+abbrev pub job_calls : Job → List Call
+job_calls job = (1, Take) ∷ map command_call job.commands ++ (1, Finish) ∷ []
+
+-- the jobs of a phase are scheduled in the order of the text, and then run
+abbrev pub phase_calls : Phase → List Call
+phase_calls phase = map schedule_call phase.jobs ++ flat_map job_calls phase.jobs
+
+-- a worker enters, the phases are run one after another, and it leaves; without phases nothing is done
+abbrev pub calls : List Phase → List Call
+calls [] = []
+calls (phase ∷ phases) = (0, Enter) ∷ flat_map phase_calls (phase ∷ phases) ++ (1, Leave) ∷ []
+
+-- these calls were made after what was done before, in this order
+abbrev pub Asks : List Entry → List Entry → List Call → Type 0
+Asks old new made = map call_of new ≡ map call_of old ++ made
+
+abbrev pub is_leave : Event → Bool
+is_leave Enter = false
+is_leave Leave = true
+is_leave (Schedule name priority) = false
+is_leave Take = false
+is_leave Finish = false
+is_leave Batch = false
+is_leave EndBatch = false
+is_leave Checkpoint = false
+is_leave (CreateProject p) = false
+is_leave (CreateFile p bytes) = false
+is_leave (Delete p) = false
+
+-- each pass that had entered is still there
+abbrev pub Stay : State → State → Type 0
+Stay s t = (p : ℕ) → has_entered p s ≡ true → has_entered p t ≡ true

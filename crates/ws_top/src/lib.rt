@@ -1,0 +1,21 @@
+//! The run of a script, from the bytes that come in to the bytes that go out.
+//!
+//! - `program`: `top`, the one call of the program.
+//! - `words`: the forms of words that the program takes.
+//! - `reading`: a source is read to its end.
+//! - `job_run`: a script is run by one worker, event by event.
+//! - `report_text`: the text of a run.
+//! - `writing`: bytes are written to a sink, all of them.
+#![tactic(auto)]
+
+mod job_run;
+mod program;
+mod reading;
+mod report_text;
+#[cfg(test)]
+mod tests;
+mod words;
+mod writing;
+
+pub use program::{Outcome, top};
+pub use res_path::NoMemory;

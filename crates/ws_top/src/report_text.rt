@@ -1,0 +1,241 @@
+//! The text of a run: a line for each entry of its history, each notice, and what changed since the start.
+ghost use Rattle.std.specs.Prelude.{◌≡◌, ◌++◌, [], codes, decimal, OnOk, OnErr, if◌then◌else◌};
+ghost use Rattle.std.specs.Option.{option_copied};
+ghost use Rattle.res_path.specs.Paths.{path_text};
+ghost use Rattle.ws_top.specs.Texts.{event_text, refusal_text, answer_text, sign, where_set, flag_names, node_line, delta_lines, notice_lines, entry_line, is_shown, entry_lines, history_lines};
+
+use crate::NoMemory;
+use delta_kind::{ADDED, CONTENT, Delta, DeltaNode, OPEN, REMOVED, REPLACED};
+use res_path::Path;
+use std::alloc::Global;
+use ws_core::{Answer, Entry, Event, Refusal, Reply};
+
+/// Appends the bytes.
+pub fn put(out: &mut Vec<u8>, bytes: &[u8]) -> Result<(), NoMemory>
+    ensures { OnOk result (out.new.items ≡ out.old.items ++ bytes.now) }
+{
+    match out.extend_from_slice(bytes) {
+        Ok(_) => Ok(()),
+        Err(error) => Err(error),
+    }
+}
+
+/// Appends the text.
+pub fn put_text(out: &mut Vec<u8>, text: &str) -> Result<(), NoMemory>
+    ensures { OnOk result (out.new.items ≡ out.old.items ++ text.now) }
+{
+    put(out, text.as_bytes())
+}
+
+/// Appends the number in decimal.
+pub fn put_number(out: &mut Vec<u8>, alloc: Global, number: u64) -> Result<(), NoMemory>
+    ensures { OnOk result (out.new.items ≡ out.old.items ++ decimal number) }
+{
+    let text = number.to_string(alloc)?;
+    put_text(out, text.as_str())
+}
+
+/// Appends a text and a path.
+fn put_path(out: &mut Vec<u8>, before: &str, path: &Path) -> Result<(), NoMemory>
+    ensures { OnOk result (out.new.items ≡ out.old.items ++ before.now ++ path_text path.now) }
+{
+    put_text(out, before)?;
+    put_text(out, path.as_str())
+}
+
+fn put_schedule(out: &mut Vec<u8>, alloc: Global, name: &str, priority: u8) -> Result<(), NoMemory>
+    ensures { OnOk result (out.new.items ≡ out.old.items ++ codes "schedule " ++ name.now ++ codes " " ++ decimal priority ++ codes " path /") }
+{
+    put_text(out, "schedule ")?;
+    put_text(out, name)?;
+    put_text(out, " ")?;
+    put_number(out, alloc, u64::from(priority))?;
+    put_text(out, " path /")
+}
+
+fn put_create_file(out: &mut Vec<u8>, path: &Path, contents: &[u8]) -> Result<(), NoMemory>
+    ensures { OnOk result (out.new.items ≡ out.old.items ++ codes "create file " ++ path_text path.now ++ codes " " ++ contents.now) }
+{
+    put_path(out, "create file ", path)?;
+    put_text(out, " ")?;
+    put(out, contents)
+}
+
+fn put_create_project(out: &mut Vec<u8>, path: &Path) -> Result<(), NoMemory>
+    ensures { OnOk result (out.new.items ≡ out.old.items ++ codes "create " ++ codes "project " ++ path_text path.now) }
+{
+    put_text(out, "create ")?;
+    put_path(out, "project ", path)
+}
+
+fn put_event(out: &mut Vec<u8>, alloc: Global, event: &Event) -> Result<(), NoMemory>
+    ensures { OnOk result (out.new.items ≡ out.old.items ++ event_text event.now) }
+{
+    match event {
+        Event::Enter => put_text(out, "enter"),
+        Event::Leave => put_text(out, "leave"),
+        Event::Schedule(name, priority) => put_schedule(out, alloc, name.text(), *priority),
+        Event::Take => put_text(out, "take"),
+        Event::Finish => put_text(out, "finish"),
+        Event::Batch => put_text(out, "batch"),
+        Event::EndBatch => put_text(out, "endbatch"),
+        Event::Checkpoint => put_text(out, "checkpoint"),
+        Event::CreateProject(path) => put_create_project(out, path),
+        Event::CreateFile(path, contents) => put_create_file(out, path, contents.as_slice()),
+        Event::Delete(path) => put_path(out, "delete ", path),
+    }
+}
+
+fn put_refusal(out: &mut Vec<u8>, refusal: &Refusal) -> Result<(), NoMemory>
+    ensures { OnOk result (out.new.items ≡ out.old.items ++ refusal_text refusal.now) }
+{
+    match refusal {
+        Refusal::NotFound(path) => put_path(out, "10 ", path),
+        Refusal::Exists(path) => put_path(out, "11 ", path),
+        Refusal::NotContainer(path) => put_path(out, "12 ", path),
+        Refusal::WrongKind(path) => put_path(out, "13 ", path),
+        Refusal::ProjectClosed(path) => put_path(out, "14 ", path),
+        Refusal::TreeFull => put_text(out, "17"),
+        Refusal::NumbersUsed => put_text(out, "18"),
+        Refusal::NoBatch => put_text(out, "44"),
+    }
+}
+
+fn put_id(out: &mut Vec<u8>, alloc: Global, id: u64) -> Result<(), NoMemory>
+    ensures { OnOk result (out.new.items ≡ out.old.items ++ codes "id " ++ decimal id) }
+{
+    put_text(out, "id ")?;
+    put_number(out, alloc, id)
+}
+
+fn put_refused(out: &mut Vec<u8>, refusal: &Refusal) -> Result<(), NoMemory>
+    ensures { OnOk result (out.new.items ≡ out.old.items ++ codes "refused " ++ refusal_text refusal.now) }
+{
+    put_text(out, "refused ")?;
+    put_refusal(out, refusal)
+}
+
+fn put_answer(out: &mut Vec<u8>, alloc: Global, answer: &Answer) -> Result<(), NoMemory>
+    ensures { OnOk result (out.new.items ≡ out.old.items ++ answer_text answer.now) }
+{
+    match answer {
+        Answer::Done => put_text(out, "ok"),
+        Answer::Id(id) => put_id(out, alloc, *id),
+        Answer::None => put_text(out, "none"),
+        Answer::Job(name) => put_text(out, name.text()),
+        Answer::Refused(refusal) => put_refused(out, refusal),
+    }
+}
+
+fn put_sign(out: &mut Vec<u8>, kind: u8) -> Result<(), NoMemory>
+    ensures { OnOk result (out.new.items ≡ out.old.items ++ sign kind) }
+{
+    if kind == ADDED {
+        put_text(out, " +")
+    } else if kind == REMOVED {
+        put_text(out, " -")
+    } else {
+        put_text(out, " *")
+    }
+}
+
+fn put_where_set(out: &mut Vec<u8>, flags: u32, flag: u32, text: &str) -> Result<(), NoMemory>
+    ensures { OnOk result (out.new.items ≡ out.old.items ++ where_set flags flag text.now) }
+{
+    if flags & flag == 0 {
+        return Ok(());
+    }
+    put_text(out, text)
+}
+
+fn put_flags(out: &mut Vec<u8>, flags: u32) -> Result<(), NoMemory>
+    ensures { OnOk result (out.new.items ≡ out.old.items ++ flag_names flags) }
+{
+    put_where_set(out, flags, CONTENT, " CONTENT")?;
+    put_where_set(out, flags, OPEN, " OPEN")?;
+    put_where_set(out, flags, REPLACED, " REPLACED")
+}
+
+fn put_node(out: &mut Vec<u8>, node: &DeltaNode) -> Result<(), NoMemory>
+    ensures { OnOk result (out.new.items ≡ out.old.items ++ node_line node.now) }
+{
+    put_path(out, "  ", &node.path)?;
+    put_sign(out, node.kind)?;
+    put_flags(out, node.flags)?;
+    put_text(out, "\n")
+}
+
+/// Appends the lines of a delta.
+pub fn put_delta(out: &mut Vec<u8>, delta: &Delta) -> Result<(), NoMemory>
+    ensures { OnOk result (out.new.items ≡ out.old.items ++ delta_lines delta.now) }
+{
+    for node in delta.nodes() {
+        put_node(out, node)?;
+    }
+    Ok(())
+}
+
+fn put_notice(out: &mut Vec<u8>, notice: Option<&Delta>) -> Result<(), NoMemory>
+    ensures { OnOk result (out.new.items ≡ out.old.items ++ notice_lines (option_copied notice.entry)) }
+{
+    match notice {
+        None => Ok(()),
+        Some(delta) => put_told(out, delta),
+    }
+}
+
+fn put_told(out: &mut Vec<u8>, delta: &Delta) -> Result<(), NoMemory>
+    ensures { OnOk result (out.new.items ≡ out.old.items ++ codes "notice\n" ++ delta_lines delta.now) }
+{
+    put_text(out, "notice\n")?;
+    put_delta(out, delta)
+}
+
+fn put_line(out: &mut Vec<u8>, alloc: Global, entry: &Entry) -> Result<(), NoMemory>
+    ensures { OnOk result (out.new.items ≡ out.old.items ++ entry_line entry.now) }
+{
+    put_text(out, "p")?;
+    put_number(out, alloc, entry.pass)?;
+    put_text(out, " ")?;
+    put_event(out, alloc, &entry.event)?;
+    put_text(out, " -> ")?;
+    put_answer(out, alloc, &entry.reply.answer)?;
+    put_text(out, "\n")
+}
+
+fn is_shown(event: &Event) -> bool
+    ensures { result ≡ is_shown event.now }
+{
+    match event {
+        Event::Enter | Event::Leave => false,
+        Event::Schedule(_, _)
+        | Event::Take
+        | Event::Finish
+        | Event::Batch
+        | Event::EndBatch
+        | Event::Checkpoint
+        | Event::CreateProject(_)
+        | Event::CreateFile(_, _)
+        | Event::Delete(_) => true,
+    }
+}
+
+fn put_entry(out: &mut Vec<u8>, alloc: Global, entry: &Entry) -> Result<(), NoMemory>
+    ensures { OnOk result (out.new.items ≡ out.old.items ++ entry_lines entry.now) }
+{
+    if !is_shown(&entry.event) {
+        return Ok(());
+    }
+    put_line(out, alloc, entry)?;
+    put_notice(out, entry.reply.notice.as_ref())
+}
+
+/// Appends the lines of the entries.
+pub fn put_entries(out: &mut Vec<u8>, alloc: Global, entries: &[Entry]) -> Result<(), NoMemory>
+    ensures { OnOk result (out.new.items ≡ out.old.items ++ history_lines entries.now) }
+{
+    for entry in entries {
+        put_entry(out, alloc, entry)?;
+    }
+    Ok(())
+}

@@ -1,0 +1,21 @@
+//! Bytes are written to a sink, all of them.
+ghost use Rattle.std.specs.Prelude.{◌≡◌, ◌≢◌, ◌≤◌, [], length, take, drop, OnOk, OnErr};
+ghost use Rattle.ws_outside.specs.Faults.{Rose};
+ghost use Rattle.ws_outside.specs.Streams.{Gains, GainsFront};
+
+use ws_outside::{Failed, Sink};
+
+/// Writes the bytes, all of them where no write fails, and else some front of them.
+pub fn write_all<K: Sink>(sink: &mut K, bytes: &[u8]) -> Result<(), Failed>
+    ensures whole { OnOk result (Gains (K.written sink.old) bytes.now (K.written sink.new)) }
+    ensures front { OnErr result (GainsFront (K.written sink.old) bytes.now (K.written sink.new)) }
+    ensures cause { OnErr result (Rose (K.faults sink.old) (K.faults sink.new)) }
+    ensures calm { OnOk result (K.faults sink.new ≡ K.faults sink.old) }
+{
+    let mut at = 0;
+    while at < bytes.len() {
+        let (_, rest) = bytes.split_at(at);
+        at += sink.write(rest)?;
+    }
+    Ok(())
+}

@@ -1,0 +1,4 @@
+pub mod Lists
+pub mod Turn
+pub mod Steps
+pub mod Passes

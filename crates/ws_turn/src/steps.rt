@@ -1,0 +1,196 @@
+//! The steps of a seat.
+ghost use Rattle.std.specs.Prelude.{◌≡◌, ◌≢◌, ℕ, ◌<◌, ◌%◌, ◌^◌, ◌++◌, ◌∷◌, [], false, true, List, Some, None, is_some};
+ghost use Rattle.ws_turn.specs.Lists.{StartsWith, HasNoneOf, longer, of, put_before};
+ghost use Rattle.ws_turn.specs.Steps.{queued, IsHanded, MayRaise, raised, handed_on, told_of, informed, Agrees};
+
+use crate::logged::Logged;
+use crate::plays::{Draw, HandOn, Learn, Look, Merge, Note, Raise, Told};
+use crate::view::{Chair, Desk};
+use std::marker::Brand;
+use std::sync::Wait;
+use std::{hint, mem};
+
+const TICKETS: usize = 0;
+
+const SERVING: usize = 1;
+
+const COUNT: usize = 2;
+
+const VALUE: usize = 0;
+
+/// How often a thread looks for its turn before it sleeps.
+const SPINS: u32 = 64;
+
+/// A ticket, up to wrapping.
+pub(crate) fn draw_ticket<S: Logged>(desk: &Desk<S>, chair: &mut Chair<S>) -> u64
+    requires here { (chair.old.table_id ≡ desk.now.table_id) × (desk.now.table_id.words ≡ 3) }
+    requires live { chair.old.me.0.spent ≡ false }
+    requires idle { (chair.old.me.0.ticket ≡ None) × (chair.old.me.0.held ≡ None) }
+    requires number { (n : ℕ) × (chair.old.me.0.number ≡ Some n) }
+    ensures same { (chair.new.table_id ≡ chair.old.table_id) × (chair.new.id ≡ chair.old.id) }
+    ensures drawn { (k : ℕ) × (result ≡ k % 2 ^ 64) × (chair.new.me ≡ (queued S.list S.base S.by S.gives chair.old.me.0 k, chair.old.me.1)) }
+{
+    desk.fetch_add::<Draw>(chair, TICKETS, 1)
+}
+
+/// Looks at the serving word once.
+fn look_once<S: Logged>(desk: &Desk<S>, chair: &mut Chair<S>) -> u64
+    requires here { (chair.old.table_id ≡ desk.now.table_id) × (desk.now.table_id.words ≡ 3) }
+    requires live { (chair.old.me.0.spent ≡ false) × (chair.old.me.0.held ≡ None) }
+    requires queued { (k : ℕ) × (chair.old.me.0.ticket ≡ Some k) }
+    ensures same { (chair.new.table_id ≡ chair.old.table_id) × (chair.new.id ≡ chair.old.id) }
+    ensures turn { (k : ℕ) → chair.old.me.0.ticket ≡ Some k → result ≡ k % 2 ^ 64 → IsHanded S.list S.base S.by S.gives chair.old.me chair.new.me }
+    ensures waits { (k : ℕ) → chair.old.me.0.ticket ≡ Some k → result ≢ k % 2 ^ 64 → chair.new.me ≡ chair.old.me }
+{
+    desk.load::<Look>(chair, SERVING)
+}
+
+/// Waits for the turn, and takes the slot in hand.
+pub(crate) fn await_turn<S: Logged, R: Wait>(
+    rt: &R,
+    desk: &Desk<S>,
+    chair: &mut Chair<S>,
+    ticket: u64,
+)
+    requires here { (chair.old.table_id ≡ desk.now.table_id) × (desk.now.table_id.words ≡ 3) }
+    requires live { (chair.old.me.0.spent ≡ false) × (chair.old.me.0.held ≡ None) }
+    requires queued { (k : ℕ) × (chair.old.me.0.ticket ≡ Some k) × (ticket ≡ k % 2 ^ 64) }
+    ensures same { (chair.new.table_id ≡ chair.old.table_id) × (chair.new.id ≡ chair.old.id) }
+    ensures turn { IsHanded S.list S.base S.by S.gives chair.old.me chair.new.me }
+{
+    let mut spins = 0;
+    for _ in rt.forever() {
+        let found = look_once(desk, chair);
+        if found == ticket {
+            break;
+        }
+        if spins < SPINS {
+            spins += 1;
+            hint::spin_loop();
+        } else {
+            desk.park(rt, SERVING, (found % (1 << 32)) as u32);
+        }
+    }
+}
+
+/// Takes the value out of the slot in hand.
+pub(crate) fn take_out<S: Logged>(desk: &Desk<S>, chair: &mut Chair<S>) -> S
+    requires here { chair.old.table_id ≡ desk.now.table_id }
+    requires held { (x : S) × (chair.old.me.1 ≡ (0, Some x) ∷ []) }
+    ensures same { (chair.new.table_id ≡ chair.old.table_id) × (chair.new.id ≡ chair.old.id) }
+    ensures out { (chair.old.me.1 ≡ (0, Some result) ∷ []) × (chair.new.me ≡ (chair.old.me.0, (0, None) ∷ [])) }
+{
+    desk.exchange(chair, VALUE, None).unwrap()
+}
+
+/// Raises the count to the length of the value's list. B tells of the value.
+fn make_raise<B: Told<S>, S: Logged>(desk: &Desk<S>, chair: &mut Chair<S>, value: &S)
+    requires here { (chair.old.table_id ≡ desk.now.table_id) × (desk.now.table_id.words ≡ 3) }
+    requires told { B.told ≡ Some value.now }
+    requires live { (chair.old.me.0.spent ≡ false) × (chair.old.me.0.pending ≡ []) }
+    requires more { (more : List S.Entry) × MayRaise S.list S.base S.by S.gives value.now more chair.old.me.0 }
+    ensures same { (chair.new.table_id ≡ chair.old.table_id) × (chair.new.id ≡ chair.old.id) }
+    ensures raised { (more : List S.Entry) → S.list value.now ≡ chair.old.me.0.seen ++ more → chair.new.me ≡ (raised S.list S.base S.by S.gives chair.old.me.0 value.now more, chair.old.me.1) }
+    ensures agrees { Agrees S.list S.base S.by S.gives chair.new.me.0 × HasNoneOf S.by chair.new.me.0.pending chair.new.me.0.seen }
+{
+    let entries = value.entries();
+    desk.store::<Raise<B>>(chair, COUNT, entries);
+}
+
+/// Raises the count for a value that is lent: the call picks what it tells of.
+pub(crate) fn raise_for<S: Logged>(desk: &Desk<S>, chair: &mut Chair<S>, value: &S)
+    requires here { (chair.old.table_id ≡ desk.now.table_id) × (desk.now.table_id.words ≡ 3) }
+    requires live { (chair.old.me.0.spent ≡ false) × (chair.old.me.0.pending ≡ []) }
+    requires more { (more : List S.Entry) × MayRaise S.list S.base S.by S.gives value.now more chair.old.me.0 }
+    ensures same { (chair.new.table_id ≡ chair.old.table_id) × (chair.new.id ≡ chair.old.id) }
+    ensures raised { (more : List S.Entry) → S.list value.now ≡ chair.old.me.0.seen ++ more → chair.new.me ≡ (raised S.list S.base S.by S.gives chair.old.me.0 value.now more, chair.old.me.1) }
+    ensures agrees { Agrees S.list S.base S.by S.gives chair.new.me.0 × HasNoneOf S.by chair.new.me.0.pending chair.new.me.0.seen }
+{
+    make_raise::<Brand, S>(desk, chair, value);
+}
+
+/// Puts a value into the slot in hand.
+fn put_in<S: Logged>(desk: &Desk<S>, chair: &mut Chair<S>, value: S)
+    requires here { chair.old.table_id ≡ desk.now.table_id }
+    requires held { chair.old.me.1 ≡ (0, None) ∷ [] }
+    ensures same { (chair.new.table_id ≡ chair.old.table_id) × (chair.new.id ≡ chair.old.id) }
+    ensures put { chair.new.me ≡ (chair.old.me.0, (0, Some value) ∷ []) }
+{
+    desk.exchange(chair, VALUE, Some(value));
+}
+
+/// Gives the slot in hand back, serves the next ticket, and wakes those that sleep where somebody may wait.
+pub(crate) fn serve_next<S: Logged>(desk: &Desk<S>, chair: &mut Chair<S>)
+    requires here { (chair.old.table_id ≡ desk.now.table_id) × (desk.now.table_id.words ≡ 3) × (desk.now.table_id.slots ≡ 1) }
+    requires held { (chair.old.me.0.spent ≡ false) × ((y : S) × (chair.old.me.0.held ≡ Some y) × (chair.old.me.1 ≡ (0, Some y) ∷ [])) }
+    ensures same { (chair.new.table_id ≡ chair.old.table_id) × (chair.new.id ≡ chair.old.id) }
+    ensures on { chair.new.me ≡ (handed_on S.list S.base S.by S.gives chair.old.me.0, []) }
+{
+    let served = desk.fetch_add::<HandOn>(chair, SERVING, 1);
+    if desk.peek(TICKETS) != served.wrapping_add(1) {
+        desk.wake_all(SERVING);
+    }
+}
+
+/// Gives the value back: raises the count, puts the value into the slot and serves the next ticket.
+pub(crate) fn hand_back<S: Logged>(desk: &Desk<S>, chair: &mut Chair<S>, value: S)
+    requires here { (chair.old.table_id ≡ desk.now.table_id) × (desk.now.table_id.words ≡ 3) × (desk.now.table_id.slots ≡ 1) }
+    requires live { (chair.old.me.0.spent ≡ false) × (chair.old.me.0.pending ≡ []) }
+    requires held { chair.old.me.1 ≡ (0, None) ∷ [] }
+    requires more { (more : List S.Entry) × MayRaise S.list S.base S.by S.gives value more chair.old.me.0 }
+    ensures same { (chair.new.table_id ≡ chair.old.table_id) × (chair.new.id ≡ chair.old.id) }
+    ensures on { (more : List S.Entry) → S.list value ≡ chair.old.me.0.seen ++ more → chair.new.me ≡ (handed_on S.list S.base S.by S.gives (raised S.list S.base S.by S.gives chair.old.me.0 value more), []) }
+    ensures agrees { Agrees S.list S.base S.by S.gives chair.new.me.0 }
+{
+    raise_for(desk, chair, &value);
+    put_in(desk, chair, value);
+    serve_next(desk, chair);
+}
+
+/// Tells a seat what another has seen, and lets it look.
+pub(crate) fn learn_from<S: Logged>(desk: &Desk<S>, chair: &mut Chair<S>, other: &mut Chair<S>)
+    requires here { (chair.old.table_id ≡ desk.now.table_id) × (other.old.table_id ≡ desk.now.table_id) × (desk.now.table_id.words ≡ 3) }
+    requires live { (chair.old.me.0.spent ≡ false) × (other.old.me.0.spent ≡ false) }
+    ensures chair { (chair.new.table_id ≡ chair.old.table_id) × (chair.new.id ≡ chair.old.id) }
+    ensures other { (other.new.table_id ≡ other.old.table_id) × (other.new.id ≡ other.old.id) × (other.new.me ≡ other.old.me) }
+    ensures seen { chair.new.me ≡ (informed S.list S.base S.by S.gives (told_of chair.old.me.0 other.old.me.0), chair.old.me.1) }
+    ensures begins { StartsWith chair.new.me.0.seen chair.old.me.0.seen × StartsWith chair.new.me.0.seen other.old.me.0.seen }
+    ensures agrees { Agrees S.list S.base S.by S.gives chair.new.me.0 }
+    ensures held { is_some chair.old.me.0.held ≡ true → chair.new.me.0.seen ≡ chair.old.me.0.seen }
+{
+    let note = desk.split_seat::<Note>(other);
+    desk.join_seat::<Note>(chair, note);
+    look_again(desk, chair);
+}
+
+/// Sees what was told.
+fn look_again<S: Logged>(desk: &Desk<S>, chair: &mut Chair<S>)
+    requires here { (chair.old.table_id ≡ desk.now.table_id) × (desk.now.table_id.words ≡ 3) }
+    requires live { chair.old.me.0.spent ≡ false }
+    ensures chair { (chair.new.table_id ≡ chair.old.table_id) × (chair.new.id ≡ chair.old.id) }
+    ensures seen { chair.new.me ≡ (informed S.list S.base S.by S.gives chair.old.me.0, chair.old.me.1) }
+    ensures begins { StartsWith chair.new.me.0.seen chair.old.me.0.seen × StartsWith chair.new.me.0.seen chair.old.me.0.told }
+    ensures agrees { Agrees S.list S.base S.by S.gives chair.new.me.0 }
+    ensures held { is_some chair.old.me.0.held ≡ true → chair.new.me.0.seen ≡ chair.old.me.0.seen }
+{
+    desk.load::<Learn>(chair, SERVING);
+}
+
+/// Lets a pass that holds nothing go on in the seat of another, which is joined to it.
+pub(crate) fn merge_in<S: Logged>(desk: &Desk<S>, chair: &mut Chair<S>, mut other: Chair<S>)
+    requires here { (chair.old.table_id ≡ desk.now.table_id) × (other.table_id ≡ desk.now.table_id) × (desk.now.table_id.words ≡ 3) }
+    requires live { (chair.old.me.0.spent ≡ false) × (other.me.0.spent ≡ false) }
+    requires numbers { ((a : ℕ) × (chair.old.me.0.number ≡ Some a)) × ((b : ℕ) × (other.me.0.number ≡ Some b)) }
+    requires idle { (chair.old.me.0.ticket ≡ None) × (chair.old.me.0.held ≡ None) × (chair.old.me.1 ≡ []) }
+    ensures here { chair.new.table_id ≡ chair.old.table_id }
+    ensures merged { chair.new.me ≡ (record other.me.0 { number = chair.old.me.0.number; seen = longer other.me.0.seen chair.old.me.0.seen; told = []; mine = chair.old.me.0.mine; lost = chair.old.me.0.lost ++ other.me.0.lost; joined = put_before other.me.0.number other.me.0.joined }, other.me.1) }
+    ensures begins { StartsWith chair.new.me.0.seen chair.old.me.0.seen × StartsWith chair.new.me.0.seen other.me.0.seen }
+    ensures agrees { Agrees S.list S.base S.by S.gives chair.new.me.0 }
+    ensures theirs { (b : ℕ) → other.me.0.number ≡ Some b → of S.by b chair.new.me.0.seen ≡ other.me.0.mine }
+    ensures held { is_some other.me.0.held ≡ true → chair.new.me.0.seen ≡ other.me.0.seen }
+{
+    learn_from(desk, &mut other, chair);
+    let old = mem::replace(chair, other);
+    desk.join_seat::<Merge>(chair, old);
+    look_again(desk, chair);
+}
