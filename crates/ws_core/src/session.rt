@@ -119,7 +119,8 @@ impl Core {
 
     /// What changed since the workspace was opened. Costs a walk of both trees.
     pub fn since_start(&self, alloc: Global) -> Result<Delta, NoMemory>
-        ensures { IfOk result (λ d. d ≡ delta self.now.opened.tree self.now.state.tree) }
+        ensures changed { IfOk result (λ d. d ≡ delta self.now.opened.tree self.now.state.tree) }
+        ensures replayed { IfOk result (λ d. d ≡ delta self.now.opened.tree (replay self.now.opened self.now.history).tree) }
     {
         compare(alloc, &self.start, &self.state.tree)
     }

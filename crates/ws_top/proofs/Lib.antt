@@ -1,3 +1,6 @@
+pub mod Dropped
 pub mod Written
+pub mod Printed
 pub mod Taken
+pub mod Ended
 pub mod Stays

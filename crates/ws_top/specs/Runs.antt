@@ -51,6 +51,11 @@ calls (phase ∷ phases) = (0, Enter) ∷ flat_map phase_calls (phase ∷ phases
 abbrev pub Asks : List Entry → List Entry → List Call → Type 0
 Asks old new made = map call_of new ≡ map call_of old ++ made
 
+-- the first of these calls were made after what was done before, in this order
+pub record AsksFront (old new : List Entry) (made : List Call) : Type 0 where
+  pub others : List Call
+  pub front : map call_of new ++ others ≡ map call_of old ++ made
+
 abbrev pub is_leave : Event → Bool
 is_leave Enter = false
 is_leave Leave = true

@@ -5,7 +5,6 @@ use Rattle.res_path.specs.Paths.{path_text}
 use Rattle.delta_kind.specs.declared.node.DeltaNode.{DeltaNode}
 use Rattle.delta_kind.specs.declared.flags.TheConstants.{ADDED, REMOVED, CONTENT, OPEN, REPLACED}
 use Rattle.delta_kind.specs.Deltas.{delta}
-use Rattle.ws_elem.specs.Trees.{Tree}
 use Rattle.ws_core.specs.declared.event.Event.{Event}
 use Rattle.ws_core.specs.declared.event.Event.TheVariants.{Enter, Leave, Schedule, Take, Finish, Batch, EndBatch, Checkpoint, CreateProject, CreateFile, Delete}
 use Rattle.ws_core.specs.declared.reply.Refusal.{Refusal}
@@ -14,6 +13,8 @@ use Rattle.ws_core.specs.declared.reply.Answer.{Answer}
 use Rattle.ws_core.specs.declared.reply.Answer.TheVariants as answers
 use Rattle.ws_core.specs.declared.reply.Answer.TheVariants.{Done, Id, Job, Refused}
 use Rattle.ws_core.specs.declared.history.Entry.{Entry}
+use Rattle.ws_core.specs.declared.state.State.{State}
+use Rattle.ws_core.specs.Histories.{replay}
 
 -- the command of a script that the event is, or what stands for it
 abbrev pub event_text : Event → List ℕ
@@ -84,12 +85,16 @@ entry_lines x = if is_shown x.event then entry_line x ++ notice_lines x.reply.no
 abbrev pub history_lines : List Entry → List ℕ
 history_lines = flat_map entry_lines
 
--- what a run from one tree to another writes before its status
-abbrev pub report_lines : Tree → List Entry → Tree → List ℕ
-report_lines opened h now = history_lines h ++ codes "since start\n" ++ delta_lines (delta opened now)
+-- what is written of a history from a state on, before the status: its entries, and what changed since that state
+abbrev pub report_from : State → List Entry → List ℕ
+report_from opened h = history_lines h ++ (codes "since start\n" ++ delta_lines (delta opened.tree (replay opened h).tree))
 
 abbrev pub status_line : ℕ → List ℕ
 status_line n = codes "status " ++ decimal n ++ codes "\n"
 
+-- the text of a run: what was done since the state was opened, what changed, and the status
+abbrev pub text : State → List Entry → ℕ → List ℕ
+text opened h n = report_from opened h ++ status_line n
+
 abbrev pub bad_line : ℕ → List ℕ
-bad_line line = codes "status 6 line " ++ decimal line ++ codes "\n"
+bad_line line = codes "status " ++ decimal 6 ++ codes " line " ++ decimal line ++ codes "\n"

@@ -2,7 +2,7 @@
 ghost use Rattle.std.specs.Prelude.{◌≡◌, ◌∷◌, ◌++◌, [], map, true, false, IfOk, OnOk, OnErr};
 ghost use Rattle.std.specs.List.{flat_map};
 ghost use Rattle.ws_core.specs.Histories.{has_entered, fresh};
-ghost use Rattle.ws_top.specs.Runs.{Asks, Stay, is_leave, event_of, command_call, schedule_call, job_calls, phase_calls, calls};
+ghost use Rattle.ws_top.specs.Runs.{Asks, AsksFront, Stay, is_leave, event_of, command_call, schedule_call, job_calls, phase_calls, calls};
 
 use crate::NoMemory;
 use script_lang::{Command, Job, Phase, Script};
@@ -24,11 +24,12 @@ fn event_of(command: &Command) -> Result<Event, NoMemory>
 }
 
 /// The pass asks the core.
-#[tactic(auto, using(crate::proofs::Stays::asks_one, crate::proofs::Stays::stay_step))]
+#[tactic(auto, using(crate::proofs::Stays::asks_one, crate::proofs::Stays::stay_step, crate::proofs::Stays::front_same))]
 fn ask(core: &mut Core, alloc: Global, pass: u64, event: Event) -> Result<(), NoMemory>
     requires { has_entered pass core.old.state ≡ true }
     ensures opened { core.new.opened ≡ core.old.opened }
     ensures asked { OnOk result (Asks core.old.history core.new.history ((pass, event) ∷ [])) }
+    ensures front { OnErr result (AsksFront core.old.history core.new.history ((pass, event) ∷ [])) }
     ensures stays { OnOk result (is_leave event ≡ false → Stay core.old.state core.new.state) }
     ensures err { OnErr result (core.new ≡ core.old) }
 {
@@ -39,117 +40,152 @@ fn ask(core: &mut Core, alloc: Global, pass: u64, event: Event) -> Result<(), No
 }
 
 /// The worker does the command.
-#[tactic(auto, using(crate::proofs::Stays::command_stays))]
+#[tactic(auto, using(crate::proofs::Stays::command_stays, crate::proofs::Stays::front_here))]
 fn do_command(core: &mut Core, alloc: Global, command: &Command) -> Result<(), NoMemory>
     requires { has_entered 1 core.old.state ≡ true }
     ensures opened { core.new.opened ≡ core.old.opened }
     ensures asked { OnOk result (Asks core.old.history core.new.history (command_call command.now ∷ [])) }
+    ensures front { OnErr result (AsksFront core.old.history core.new.history (command_call command.now ∷ [])) }
     ensures stays { OnOk result (Stay core.old.state core.new.state) }
 {
-    let event = event_of(command)?;
-    ask(core, alloc, 1, event)
+    match event_of(command) {
+        Ok(event) => ask(core, alloc, 1, event),
+        Err(error) => Err(error),
+    }
 }
 
 /// Pass 0 schedules the job.
+#[tactic(auto, using(crate::proofs::Stays::front_here))]
 fn schedule_one(core: &mut Core, alloc: Global, job: &Job) -> Result<(), NoMemory>
     requires { has_entered 0 core.old.state ≡ true }
     ensures opened { core.new.opened ≡ core.old.opened }
     ensures asked { OnOk result (Asks core.old.history core.new.history (schedule_call job.now ∷ [])) }
+    ensures front { OnErr result (AsksFront core.old.history core.new.history (schedule_call job.now ∷ [])) }
     ensures stays { OnOk result (Stay core.old.state core.new.state) }
 {
-    let name = job.name.copy()?;
-    ask(core, alloc, 0, Event::Schedule(name, job.priority))
+    match job.name.copy() {
+        Ok(name) => ask(core, alloc, 0, Event::Schedule(name, job.priority)),
+        Err(error) => Err(error),
+    }
 }
 
 /// The worker does the commands, in order.
-#[tactic(auto, using(crate::proofs::Stays::stay_on))]
+#[tactic(auto, using(crate::proofs::Stays::stay_on, crate::proofs::Stays::front_in_map))]
 fn do_commands(core: &mut Core, alloc: Global, commands: &[Command]) -> Result<(), NoMemory>
     requires { has_entered 1 core.old.state ≡ true }
     ensures opened { core.new.opened ≡ core.old.opened }
     ensures asked { OnOk result (Asks core.old.history core.new.history (map command_call commands.now)) }
+    ensures front { OnErr result (AsksFront core.old.history core.new.history (map command_call commands.now)) }
     ensures stays { OnOk result (Stay core.old.state core.new.state) }
 {
     for command in commands {
-        do_command(core, alloc, command)?;
+        match do_command(core, alloc, command) {
+            Ok(()) => {}
+            Err(error) => return Err(error),
+        }
     }
     Ok(())
 }
 
 /// Pass 0 schedules the jobs, in order.
-#[tactic(auto, using(crate::proofs::Stays::stay_on))]
+#[tactic(auto, using(crate::proofs::Stays::stay_on, crate::proofs::Stays::front_in_map))]
 fn schedule(core: &mut Core, alloc: Global, jobs: &[Job]) -> Result<(), NoMemory>
     requires { has_entered 0 core.old.state ≡ true }
     ensures opened { core.new.opened ≡ core.old.opened }
     ensures asked { OnOk result (Asks core.old.history core.new.history (map schedule_call jobs.now)) }
+    ensures front { OnErr result (AsksFront core.old.history core.new.history (map schedule_call jobs.now)) }
     ensures stays { OnOk result (Stay core.old.state core.new.state) }
 {
     for job in jobs {
-        schedule_one(core, alloc, job)?;
+        match schedule_one(core, alloc, job) {
+            Ok(()) => {}
+            Err(error) => return Err(error),
+        }
     }
     Ok(())
 }
 
 /// The worker takes the job, does its commands and finishes.
-#[tactic(auto, using(crate::proofs::Stays::asks_none, crate::proofs::Stays::asks_more, crate::proofs::Stays::stay_same, crate::proofs::Stays::stay_on))]
+#[tactic(auto, using(crate::proofs::Stays::asks_none, crate::proofs::Stays::asks_more, crate::proofs::Stays::stay_same, crate::proofs::Stays::stay_on, crate::proofs::Stays::front_before, crate::proofs::Stays::front_between, crate::proofs::Stays::front_last))]
 fn do_job(core: &mut Core, alloc: Global, job: &Job) -> Result<(), NoMemory>
     requires { has_entered 1 core.old.state ≡ true }
     ensures opened { core.new.opened ≡ core.old.opened }
     ensures asked { OnOk result (Asks core.old.history core.new.history (job_calls job.now)) }
+    ensures front { OnErr result (AsksFront core.old.history core.new.history (job_calls job.now)) }
     ensures stays { OnOk result (Stay core.old.state core.new.state) }
 {
-    ask(core, alloc, 1, Event::Take)?;
-    do_commands(core, alloc, job.commands.as_slice())?;
+    match ask(core, alloc, 1, Event::Take) {
+        Ok(()) => {}
+        Err(error) => return Err(error),
+    }
+    match do_commands(core, alloc, job.commands.as_slice()) {
+        Ok(()) => {}
+        Err(error) => return Err(error),
+    }
     ask(core, alloc, 1, Event::Finish)
 }
 
 /// The worker does the jobs, one after another.
-#[tactic(auto, using(crate::proofs::Stays::stay_on))]
+#[tactic(auto, using(crate::proofs::Stays::stay_on, crate::proofs::Stays::front_in))]
 fn do_jobs(core: &mut Core, alloc: Global, jobs: &[Job]) -> Result<(), NoMemory>
     requires { has_entered 1 core.old.state ≡ true }
     ensures opened { core.new.opened ≡ core.old.opened }
     ensures asked { OnOk result (Asks core.old.history core.new.history (flat_map job_calls jobs.now)) }
+    ensures front { OnErr result (AsksFront core.old.history core.new.history (flat_map job_calls jobs.now)) }
     ensures stays { OnOk result (Stay core.old.state core.new.state) }
 {
     for job in jobs {
-        do_job(core, alloc, job)?;
+        match do_job(core, alloc, job) {
+            Ok(()) => {}
+            Err(error) => return Err(error),
+        }
     }
     Ok(())
 }
 
 /// The jobs of a phase are scheduled and then run.
-#[tactic(auto, using(crate::proofs::Stays::asks_none, crate::proofs::Stays::asks_more, crate::proofs::Stays::stay_same, crate::proofs::Stays::stay_on))]
+#[tactic(auto, using(crate::proofs::Stays::asks_none, crate::proofs::Stays::asks_more, crate::proofs::Stays::stay_same, crate::proofs::Stays::stay_on, crate::proofs::Stays::front_before, crate::proofs::Stays::front_after))]
 fn do_phase(core: &mut Core, alloc: Global, phase: &Phase) -> Result<(), NoMemory>
     requires first { has_entered 0 core.old.state ≡ true }
     requires worker { has_entered 1 core.old.state ≡ true }
     ensures opened { core.new.opened ≡ core.old.opened }
     ensures asked { OnOk result (Asks core.old.history core.new.history (phase_calls phase.now)) }
+    ensures front { OnErr result (AsksFront core.old.history core.new.history (phase_calls phase.now)) }
     ensures stays { OnOk result (Stay core.old.state core.new.state) }
 {
-    schedule(core, alloc, phase.jobs.as_slice())?;
+    match schedule(core, alloc, phase.jobs.as_slice()) {
+        Ok(()) => {}
+        Err(error) => return Err(error),
+    }
     do_jobs(core, alloc, phase.jobs.as_slice())
 }
 
 /// The phases are run, one after another.
-#[tactic(auto, using(crate::proofs::Stays::stay_on))]
+#[tactic(auto, using(crate::proofs::Stays::stay_on, crate::proofs::Stays::front_in))]
 fn do_phases(core: &mut Core, alloc: Global, phases: &[Phase]) -> Result<(), NoMemory>
     requires first { has_entered 0 core.old.state ≡ true }
     requires worker { has_entered 1 core.old.state ≡ true }
     ensures opened { core.new.opened ≡ core.old.opened }
     ensures asked { OnOk result (Asks core.old.history core.new.history (flat_map phase_calls phases.now)) }
+    ensures front { OnErr result (AsksFront core.old.history core.new.history (flat_map phase_calls phases.now)) }
     ensures stays { OnOk result (Stay core.old.state core.new.state) }
 {
     for phase in phases {
-        do_phase(core, alloc, phase)?;
+        match do_phase(core, alloc, phase) {
+            Ok(()) => {}
+            Err(error) => return Err(error),
+        }
     }
     Ok(())
 }
 
 /// A worker enters the fresh workspace.
-#[tactic(auto, using(crate::proofs::Stays::asks_one, crate::proofs::Stays::first_entered, crate::proofs::Stays::pass_0_entered))]
+#[tactic(auto, using(crate::proofs::Stays::asks_one, crate::proofs::Stays::first_entered, crate::proofs::Stays::pass_0_entered, crate::proofs::Stays::front_same))]
 fn enter(core: &mut Core, alloc: Global) -> Result<(), NoMemory>
     requires { core.old.state ≡ fresh }
     ensures opened { core.new.opened ≡ core.old.opened }
     ensures asked { OnOk result (Asks core.old.history core.new.history ((0, Event.Enter) ∷ [])) }
+    ensures front { OnErr result (AsksFront core.old.history core.new.history ((0, Event.Enter) ∷ [])) }
     ensures first { OnOk result (has_entered 0 core.new.state ≡ true) }
     ensures worker { OnOk result (has_entered 1 core.new.state ≡ true) }
 {
@@ -160,16 +196,23 @@ fn enter(core: &mut Core, alloc: Global) -> Result<(), NoMemory>
 }
 
 /// Runs the phases of a script on a fresh workspace: a worker enters, does their jobs and leaves.
-#[tactic(auto, using(crate::proofs::Stays::asks_none, crate::proofs::Stays::asks_more))]
+#[tactic(auto, using(crate::proofs::Stays::asks_none, crate::proofs::Stays::asks_more, crate::proofs::Stays::front_before, crate::proofs::Stays::front_between, crate::proofs::Stays::front_last))]
 pub fn run_phases(core: &mut Core, alloc: Global, phases: &[Phase]) -> Result<(), NoMemory>
     requires { core.old.state ≡ fresh }
     ensures opened { core.new.opened ≡ core.old.opened }
     ensures asked { OnOk result (Asks core.old.history core.new.history (calls phases.now)) }
+    ensures front { OnErr result (AsksFront core.old.history core.new.history (calls phases.now)) }
 {
     if phases.is_empty() {
         return Ok(());
     }
-    enter(core, alloc)?;
-    do_phases(core, alloc, phases)?;
+    match enter(core, alloc) {
+        Ok(()) => {}
+        Err(error) => return Err(error),
+    }
+    match do_phases(core, alloc, phases) {
+        Ok(()) => {}
+        Err(error) => return Err(error),
+    }
     ask(core, alloc, 1, Event::Leave)
 }

@@ -4,11 +4,13 @@
 //! - `words`: the forms of words that the program takes.
 //! - `reading`: a source is read to its end.
 //! - `job_run`: a script is run by one worker, event by event.
-//! - `report_text`: the text of a run.
+//! - `report_text`: the lines of a run's text.
+//! - `printing`: the report of a run is written, gathered in pieces.
 //! - `writing`: bytes are written to a sink, all of them.
 #![tactic(auto)]
 
 mod job_run;
+mod printing;
 mod program;
 mod reading;
 mod report_text;

@@ -1,18 +1,23 @@
 //! The one call of the program.
-ghost use Rattle.std.specs.Prelude.{◌≡◌, ◌≢◌, ◌↔◌, ◌⊎◌, ℕ, List, [], map, string_bytes, length, Some, None};
-ghost use Rattle.ws_core.specs.Histories.{fresh, Legal, notices, told_of};
+ghost use Rattle.std.specs.Prelude.{◌≡◌, ◌≢◌, ◌↔◌, ◌⊎◌, ◌≤◌, ◌++◌, ℕ, List, [], map, string_bytes, length, codes, decimal, true, false, Some, None, Err, IfOk, OnOk, OnErr};
+ghost use Rattle.ws_core.specs.Histories.{fresh, replay, Legal, notices, told_of};
 ghost use Rattle.ws_outside.specs.Faults.{Rose};
-ghost use Rattle.ws_outside.specs.Streams.{IsAtEnd};
+ghost use Rattle.ws_outside.specs.Streams.{IsAtEnd, Gains, GainsFront};
+ghost use Rattle.script_lang.specs.Lines.{lines_of, IsLineAhead};
+ghost use Rattle.script_lang.specs.Scripts.{IsScript};
+ghost use Rattle.script_lang.specs.declared.script.Script.{Script};
 ghost use Rattle.ws_top.specs.Forms.{form_of};
-ghost use Rattle.ws_top.specs.Limits.{Reads, ReadsShort, ReadsLong};
-ghost use Rattle.ws_top.specs.Outcomes.{IsRun, WasRead};
+ghost use Rattle.ws_top.specs.Limits.{longest, Reads, ReadsShort, ReadsLong};
+ghost use Rattle.ws_top.specs.Outcomes.{IsRun, WasRead, WasRun, WasIdle, SpellsNone, Shuffle, CutShuffle, Judges, RanAll, RanSome, IsTextBad, IsResponse, WasUnread, WritesCut, Writes};
+ghost use Rattle.ws_top.specs.Texts.{text, report_from, status_line, bad_line};
 
 use crate::NoMemory;
 use crate::job_run::run_phases;
+use crate::printing::write_report;
 use crate::reading::{Unread, read_all};
-use crate::report_text::{put_delta, put_entries, put_number, put_text};
+use crate::report_text::put_bad_line;
 use crate::words::{self, Form};
-use crate::writing::write_all;
+use crate::writing::{Unwritten, write_all};
 use bytes::Bytes;
 use script_lang::{Script, ScriptError, parse};
 use std::alloc::Global;
@@ -36,152 +41,249 @@ pub struct Outcome {
 
 /// Runs the program: reads the script from the source, runs it on a fresh workspace and writes to the sink what was
 /// asked, answered and told.
+#[tactic(auto, using(crate::proofs::Ended::status_2))]
 pub fn top<S: Source, K: Sink>(
     alloc: Global,
     words: &[String],
     source: &mut S,
     sink: &mut K,
 ) -> Outcome
+    // which status it is
     ensures usage { (result.status ≡ 2) ↔ (form_of (map string_bytes words.now) ≡ None) }
     ensures read_fault { result.status ≡ 3 → Rose (S.faults source.old) (S.faults source.new) }
-    ensures write_fault { result.status ≡ 4 → Rose (K.faults sink.old) (K.faults sink.new) }
     ensures too_long { result.status ≡ 9 → ReadsLong (S.left source.old) (S.left source.new) }
     ensures not_too_long { result.status ≢ 9 → ReadsShort (S.left source.old) (S.left source.new) }
+    ensures bad_script { IsRun (form_of (map string_bytes words.now)) → WasRead result.status → Judges (S.left source.old) (S.left source.new) result.status }
+    ensures write_fault { result.status ≡ 4 → Rose (K.faults sink.old) (K.faults sink.new) }
+    ensures complete { IsRun (form_of (map string_bytes words.now)) → (Rose (S.faults source.old) (S.faults source.new) → ⊥) → (Rose (K.faults sink.old) (K.faults sink.new) → ⊥)
+        → (bytes : List ℕ) (script : Script) → S.left source.old ≡ Some bytes → length bytes ≤ longest → IsScript bytes script
+        → (result.status ≡ 0) ⊎ (result.status ≡ 8) }
+    // what is read
     ensures bounded { (bytes : List ℕ) × Reads (S.left source.old) (S.left source.new) (S.reads source.old) (S.reads source.new) bytes }
     ensures read { IsRun (form_of (map string_bytes words.now)) → WasRead result.status → IsAtEnd (S.left source.new) }
+    // what is done
+    ensures idle { WasIdle result.status → result.history ≡ [] }
+    ensures ran { IsRun (form_of (map string_bytes words.now)) → WasRun result.status → RanAll (S.left source.old) (S.left source.new) result.history }
+    ensures cut { result.status ≡ 8 → (result.history ≡ []) ⊎ RanSome (S.left source.old) (S.left source.new) result.history }
     ensures legal { Legal fresh result.history }
     ensures told { told_of result.history ≡ notices fresh result.history }
+    // what is written
+    ensures text { IsRun (form_of (map string_bytes words.now)) → result.status ≡ 0 → Gains (K.written sink.old) (text fresh result.history 0) (K.written sink.new) }
+    ensures text_front { IsRun (form_of (map string_bytes words.now)) → result.status ≡ 4 → GainsFront (K.written sink.old) (text fresh result.history 0) (K.written sink.new) }
+    ensures text_cut { result.status ≡ 8 → WritesCut (K.written sink.old) (K.written sink.new) result.history }
+    ensures text_bad { result.status ≡ 6 → (written : List ℕ) × IsTextBad (S.left source.old) (S.left source.new) written × Writes (K.written sink.old) (K.written sink.new) (K.faults sink.old) (K.faults sink.new) written }
+    ensures text_status { WasUnread result.status → Writes (K.written sink.old) (K.written sink.new) (K.faults sink.old) (K.faults sink.new) (status_line result.status) }
 {
     match words::form_of(words) {
-        None => say(alloc, sink, 2, "status 2\n"),
-        Some(Form::Help) => say(alloc, sink, 0, HELP),
-        Some(Form::Version) => say(alloc, sink, 0, VERSION),
+        None => say(alloc, sink, 2, b"status 2\n"),
+        Some(Form::Help) => say(alloc, sink, 0, HELP.as_bytes()),
+        Some(Form::Version) => say(alloc, sink, 0, VERSION.as_bytes()),
         Some(Form::Run) => run(alloc, source, sink),
     }
 }
 
 /// Reads the script and runs it.
+#[tactic(auto, using(crate::proofs::Ended::cut_alone, crate::proofs::Ended::status_3, crate::proofs::Ended::status_9))]
 fn run<S: Source, K: Sink>(alloc: Global, source: &mut S, sink: &mut K) -> Outcome
     ensures usage { result.status ≢ 2 }
     ensures read_fault { result.status ≡ 3 → Rose (S.faults source.old) (S.faults source.new) }
-    ensures write_fault { result.status ≡ 4 → Rose (K.faults sink.old) (K.faults sink.new) }
     ensures too_long { result.status ≡ 9 → ReadsLong (S.left source.old) (S.left source.new) }
     ensures not_too_long { result.status ≢ 9 → ReadsShort (S.left source.old) (S.left source.new) }
+    ensures bad_script { WasRead result.status → Judges (S.left source.old) (S.left source.new) result.status }
+    ensures write_fault { result.status ≡ 4 → Rose (K.faults sink.old) (K.faults sink.new) }
+    ensures complete { (Rose (S.faults source.old) (S.faults source.new) → ⊥) → (Rose (K.faults sink.old) (K.faults sink.new) → ⊥)
+        → (bytes : List ℕ) (script : Script) → S.left source.old ≡ Some bytes → length bytes ≤ longest → IsScript bytes script
+        → (result.status ≡ 0) ⊎ (result.status ≡ 8) }
     ensures bounded { (bytes : List ℕ) × Reads (S.left source.old) (S.left source.new) (S.reads source.old) (S.reads source.new) bytes }
     ensures read { WasRead result.status → IsAtEnd (S.left source.new) }
+    ensures idle { WasIdle result.status → result.history ≡ [] }
+    ensures ran { WasRun result.status → RanAll (S.left source.old) (S.left source.new) result.history }
+    ensures cut { result.status ≡ 8 → (result.history ≡ []) ⊎ RanSome (S.left source.old) (S.left source.new) result.history }
     ensures legal { Legal fresh result.history }
     ensures told { told_of result.history ≡ notices fresh result.history }
+    ensures text { result.status ≡ 0 → Gains (K.written sink.old) (text fresh result.history 0) (K.written sink.new) }
+    ensures text_front { result.status ≡ 4 → GainsFront (K.written sink.old) (text fresh result.history 0) (K.written sink.new) }
+    ensures text_cut { result.status ≡ 8 → WritesCut (K.written sink.old) (K.written sink.new) result.history }
+    ensures text_bad { result.status ≡ 6 → (written : List ℕ) × IsTextBad (S.left source.old) (S.left source.new) written × Writes (K.written sink.old) (K.written sink.new) (K.faults sink.old) (K.faults sink.new) written }
+    ensures text_status { WasUnread result.status → Writes (K.written sink.old) (K.written sink.new) (K.faults sink.old) (K.faults sink.new) (status_line result.status) }
 {
     match read_all(alloc, source) {
         Ok(bytes) => respond(alloc, sink, bytes),
-        Err(Unread::Fault) => say(alloc, sink, 3, "status 3\n"),
-        Err(Unread::TooLong) => say(alloc, sink, 9, "status 9\n"),
-        Err(Unread::Memory) => say(alloc, sink, 8, "status 8\n"),
+        Err(Unread::Fault) => say(alloc, sink, 3, b"status 3\n"),
+        Err(Unread::TooLong) => say(alloc, sink, 9, b"status 9\n"),
+        Err(Unread::Memory) => say(alloc, sink, 8, b"status 8\n"),
     }
 }
 
 /// Runs the script that the bytes spell.
+#[tactic(auto, using(crate::proofs::Ended::cut_alone, crate::proofs::Ended::cut_line))]
 fn respond<K: Sink>(alloc: Global, sink: &mut K, bytes: Vec<u8>) -> Outcome
-    ensures status { (result.status ≡ 0) ⊎ (result.status ≡ 4) ⊎ (result.status ≡ 6) ⊎ (result.status ≡ 8) }
+    ensures status { IsResponse result.status }
+    ensures judged { result.status ≢ 8 → (result.status ≡ 6) ↔ SpellsNone bytes.items }
     ensures write_fault { result.status ≡ 4 → Rose (K.faults sink.old) (K.faults sink.new) }
+    ensures idle { result.status ≡ 6 → result.history ≡ [] }
+    ensures ran { WasRun result.status → (script : Script) × IsScript bytes.items script × Shuffle script result.history }
+    ensures cut { result.status ≡ 8 → (result.history ≡ []) ⊎ ((script : Script) × IsScript bytes.items script × CutShuffle script result.history) }
     ensures legal { Legal fresh result.history }
     ensures told { told_of result.history ≡ notices fresh result.history }
+    ensures text { result.status ≡ 0 → Gains (K.written sink.old) (text fresh result.history 0) (K.written sink.new) }
+    ensures text_front { result.status ≡ 4 → GainsFront (K.written sink.old) (text fresh result.history 0) (K.written sink.new) }
+    ensures text_cut { result.status ≡ 8 → WritesCut (K.written sink.old) (K.written sink.new) result.history }
+    ensures text_bad { result.status ≡ 6 → (line : ℕ) × IsLineAhead 0 (lines_of bytes.items) line × Writes (K.written sink.old) (K.written sink.new) (K.faults sink.old) (K.faults sink.new) (bad_line line) }
 {
     let Ok(text) = Bytes::from_vec(bytes) else {
-        return say(alloc, sink, 8, "status 8\n");
+        return say(alloc, sink, 8, b"status 8\n");
     };
     match parse(alloc, text) {
-        Ok(script) => perform(alloc, sink, &script),
+        Ok(script) => perform(alloc, sink, script),
         Err(ScriptError::BadLine(line)) => say_bad_line(alloc, sink, line),
-        Err(ScriptError::Memory) => say(alloc, sink, 8, "status 8\n"),
+        Err(ScriptError::Memory) => say(alloc, sink, 8, b"status 8\n"),
     }
 }
 
 /// Writes that the reading stopped at the line.
+#[tactic(auto, using(crate::proofs::Ended::front_8))]
 fn say_bad_line<K: Sink>(alloc: Global, sink: &mut K, line: u64) -> Outcome
     ensures status { (result.status ≡ 6) ⊎ (result.status ≡ 8) }
     ensures history { result.history ≡ [] }
+    ensures bad { result.status ≡ 6 → Writes (K.written sink.old) (K.written sink.new) (K.faults sink.old) (K.faults sink.new) (bad_line line) }
+    ensures cut { result.status ≡ 8 → GainsFront (K.written sink.old) (status_line 8) (K.written sink.new) }
 {
     let mut text = Vec::new(alloc);
     match put_bad_line(&mut text, alloc, line) {
-        Ok(()) => Outcome {
-            status: written(sink, 6, text.as_slice()),
-            history: History::of(Vec::new(alloc)),
-        },
-        Err(_) => say(alloc, sink, 8, "status 8\n"),
+        Ok(()) => say(alloc, sink, 6, text.as_slice()),
+        Err(_) => say(alloc, sink, 8, b"status 8\n"),
     }
-}
-
-fn put_bad_line(out: &mut Vec<u8>, alloc: Global, line: u64) -> Result<(), NoMemory> {
-    put_text(out, "status 6 line ")?;
-    put_number(out, alloc, line)?;
-    put_text(out, "\n")
 }
 
 /// Runs the script on a fresh workspace.
-fn perform<K: Sink>(alloc: Global, sink: &mut K, script: &Script) -> Outcome
-    ensures status { (result.status ≡ 0) ⊎ (result.status ≡ 4) ⊎ (result.status ≡ 8) }
+#[tactic(auto, using(crate::proofs::Ended::cut_alone, crate::proofs::Ended::cut_text))]
+fn perform<K: Sink>(alloc: Global, sink: &mut K, script: Script) -> Outcome
+    ensures status { WasRun result.status ⊎ (result.status ≡ 8) }
     ensures write_fault { result.status ≡ 4 → Rose (K.faults sink.old) (K.faults sink.new) }
+    ensures ran { WasRun result.status → Shuffle script result.history }
+    ensures cut { result.status ≡ 8 → (result.history ≡ []) ⊎ CutShuffle script result.history }
     ensures legal { Legal fresh result.history }
     ensures told { told_of result.history ≡ notices fresh result.history }
+    ensures text { result.status ≡ 0 → Gains (K.written sink.old) (text fresh result.history 0) (K.written sink.new) }
+    ensures text_front { result.status ≡ 4 → GainsFront (K.written sink.old) (text fresh result.history 0) (K.written sink.new) }
+    ensures text_cut { result.status ≡ 8 → WritesCut (K.written sink.old) (K.written sink.new) result.history }
 {
-    let Ok(mut core) = Core::fresh(alloc) else {
-        return say(alloc, sink, 8, "status 8\n");
-    };
-    match run_phases(&mut core, alloc, script.phases.as_slice()) {
-        Ok(()) => report(alloc, sink, core, 0),
-        Err(_) => report(alloc, sink, core, 8),
+    match run_script(alloc, script) {
+        Ok(
+            Performed {
+                core,
+                is_whole: true,
+            },
+        ) => report(alloc, sink, core),
+        Ok(
+            Performed {
+                core,
+                is_whole: false,
+            },
+        ) => report_cut(alloc, sink, core),
+        Err(_) => say(alloc, sink, 8, b"status 8\n"),
     }
 }
 
-/// Writes what was done, and the status.
-fn report<K: Sink>(alloc: Global, sink: &mut K, core: Core, status: u8) -> Outcome
-    requires { (status ≡ 0) ⊎ (status ≡ 8) }
-    ensures status { (result.status ≡ 0) ⊎ (result.status ≡ 4) ⊎ (result.status ≡ 8) }
+/// What running a script leaves.
+#[derive(Drop)]
+struct Performed {
+    core: Core,
+    /// Whether the script was run to its end.
+    is_whole: bool,
+}
+
+/// A fresh workspace on which the script was run, as far as memory sufficed.
+fn run_script(alloc: Global, script: Script) -> Result<Performed, NoMemory>
+    ensures opened { IfOk result (λ p. p.core.opened ≡ fresh) }
+    ensures whole { IfOk result (λ p. p.is_whole ≡ true → Shuffle script p.core.history) }
+    ensures cut { IfOk result (λ p. CutShuffle script p.core.history) }
+{
+    let mut core = Core::fresh(alloc)?;
+    let is_whole = run_phases(&mut core, alloc, script.phases.as_slice()).is_ok();
+    Ok(Performed { core, is_whole })
+}
+
+/// Writes what a whole script did.
+#[tactic(auto, using(crate::proofs::Ended::text_written, crate::proofs::Ended::text_some, crate::proofs::Ended::text_cut))]
+fn report<K: Sink>(alloc: Global, sink: &mut K, core: Core) -> Outcome
+    requires { core.opened ≡ fresh }
+    ensures status { WasRun result.status ⊎ (result.status ≡ 8) }
     ensures write_fault { result.status ≡ 4 → Rose (K.faults sink.old) (K.faults sink.new) }
+    ensures history { result.history ≡ core.history }
+    ensures legal { Legal fresh result.history }
+    ensures told { told_of result.history ≡ notices fresh result.history }
+    ensures text { result.status ≡ 0 → Gains (K.written sink.old) (text fresh core.history 0) (K.written sink.new) }
+    ensures text_front { result.status ≡ 4 → GainsFront (K.written sink.old) (text fresh core.history 0) (K.written sink.new) }
+    ensures text_cut { result.status ≡ 8 → GainsFront (K.written sink.old) (text fresh core.history 8) (K.written sink.new) }
+{
+    match write_run(sink, alloc, &core, "status 0\n") {
+        Ok(()) => ended(core, 0),
+        Err(Unwritten::Fault) => ended(core, 4),
+        Err(Unwritten::Memory) => ended(core, 8),
+    }
+}
+
+/// What a run ends with.
+fn ended(core: Core, status: u8) -> Outcome
+    ensures status { result.status ≡ status }
     ensures history { result.history ≡ core.history }
     ensures legal { Legal core.opened result.history }
     ensures told { told_of result.history ≡ notices core.opened result.history }
 {
-    let mut text = Vec::new(alloc);
-    let status = match put_report(&mut text, alloc, &core, status) {
-        Ok(()) => status,
-        Err(_) => 8,
-    };
     Outcome {
-        status: written(sink, status, text.as_slice()),
+        status,
         history: core.into_history(),
     }
 }
 
-fn put_report(out: &mut Vec<u8>, alloc: Global, core: &Core, status: u8) -> Result<(), NoMemory> {
-    put_entries(out, alloc, core.history())?;
-    put_text(out, "since start\n")?;
-    let delta = core.since_start(alloc)?;
-    put_delta(out, &delta)?;
-    put_text(out, "status ")?;
-    put_number(out, alloc, u64::from(status))?;
-    put_text(out, "\n")
+/// Writes what was done before memory ended.
+#[tactic(auto, using(crate::proofs::Ended::text_8))]
+fn report_cut<K: Sink>(alloc: Global, sink: &mut K, core: Core) -> Outcome
+    requires { core.opened ≡ fresh }
+    ensures status { result.status ≡ 8 }
+    ensures history { result.history ≡ core.history }
+    ensures legal { Legal fresh result.history }
+    ensures told { told_of result.history ≡ notices fresh result.history }
+    ensures text_cut { GainsFront (K.written sink.old) (text fresh core.history 8) (K.written sink.new) }
+{
+    let _ = write_run(sink, alloc, &core, "status 8\n");
+    ended(core, 8)
 }
 
-/// Writes a fixed text where nothing was done.
-fn say<K: Sink>(alloc: Global, sink: &mut K, status: u8, text: &str) -> Outcome
-    ensures status { (result.status ≡ status) ⊎ ((status ≡ 0) × (result.status ≡ 4) × Rose (K.faults sink.old) (K.faults sink.new)) }
-    ensures history { result.history ≡ [] }
+/// Writes what was done, what changed since the start, and then the last line.
+#[tactic(auto, using(crate::proofs::Ended::all_is_front, crate::proofs::Ended::front_part, crate::proofs::Ended::front_after, crate::proofs::Ended::whole_after))]
+fn write_run<K: Sink>(sink: &mut K, alloc: Global, core: &Core, last: &str) -> Result<(), Unwritten>
+    requires { core.now.opened ≡ fresh }
+    ensures whole { OnOk result (Gains (K.written sink.old) (report_from core.now.opened core.now.history ++ last.now) (K.written sink.new)) }
+    ensures front { GainsFront (K.written sink.old) (report_from core.now.opened core.now.history ++ last.now) (K.written sink.new) }
+    ensures memory { result ≡ Err Unwritten.Memory → GainsFront (K.written sink.old) (report_from core.now.opened core.now.history) (K.written sink.new) }
+    ensures fault { result ≡ Err Unwritten.Fault → Rose (K.faults sink.old) (K.faults sink.new) }
 {
-    Outcome {
-        status: written(sink, status, text.as_bytes()),
-        history: History::of(Vec::new(alloc)),
+    match write_report(sink, alloc, core) {
+        Ok(()) => match write_all(sink, last.as_bytes()) {
+            Ok(()) => Ok(()),
+            Err(_) => Err(Unwritten::Fault),
+        },
+        Err(error) => Err(error),
     }
 }
 
-/// The status once the bytes were written: a write that fails makes 0 a 4.
-fn written<K: Sink>(sink: &mut K, status: u8, bytes: &[u8]) -> u8
-    ensures { (result ≡ status) ⊎ ((status ≡ 0) × (result ≡ 4) × Rose (K.faults sink.old) (K.faults sink.new)) }
+/// Writes a text where nothing was done.
+fn say<K: Sink>(alloc: Global, sink: &mut K, status: u8, text: &[u8]) -> Outcome
+    ensures status { (result.status ≡ status) ⊎ ((status ≡ 0) × (result.status ≡ 4)) }
+    ensures fault { result.status ≢ status → Rose (K.faults sink.old) (K.faults sink.new) }
+    ensures history { result.history ≡ [] }
+    ensures writes { Writes (K.written sink.old) (K.written sink.new) (K.faults sink.old) (K.faults sink.new) text.now }
+    ensures front { GainsFront (K.written sink.old) text.now (K.written sink.new) }
+    ensures whole { status ≡ 0 → result.status ≡ 0 → Gains (K.written sink.old) text.now (K.written sink.new) }
 {
-    match write_all(sink, bytes) {
-        Ok(()) => status,
-        Err(_) if status == 0 => 4,
-        Err(_) => status,
+    Outcome {
+        status: match write_all(sink, text) {
+            Err(_) if status == 0 => 4,
+            _ => status,
+        },
+        history: History::of(Vec::new(alloc)),
     }
 }

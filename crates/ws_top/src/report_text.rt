@@ -1,11 +1,10 @@
-//! The text of a run: a line for each entry of its history, each notice, and what changed since the start.
-ghost use Rattle.std.specs.Prelude.{◌≡◌, ◌++◌, [], codes, decimal, OnOk, OnErr, if◌then◌else◌};
-ghost use Rattle.std.specs.Option.{option_copied};
+//! The lines of a run's text.
+ghost use Rattle.std.specs.Prelude.{◌≡◌, ◌++◌, [], codes, decimal, OnOk, if◌then◌else◌};
 ghost use Rattle.res_path.specs.Paths.{path_text};
-ghost use Rattle.ws_top.specs.Texts.{event_text, refusal_text, answer_text, sign, where_set, flag_names, node_line, delta_lines, notice_lines, entry_line, is_shown, entry_lines, history_lines};
+ghost use Rattle.ws_top.specs.Texts.{event_text, refusal_text, answer_text, sign, where_set, flag_names, node_line, entry_line, is_shown, bad_line};
 
 use crate::NoMemory;
-use delta_kind::{ADDED, CONTENT, Delta, DeltaNode, OPEN, REMOVED, REPLACED};
+use delta_kind::{ADDED, CONTENT, DeltaNode, OPEN, REMOVED, REPLACED};
 use res_path::Path;
 use std::alloc::Global;
 use ws_core::{Answer, Entry, Event, Refusal, Reply};
@@ -156,7 +155,8 @@ fn put_flags(out: &mut Vec<u8>, flags: u32) -> Result<(), NoMemory>
     put_where_set(out, flags, REPLACED, " REPLACED")
 }
 
-fn put_node(out: &mut Vec<u8>, node: &DeltaNode) -> Result<(), NoMemory>
+/// Appends the line of a node.
+pub fn put_node(out: &mut Vec<u8>, node: &DeltaNode) -> Result<(), NoMemory>
     ensures { OnOk result (out.new.items ≡ out.old.items ++ node_line node.now) }
 {
     put_path(out, "  ", &node.path)?;
@@ -165,33 +165,8 @@ fn put_node(out: &mut Vec<u8>, node: &DeltaNode) -> Result<(), NoMemory>
     put_text(out, "\n")
 }
 
-/// Appends the lines of a delta.
-pub fn put_delta(out: &mut Vec<u8>, delta: &Delta) -> Result<(), NoMemory>
-    ensures { OnOk result (out.new.items ≡ out.old.items ++ delta_lines delta.now) }
-{
-    for node in delta.nodes() {
-        put_node(out, node)?;
-    }
-    Ok(())
-}
-
-fn put_notice(out: &mut Vec<u8>, notice: Option<&Delta>) -> Result<(), NoMemory>
-    ensures { OnOk result (out.new.items ≡ out.old.items ++ notice_lines (option_copied notice.entry)) }
-{
-    match notice {
-        None => Ok(()),
-        Some(delta) => put_told(out, delta),
-    }
-}
-
-fn put_told(out: &mut Vec<u8>, delta: &Delta) -> Result<(), NoMemory>
-    ensures { OnOk result (out.new.items ≡ out.old.items ++ codes "notice\n" ++ delta_lines delta.now) }
-{
-    put_text(out, "notice\n")?;
-    put_delta(out, delta)
-}
-
-fn put_line(out: &mut Vec<u8>, alloc: Global, entry: &Entry) -> Result<(), NoMemory>
+/// Appends the line of an entry.
+pub fn put_line(out: &mut Vec<u8>, alloc: Global, entry: &Entry) -> Result<(), NoMemory>
     ensures { OnOk result (out.new.items ≡ out.old.items ++ entry_line entry.now) }
 {
     put_text(out, "p")?;
@@ -203,7 +178,8 @@ fn put_line(out: &mut Vec<u8>, alloc: Global, entry: &Entry) -> Result<(), NoMem
     put_text(out, "\n")
 }
 
-fn is_shown(event: &Event) -> bool
+/// Whether the event has a line.
+pub fn is_shown(event: &Event) -> bool
     ensures { result ≡ is_shown event.now }
 {
     match event {
@@ -220,22 +196,13 @@ fn is_shown(event: &Event) -> bool
     }
 }
 
-fn put_entry(out: &mut Vec<u8>, alloc: Global, entry: &Entry) -> Result<(), NoMemory>
-    ensures { OnOk result (out.new.items ≡ out.old.items ++ entry_lines entry.now) }
+/// Appends the line of a script that no bytes spell.
+pub fn put_bad_line(out: &mut Vec<u8>, alloc: Global, line: u64) -> Result<(), NoMemory>
+    ensures { OnOk result (out.new.items ≡ out.old.items ++ bad_line line) }
 {
-    if !is_shown(&entry.event) {
-        return Ok(());
-    }
-    put_line(out, alloc, entry)?;
-    put_notice(out, entry.reply.notice.as_ref())
-}
-
-/// Appends the lines of the entries.
-pub fn put_entries(out: &mut Vec<u8>, alloc: Global, entries: &[Entry]) -> Result<(), NoMemory>
-    ensures { OnOk result (out.new.items ≡ out.old.items ++ history_lines entries.now) }
-{
-    for entry in entries {
-        put_entry(out, alloc, entry)?;
-    }
-    Ok(())
+    put_text(out, "status ")?;
+    put_number(out, alloc, 6)?;
+    put_text(out, " line ")?;
+    put_number(out, alloc, line)?;
+    put_text(out, "\n")
 }

@@ -5,6 +5,15 @@ ghost use Rattle.ws_outside.specs.Streams.{Gains, GainsFront};
 
 use ws_outside::{Failed, Sink};
 
+/// Why a text was not written whole.
+#[derive(Clone, Copy, Debug, PartialEq, Eq)]
+pub enum Unwritten {
+    /// A write failed.
+    Fault,
+    /// Want of memory.
+    Memory,
+}
+
 /// Writes the bytes, all of them where no write fails, and else some front of them.
 pub fn write_all<K: Sink>(sink: &mut K, bytes: &[u8]) -> Result<(), Failed>
     ensures whole { OnOk result (Gains (K.written sink.old) bytes.now (K.written sink.new)) }
@@ -18,4 +27,21 @@ pub fn write_all<K: Sink>(sink: &mut K, bytes: &[u8]) -> Result<(), Failed>
         at += sink.write(rest)?;
     }
     Ok(())
+}
+
+/// Writes all that waits.
+pub fn write_waiting<K: Sink>(sink: &mut K, out: &mut Vec<u8>) -> Result<(), Failed>
+    ensures whole { OnOk result (Gains (K.written sink.old) out.old.items (K.written sink.new)) }
+    ensures empty { OnOk result (out.new.items ≡ []) }
+    ensures front { OnErr result (GainsFront (K.written sink.old) out.old.items (K.written sink.new)) }
+    ensures cause { OnErr result (Rose (K.faults sink.old) (K.faults sink.new)) }
+    ensures calm { OnOk result (K.faults sink.new ≡ K.faults sink.old) }
+{
+    match write_all(sink, out.as_slice()) {
+        Ok(()) => {
+            out.clear();
+            Ok(())
+        }
+        Err(error) => Err(error),
+    }
 }
