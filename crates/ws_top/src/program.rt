@@ -73,6 +73,11 @@ pub fn top<S: Source, K: Sink>(
     ensures text_cut { result.status ≡ 8 → WritesCut (K.written sink.old) (K.written sink.new) result.history }
     ensures text_bad { result.status ≡ 6 → (written : List ℕ) × IsTextBad (S.left source.old) (S.left source.new) written × Writes (K.written sink.old) (K.written sink.new) (K.faults sink.old) (K.faults sink.new) written }
     ensures text_status { WasUnread result.status → Writes (K.written sink.old) (K.written sink.new) (K.faults sink.old) (K.faults sink.new) (status_line result.status) }
+    // the two other forms write their text and do nothing
+    ensures text_help { form_of (map string_bytes words.now) ≡ Some Form.Help → Writes (K.written sink.old) (K.written sink.new) (K.faults sink.old) (K.faults sink.new) HELP.now }
+    ensures text_version { form_of (map string_bytes words.now) ≡ Some Form.Version → Writes (K.written sink.old) (K.written sink.new) (K.faults sink.old) (K.faults sink.new) VERSION.now }
+    ensures unread { (IsRun (form_of (map string_bytes words.now)) → ⊥) → (S.left source.new ≡ S.left source.old) × (S.faults source.new ≡ S.faults source.old) }
+    ensures undone { (IsRun (form_of (map string_bytes words.now)) → ⊥) → result.history ≡ [] }
 {
     match words::form_of(words) {
         None => say(alloc, sink, 2, b"status 2\n"),
