@@ -83,6 +83,18 @@ fn a_write_that_fails_leaves_a_front_of_the_text(rt: HostRuntime) -> Result<(), 
     Ok(())
 }
 
+#[test]
+fn bytes_that_spell_no_script_are_told_with_a_line(rt: HostRuntime) -> Result<(), Fail> {
+    let alloc = rt.alloc();
+    let mut source = source_of(alloc, "phase\njob j 30 path /\nfrob\n")?;
+    let mut sink = sink_of(alloc)?;
+    let outcome = run(alloc, &mut source, &mut sink)?;
+    assert_eq!(rt; outcome.status, 6);
+    assert!(rt; outcome.history.is_empty());
+    assert_eq!(rt; sink.written(), b"status 6 line 3\n".as_slice());
+    Ok(())
+}
+
 fn status(alloc: Global, texts: &[&str]) -> Result<u8, Fail> {
     let words = words_of(alloc, texts)?;
     let mut source = source_of(alloc, FIRST)?;
