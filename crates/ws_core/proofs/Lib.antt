@@ -2,6 +2,7 @@ pub mod Places
 pub mod Cases
 pub mod WholeKept
 pub mod Told
+pub mod Seen
 pub mod Batches
 pub mod Grown
 pub mod StampsKept

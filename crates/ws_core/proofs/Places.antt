@@ -1,5 +1,5 @@
 -- Paths and what stands above them.
-use Rattle.std.proofs.Common.{◌≡◌, ◌≢◌, ℕ, ◌≤◌, ◌<◌, Bool, true, false, cond, ◌&&◌, List, [], ◌∷◌, length, take, refl, sym, ap, ◌∙◌, subst, arith}
+use Rattle.std.proofs.Common.{◌≡◌, ◌≤◌, ◌<◌, true, false, ◌&&◌, [], ◌∷◌, length, take, refl, arith}
 use Rattle.std.specs.Str.{bytes_eq}
 use Rattle.res_path.specs.Paths.{Names, parent, is_prefix}
 

@@ -5,7 +5,8 @@ ghost use Rattle.ws_core.specs.Refusals.{refusal, is_spent};
 ghost use Rattle.std.specs.Prelude.{false};
 ghost use Rattle.std.specs.FinMap.{contains_key};
 
-use crate::{Answer, Event, NoMemory, State};
+use crate::kept::Kept;
+use crate::{Answer, Event, NoMemory};
 use bytes::Bytes;
 use res_path::{Name, Path};
 use std::alloc::Global;
@@ -14,7 +15,7 @@ use ws_elem::{Element, Kind};
 /// The description of a project that nobody described.
 const EMPTY_DESCRIPTION: &[u8] = b"{\"commands\":[],\"references\":[]}";
 
-impl State {
+impl Kept {
     /// Does an event that isn't refused.
     pub(crate) fn effect(
         &mut self,

@@ -5,7 +5,8 @@ ghost use Rattle.res_path.specs.Paths.{parent};
 ghost use Rattle.ws_core.specs.Places.{project_of, has_file, has_closed, is_shut};
 ghost use Rattle.ws_core.specs.Refusals.{refusal, first_cause, creation_causes, deletion_causes, is_spent};
 
-use crate::{Event, NoMemory, Refusal, State};
+use crate::kept::Kept;
+use crate::{Event, NoMemory, Refusal};
 use res_path::Path;
 use ws_elem::{ElemMap, Element};
 
@@ -15,7 +16,7 @@ const MAX_ELEMENTS: usize = 1_048_576;
 /// The most that a counter may be.
 const MAX_NUMBER: u64 = (1 << 63) - 1;
 
-impl State {
+impl Kept {
     /// Why the event of the pass is refused, if it is: the first cause in the order of the event's list.
     pub fn refusal(&self, pass: u64, event: &Event) -> Result<Option<Refusal>, NoMemory>
         ensures { IfOk result (λ r. r ≡ refusal self.now pass event.now) }

@@ -121,13 +121,13 @@ impl Core {
     pub fn since_start(&self, alloc: Global) -> Result<Delta, NoMemory>
         ensures { IfOk result (λ d. d ≡ delta self.now.opened.tree self.now.state.tree) }
     {
-        compare(alloc, &self.start, &self.state.tree)
+        compare(alloc, &self.start, self.state.tree())
     }
 
     /// Whether the pass has entered and hasn't left.
     pub fn has_entered(&self, pass: u64) -> bool
         ensures { result ≡ has_entered pass self.now.state }
     {
-        self.state.passes.contains(pass)
+        self.state.passes().contains(pass)
     }
 }
