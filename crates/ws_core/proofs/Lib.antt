@@ -3,6 +3,7 @@ pub mod Cases
 pub mod WholeKept
 pub mod Told
 pub mod Seen
+pub mod Made
 pub mod Batches
 pub mod Grown
 pub mod StampsKept

@@ -9,6 +9,13 @@ take_parent [] h = refl
 take_parent (n ∷ []) h = absurd (omega arith)
 take_parent (n ∷ m ∷ p) h = refl
 
+-- the project of a path of two names is its parent
+pub project_above_two : (p : Names) → length p ≡ 2 → take 1 p ≡ parent p
+project_above_two [] h = refl
+project_above_two (n ∷ []) h = absurd (omega arith)
+project_above_two (n ∷ m ∷ []) h = refl
+project_above_two (n ∷ m ∷ k ∷ p) h = absurd (omega arith)
+
 -- the parent has fewer names
 pub parent_shorter : (p : Names) → 1 ≤ length p → length (parent p) < length p
 parent_shorter [] h = absurd (omega arith)

@@ -20,16 +20,9 @@ use Rattle.ws_core.specs.Stamps.{IsDrawn, AllDrawn}
 use Rattle.ws_core.specs.Steps.{acted, act, told, tells, step}
 use Rattle.ws_core.specs.Sessions.{IsSound}
 use Rattle.ws_core.proofs.Cases.{never, if_map}
+use Rattle.ws_core.proofs.Made.{passed}
 use Rattle.ws_core.proofs.WholeKept.{HasPlace, put_whole, cut_whole}
 use Rattle.ws_core.proofs.StampsKept.{same_put, same_put_both, same_cut, same_cut_both, drawn_later, drawn_put, drawn_cut}
-
--- what is known where no cause holds
-passed : (b : Bool) (r : Refusal) (rs : List (Option Refusal)) → first_cause (when b r ∷ rs) ≡ None → (b ≡ false) × (first_cause rs ≡ None)
-passed true r rs h = absurd (some_none r h)
-  where
-    some_none : (x : Refusal) → Some x ≡ None → ⊥
-    some_none x e = cc
-passed false r rs h = (refl, h)
 
 -- the place of a creation that isn't refused
 record Place (s : State) (p : Names) : Type 0 where

@@ -48,8 +48,23 @@ impl Kept {
         }
     }
 
-    /// Does the event, or refuses it, and tells nothing. Where memory wants, nothing was done.
+    /// Does the event, or refuses it, and tells nothing. Where memory wants, nothing was done. A creation looks the
+    /// path up once.
+    #[tactic(auto, using(crate::proofs::Made::project_made, crate::proofs::Made::file_made))]
     pub fn act(&mut self, alloc: Global, pass: u64, event: &Event) -> Result<Answer, NoMemory>
+        ensures state { OnOk result (self.new ≡ (act self.old pass event.now).0) }
+        ensures answer { IfOk result (λ answer. answer ≡ (act self.old pass event.now).1) }
+        ensures err { OnErr result (self.new ≡ self.old) }
+    {
+        match event {
+            Event::CreateProject(path) if path.depth() == 1 => self.create_project(path),
+            Event::CreateFile(path, bytes) if path.depth() >= 2 => self.create_file(path, bytes),
+            _ => self.act_by_cause(alloc, pass, event),
+        }
+    }
+
+    /// Looks for a cause against the event, and does it where there is none.
+    fn act_by_cause(&mut self, alloc: Global, pass: u64, event: &Event) -> Result<Answer, NoMemory>
         ensures state { OnOk result (self.new ≡ (act self.old pass event.now).0) }
         ensures answer { IfOk result (λ answer. answer ≡ (act self.old pass event.now).1) }
         ensures err { OnErr result (self.new ≡ self.old) }
