@@ -2,6 +2,8 @@ pub mod Places
 pub mod Cases
 pub mod WholeKept
 pub mod Told
+pub mod Seen
+pub mod Made
 pub mod Batches
 pub mod Grown
 pub mod StampsKept

@@ -1,5 +1,5 @@
 -- Paths and what stands above them.
-use Rattle.std.proofs.Common.{◌≡◌, ◌≢◌, ℕ, ◌≤◌, ◌<◌, Bool, true, false, cond, ◌&&◌, List, [], ◌∷◌, length, take, refl, sym, ap, ◌∙◌, subst, arith}
+use Rattle.std.proofs.Common.{◌≡◌, ◌≤◌, ◌<◌, true, false, ◌&&◌, [], ◌∷◌, length, take, refl, arith}
 use Rattle.std.specs.Str.{bytes_eq}
 use Rattle.res_path.specs.Paths.{Names, parent, is_prefix}
 
@@ -8,6 +8,13 @@ pub take_parent : (p : Names) → 2 ≤ length p → take 1 (parent p) ≡ take 
 take_parent [] h = refl
 take_parent (n ∷ []) h = absurd (omega arith)
 take_parent (n ∷ m ∷ p) h = refl
+
+-- the project of a path of two names is its parent
+pub project_above_two : (p : Names) → length p ≡ 2 → take 1 p ≡ parent p
+project_above_two [] h = refl
+project_above_two (n ∷ []) h = absurd (omega arith)
+project_above_two (n ∷ m ∷ []) h = refl
+project_above_two (n ∷ m ∷ k ∷ p) h = absurd (omega arith)
 
 -- the parent has fewer names
 pub parent_shorter : (p : Names) → 1 ≤ length p → length (parent p) < length p

@@ -1,5 +1,5 @@
 -- An open workspace stays one.
-use Rattle.std.proofs.Common.{◌≡◌, ℕ, ◌<◌, true, List, [], ◌∷◌, ◌++◌, refl, sym, ap, ◌∙◌, subst, lit<}
+use Rattle.std.proofs.Common.{◌≡◌, ℕ, true, List, [], ◌∷◌, ◌++◌, refl, sym, ap, ◌∙◌, subst, lit<}
 use Rattle.std.specs.Prelude.{Option, Some, None, IfSome}
 use Rattle.std.specs.FinMap.{get}
 use Rattle.res_path.specs.Paths.{Names}
@@ -12,7 +12,7 @@ use Rattle.ws_core.specs.declared.event.Event.{Event}
 use Rattle.ws_core.specs.declared.history.Entry.{Entry}
 use Rattle.ws_core.specs.declared.state.State.{State}
 use Rattle.ws_core.specs.Steps.{step}
-use Rattle.ws_core.specs.Histories.{fresh, replay, has_entered, Legal, notices, told_of}
+use Rattle.ws_core.specs.Histories.{fresh, has_entered, notices, told_of}
 use Rattle.ws_core.specs.Stamps.{SameContents, IsDrawn, AllDrawn}
 use Rattle.ws_core.specs.Sessions.{Session, IsSession}
 use Rattle.ws_core.proofs.Told.{told_notices}

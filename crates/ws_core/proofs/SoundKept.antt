@@ -1,36 +1,28 @@
 -- Each step keeps whole trees, and equal stamps for equal contents.
-use Rattle.std.proofs.Common.{◌≡◌, ◌≢◌, ◌↔◌, ℕ, ◌+◌, ◌<◌, ◌≤◌, ◌==◌, nat_lt, Bool, true, false, not, ◌||◌, List, [], ◌∷◌, length, refl, sym, ap, ◌∙◌, subst, arith}
+use Rattle.std.proofs.Common.{◌≡◌, ◌≢◌, ℕ, ◌+◌, ◌<◌, ◌≤◌, ◌==◌, nat_lt, Bool, true, false, not, List, [], ◌∷◌, length, refl, sym, ap, ◌∙◌, arith}
 use Rattle.std.specs.Prelude.{Option, Some, None, IfSome, IsSomeAnd, is_some}
-use Rattle.std.specs.FinMap.{get, insert, contains_key}
+use Rattle.std.specs.FinMap.{get, contains_key}
 use Rattle.std.proofs.lemmas.Bool.Decides.{nat_tests}
 use Rattle.res_path.specs.Paths.{Names, parent}
 use Rattle.ws_elem.specs.Kinds.{is_file}
-use Rattle.ws_elem.specs.Trees.{Tree, Whole, without}
 use Rattle.ws_elem.specs.declared.element.Element.{Element}
-use Rattle.ws_elem.specs.declared.kind.Kind.TheVariants.{File, Project, Root}
+use Rattle.ws_elem.specs.declared.kind.Kind.TheVariants.{File}
 use Rattle.ws_core.specs.declared.event.Event.{Event}
 use Rattle.ws_core.specs.declared.event.Event.TheVariants.{Enter, Leave, Schedule, Take, Finish, Batch, EndBatch, Checkpoint, CreateProject, CreateFile, Delete}
 use Rattle.ws_core.specs.declared.reply.Answer.{Answer}
 use Rattle.ws_core.specs.declared.reply.Refusal.{Refusal}
-use Rattle.ws_core.specs.declared.reply.Refusal.TheVariants.{NotFound, Exists, NotContainer, WrongKind, ProjectClosed, TreeFull, NumbersUsed}
+use Rattle.ws_core.specs.declared.reply.Refusal.TheVariants.{NotFound, Exists, NotContainer, WrongKind, ProjectClosed}
 use Rattle.ws_core.specs.declared.state.State.{State}
-use Rattle.ws_core.specs.Places.{has_file, is_shut, is_in_shut}
-use Rattle.ws_core.specs.Refusals.{when, first_cause, creation_causes, deletion_causes, causes, refusal, is_spent, is_full}
+use Rattle.ws_core.specs.Places.{has_file, is_shut}
+use Rattle.ws_core.specs.Refusals.{when, first_cause, creation_causes, refusal}
 use Rattle.ws_core.specs.Effects.{effect, create, delete, new_project, new_file}
-use Rattle.ws_core.specs.Stamps.{SameContents, IsDrawn, AllDrawn, Stamped}
+use Rattle.ws_core.specs.Stamps.{IsDrawn, AllDrawn}
 use Rattle.ws_core.specs.Steps.{acted, act, told, tells, step}
 use Rattle.ws_core.specs.Sessions.{IsSound}
 use Rattle.ws_core.proofs.Cases.{never, if_map}
+use Rattle.ws_core.proofs.Made.{passed}
 use Rattle.ws_core.proofs.WholeKept.{HasPlace, put_whole, cut_whole}
 use Rattle.ws_core.proofs.StampsKept.{same_put, same_put_both, same_cut, same_cut_both, drawn_later, drawn_put, drawn_cut}
-
--- what is known where no cause holds
-passed : (b : Bool) (r : Refusal) (rs : List (Option Refusal)) → first_cause (when b r ∷ rs) ≡ None → (b ≡ false) × (first_cause rs ≡ None)
-passed true r rs h = absurd (some_none r h)
-  where
-    some_none : (x : Refusal) → Some x ≡ None → ⊥
-    some_none x e = cc
-passed false r rs h = (refl, h)
 
 -- the place of a creation that isn't refused
 record Place (s : State) (p : Names) : Type 0 where

@@ -1,10 +1,9 @@
 -- What the replies of a history tell, and what its notices are.
-use Rattle.std.proofs.Common.{◌≡◌, ℕ, Bool, true, false, not, ◌&&◌, ◌||◌, cond, List, [], ◌∷◌, ◌++◌, map, refl, sym, ap, ◌∙◌, subst}
+use Rattle.std.proofs.Common.{◌≡◌, ℕ, Bool, true, false, List, [], ◌∷◌, ◌++◌, map, refl, sym, ap, ◌∙◌}
 use Rattle.std.specs.Prelude.{Option, Some, None, if◌then◌else◌}
 use Rattle.std.specs.Option.{option_to_list}
 use Rattle.ws_elem.specs.Trees.{Tree}
 use Rattle.delta_kind.specs.Deltas.{delta}
-use Rattle.delta_kind.specs.declared.node.DeltaNode.{DeltaNode}
 use Rattle.ws_core.specs.declared.event.Event.{Event}
 use Rattle.ws_core.specs.declared.event.Event.TheVariants.{Enter, Leave, Schedule, Take, Finish, Batch, EndBatch, Checkpoint, CreateProject, CreateFile, Delete}
 use Rattle.ws_core.specs.declared.history.Entry.{Entry}
@@ -14,7 +13,7 @@ use Rattle.ws_core.specs.declared.reply.Reply.{Reply}
 use Rattle.ws_core.specs.declared.state.State.{State}
 use Rattle.ws_core.specs.Effects.{effect}
 use Rattle.ws_core.specs.Refusals.{refusal}
-use Rattle.ws_core.specs.Steps.{acted, act, tells, told, notice, step}
+use Rattle.ws_core.specs.Steps.{acted, act, tells, told, notice}
 use Rattle.ws_core.specs.Histories.{after, replies, Legal, unless_empty, notices_from, notices, told_of}
 
 -- no event by itself tells anything

@@ -10,7 +10,8 @@ use Rattle.ws_elem.specs.declared.kind.Kind.TheVariants.{File, Project}
 use Rattle.ws_core.specs.declared.event.Event.{Event}
 use Rattle.ws_core.specs.declared.event.Event.TheVariants.{Enter, Leave, Schedule, Take, Finish, Batch, EndBatch, Checkpoint, CreateProject, CreateFile, Delete}
 use Rattle.ws_core.specs.declared.reply.Answer.{Answer}
-use Rattle.ws_core.specs.declared.reply.Answer.TheVariants.{Done, Id, None, Job}
+use Rattle.ws_core.specs.declared.reply.Answer.TheVariants.{Done, Id, None, Job, Refused}
+use Rattle.ws_core.specs.declared.reply.Refusal.{Refusal}
 use Rattle.ws_core.specs.declared.state.State.{State}
 use Rattle.ws_core.specs.Numbers.{without_number, without_newest}
 
@@ -62,6 +63,11 @@ new_file s bytes = record (bare File s.next_node) { stamp = s.next_stamp; bytes 
 -- the element stands at p, and its numbers are drawn
 abbrev pub create : State → Names → Element → State
 create s p e = record s { tree = insert s.tree p e; next_node = s.next_node + 1; next_stamp = s.next_stamp + 1 }
+
+-- the element stands at p, or why it does not
+abbrev pub created : Option Refusal → State → Names → Element → State × Answer
+created nothing s p e = (create s p e, Done)
+created (Some r) s p e = (s, Refused r)
 
 -- p and all below it are gone
 abbrev pub delete : State → Names → State

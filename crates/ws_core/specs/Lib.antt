@@ -1,3 +1,4 @@
+pub mod States
 pub mod Numbers
 pub mod Places
 pub mod Refusals

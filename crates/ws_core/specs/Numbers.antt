@@ -1,5 +1,5 @@
 -- Lists of numbers of passes.
-use Rattle.std.specs.Prelude.{ℕ, Bool, not, ◌==◌, nat_eq, List, [], reverse, Option, Some, None}
+use Rattle.std.specs.Prelude.{ℕ, Bool, not, ◌==◌, List, reverse, Option, Some, None}
 use Rattle.std.specs.List.{list_any, filter, position, remove}
 
 -- k is among the numbers

@@ -1,5 +1,5 @@
 -- What stands at a path and around it.
-use Rattle.std.specs.Prelude.{ℕ, Bool, false, not, ◌&&◌, nat_le, length, take, Option, Some, None}
+use Rattle.std.specs.Prelude.{Bool, false, not, ◌&&◌, nat_le, length, take, Option, Some, None}
 use Rattle.std.specs.FinMap.{get}
 use Rattle.res_path.specs.Paths.{Names}
 use Rattle.ws_elem.specs.Kinds.{is_file, is_project}

@@ -50,6 +50,18 @@ creation_causes s p =
     ∷ when (is_spent s.next_node || is_spent s.next_stamp) NumbersUsed
     ∷ []
 
+-- why nothing can be created at p, whatever is there
+abbrev pub place_causes : State → Names → List (Option Refusal)
+place_causes s p =
+    when (is_shut s.tree p) (ProjectClosed p)
+    ∷ when (not (contains_key s.tree (parent p))) (NotFound (parent p))
+    ∷ when (has_file (get s.tree (parent p))) (NotContainer (parent p))
+    ∷ []
+
+-- why nothing can be created anywhere
+abbrev pub room_causes : State → List (Option Refusal)
+room_causes s = when (is_full s) TreeFull ∷ when (is_spent s.next_node || is_spent s.next_stamp) NumbersUsed ∷ []
+
 -- why nothing can be deleted at p
 abbrev pub deletion_causes : State → Names → List (Option Refusal)
 deletion_causes s p =

@@ -4,6 +4,7 @@
 //! - `reply`: a `Reply`, what it is answered: an `Answer`, maybe a `Refusal`, and the notice.
 //! - `history`: an `Entry`, one event with its reply, and a `History`, entries in order.
 //! - `numbers`: `Numbers`, passes by their numbers.
+//! - `kept`: what a state keeps, and what an event does to it before anything is told.
 //! - `state`: a `State`, and its `step`.
 //! - `refusals`: why an event is refused.
 //! - `effects`: what an event does that isn't refused.
@@ -13,6 +14,7 @@
 mod effects;
 mod event;
 mod history;
+mod kept;
 mod numbers;
 mod refusals;
 mod reply;

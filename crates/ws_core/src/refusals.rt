@@ -1,11 +1,13 @@
 //! Why an event is refused.
 ghost use Rattle.std.specs.Prelude.{◌≡◌, IfOk};
+ghost use Rattle.std.specs.FinMap.{get};
 ghost use Rattle.std.specs.Option.{option_copied};
 ghost use Rattle.res_path.specs.Paths.{parent};
 ghost use Rattle.ws_core.specs.Places.{project_of, has_file, has_closed, is_shut};
-ghost use Rattle.ws_core.specs.Refusals.{refusal, first_cause, creation_causes, deletion_causes, is_spent};
+ghost use Rattle.ws_core.specs.Refusals.{refusal, first_cause, creation_causes, deletion_causes, place_causes, room_causes, is_spent};
 
-use crate::{Event, NoMemory, Refusal, State};
+use crate::kept::Kept;
+use crate::{Event, NoMemory, Refusal};
 use res_path::Path;
 use ws_elem::{ElemMap, Element};
 
@@ -15,7 +17,7 @@ const MAX_ELEMENTS: usize = 1_048_576;
 /// The most that a counter may be.
 const MAX_NUMBER: u64 = (1 << 63) - 1;
 
-impl State {
+impl Kept {
     /// Why the event of the pass is refused, if it is: the first cause in the order of the event's list.
     pub fn refusal(&self, pass: u64, event: &Event) -> Result<Option<Refusal>, NoMemory>
         ensures { IfOk result (λ r. r ≡ refusal self.now pass event.now) }
@@ -40,29 +42,48 @@ impl State {
     }
 
     /// Why nothing can be created at the path, its kind aside.
+    #[tactic(auto, using(crate::proofs::Made::taken, crate::proofs::Made::free))]
     fn creation_refusal(&self, path: &Path) -> Result<Option<Refusal>, NoMemory>
         ensures { IfOk result (λ r. r ≡ first_cause (creation_causes self.now path.now)) }
     {
-        if is_shut(&self.tree, path)? {
-            return Ok(Some(Refusal::ProjectClosed(path.copy()?)));
-        }
-        let parent = parent_of(path)?;
-        if !self.tree.contains(&parent) {
-            return Ok(Some(Refusal::NotFound(parent)));
-        }
-        if has_file(self.tree.get(&parent)) {
-            return Ok(Some(Refusal::NotContainer(parent)));
+        if let Some(refusal) = self.place_refusal(path)? {
+            return Ok(Some(refusal));
         }
         if self.tree.contains(path) {
             return Ok(Some(Refusal::Exists(path.copy()?)));
         }
-        if self.tree.len() >= MAX_ELEMENTS {
-            return Ok(Some(Refusal::TreeFull));
+        Ok(self.room_refusal())
+    }
+
+    /// Why nothing can be created at the path, whatever is there.
+    pub fn place_refusal(&self, path: &Path) -> Result<Option<Refusal>, NoMemory>
+        ensures { IfOk result (λ r. r ≡ first_cause (place_causes self.now path.now)) }
+    {
+        let parent = parent_of(path)?;
+        let above = self.tree.get(&parent);
+        if is_shut_below(&self.tree, path, above)? {
+            return Ok(Some(Refusal::ProjectClosed(path.copy()?)));
         }
-        if is_spent(self.next_node) || is_spent(self.next_stamp) {
-            return Ok(Some(Refusal::NumbersUsed));
+        if above.is_none() {
+            return Ok(Some(Refusal::NotFound(parent)));
+        }
+        if has_file(above) {
+            return Ok(Some(Refusal::NotContainer(parent)));
         }
         Ok(None)
+    }
+
+    /// Why nothing can be created at any path.
+    pub fn room_refusal(&self) -> Option<Refusal>
+        ensures { result ≡ first_cause (room_causes self.now) }
+    {
+        if self.tree.len() >= MAX_ELEMENTS {
+            return Some(Refusal::TreeFull);
+        }
+        if is_spent(self.next_node) || is_spent(self.next_stamp) {
+            return Some(Refusal::NumbersUsed);
+        }
+        None
     }
 
     /// Why nothing can be deleted at the path.
@@ -111,6 +132,18 @@ fn has_closed(element: Option<&Element>) -> bool
         None => false,
         Some(element) => element.kind.is_project() && !element.opened,
     }
+}
+
+/// Whether the path is a closed project or has the path of a member of one, where it is known what stands above it.
+#[tactic(auto, using(crate::proofs::Places::project_above_two))]
+fn is_shut_below(tree: &ElemMap, path: &Path, above: Option<&Element>) -> Result<bool, NoMemory>
+    requires { option_copied above ≡ get tree.now (parent path.now) }
+    ensures { IfOk result (λ b. b ≡ is_shut tree.now path.now) }
+{
+    if path.depth() == 2 {
+        return Ok(has_closed(above));
+    }
+    is_shut(tree, path)
 }
 
 /// Whether the path is a closed project or has the path of a member of one.

@@ -122,13 +122,13 @@ impl Core {
         ensures changed { IfOk result (λ d. d ≡ delta self.now.opened.tree self.now.state.tree) }
         ensures replayed { IfOk result (λ d. d ≡ delta self.now.opened.tree (replay self.now.opened self.now.history).tree) }
     {
-        compare(alloc, &self.start, &self.state.tree)
+        compare(alloc, &self.start, self.state.tree())
     }
 
     /// Whether the pass has entered and hasn't left.
     pub fn has_entered(&self, pass: u64) -> bool
         ensures { result ≡ has_entered pass self.now.state }
     {
-        self.state.passes.contains(pass)
+        self.state.passes().contains(pass)
     }
 }

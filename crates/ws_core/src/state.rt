@@ -1,32 +1,42 @@
 //! The state of a workspace, and one step of it.
-ghost use Rattle.std.specs.Prelude.{◌≡◌, IfOk, OnOk, OnErr, true, false};
-ghost use Rattle.ws_core.specs.Steps.{act, step, tells, notice, some_nodes, is_operation};
+ghost use Rattle.std.specs.Prelude.{◌≡◌, IfOk, OnOk, OnErr, true, false, if◌then◌else◌, None as nothing};
+ghost use Rattle.std.specs.Option.{option_copied};
+ghost use Rattle.delta_kind.specs.Deltas.{delta};
+ghost use Rattle.ws_core.specs.Refusals.{refusal};
+ghost use Rattle.ws_core.specs.Steps.{act, step, tells, told, notice, some_nodes, is_operation};
 ghost use Rattle.ws_core.specs.Histories.{fresh};
 
-use crate::{Answer, Event, NoMemory, Numbers, Reply};
+use crate::kept::Kept;
+use crate::{Answer, Event, NoMemory, Numbers, Refusal, Reply};
 use delta_kind::{Delta, compare};
 use res_path::Name;
 use std::alloc::Global;
+use std::marker::Model;
 use ws_elem::ElemMap;
 
-/// The state of a workspace.
-#[derive(Clone, Debug, Drop)]
+/// The state of a workspace. A contract sees the record of its tree, the tree as it was last told, the counters that
+/// new resources, contents and passes are numbered from, the passes that have entered, those of the open batches, and
+/// the job that waits.
+///
+/// The told tree is kept only from the first change after a telling place to the next one.
+#[derive(Debug, Drop)]
 pub struct State {
-    pub tree: ElemMap,
-    /// The tree as it was last told.
-    pub told: ElemMap,
-    /// The number that the next new resource gets.
-    pub next_node: u64,
-    /// The number that the next new contents or description gets.
-    pub next_stamp: u64,
-    /// The number that the next new pass gets.
-    pub next_pass: u64,
-    /// The passes that have entered and haven't left.
-    pub passes: Numbers,
-    /// The pass of each open batch, the newest last.
-    pub batches: Numbers,
-    /// The job that waits to be run.
-    pub waiting: Option<Name>,
+    pub(crate) kept: Kept,
+    // Whether the tree is as it was last told. What is kept as the told tree is then nothing.
+    unchanged: bool,
+}
+
+impl Model for State {
+    ghost use Rattle.ws_core.specs.declared.kept.Kept.{Kept};
+    ghost use Rattle.ws_core.specs.contracts.kept.Kept as of_kept;
+
+    ghost Value = { Kept };
+
+    ghost coded = { of_kept.the_row.coded };
+
+    ghost use Rattle.ws_core.specs.States.{seen};
+
+    ghost view = { λ s. seen s.unchanged s.kept };
 }
 
 impl State {
@@ -37,15 +47,84 @@ impl State {
         let mut passes = Numbers::empty(alloc);
         passes.push(0)?;
         Ok(State {
-            tree: ElemMap::fresh(alloc)?,
-            told: ElemMap::fresh(alloc)?,
-            next_node: 2,
-            next_stamp: 1,
-            next_pass: 1,
-            passes,
-            batches: Numbers::empty(alloc),
-            waiting: None,
+            kept: Kept {
+                tree: ElemMap::fresh(alloc)?,
+                told: ElemMap::empty(alloc),
+                next_node: 2,
+                next_stamp: 1,
+                next_pass: 1,
+                passes,
+                batches: Numbers::empty(alloc),
+                waiting: None,
+            },
+            unchanged: true,
         })
+    }
+
+    /// The tree.
+    pub fn tree(&self) -> &ElemMap
+        ensures { result.now ≡ self.now.tree }
+    {
+        &self.kept.tree
+    }
+
+    /// The tree as it was last told.
+    pub fn told(&self) -> &ElemMap
+        ensures { result.now ≡ self.now.told }
+    {
+        if self.unchanged {
+            return &self.kept.tree;
+        }
+        &self.kept.told
+    }
+
+    /// The number that the next new resource gets.
+    pub fn next_node(&self) -> u64
+        ensures { result ≡ self.now.next_node }
+    {
+        self.kept.next_node
+    }
+
+    /// The number that the next new contents or description gets.
+    pub fn next_stamp(&self) -> u64
+        ensures { result ≡ self.now.next_stamp }
+    {
+        self.kept.next_stamp
+    }
+
+    /// The number that the next new pass gets.
+    pub fn next_pass(&self) -> u64
+        ensures { result ≡ self.now.next_pass }
+    {
+        self.kept.next_pass
+    }
+
+    /// The passes that have entered and haven't left.
+    pub fn passes(&self) -> &Numbers
+        ensures { result.now ≡ self.now.passes }
+    {
+        &self.kept.passes
+    }
+
+    /// The pass of each open batch, the newest last.
+    pub fn batches(&self) -> &Numbers
+        ensures { result.now ≡ self.now.batches }
+    {
+        &self.kept.batches
+    }
+
+    /// The job that waits to be run.
+    pub fn waiting(&self) -> Option<&Name>
+        ensures { option_copied result ≡ self.now.waiting }
+    {
+        self.kept.waiting.as_ref()
+    }
+
+    /// Why the event of the pass is refused, if it is: the first cause in the order of the event's list.
+    pub fn refusal(&self, pass: u64, event: &Event) -> Result<Option<Refusal>, NoMemory>
+        ensures { IfOk result (λ r. r ≡ refusal self.now pass event.now) }
+    {
+        self.kept.refusal(pass, event)
     }
 
     /// Does the event of the pass, and tells what changed where it is a telling place: each checkpoint, and each other
@@ -53,7 +132,8 @@ impl State {
     /// wants, the state stays as it was.
     ///
     /// Within a batch an operation costs a few comparisons of paths, in the logarithm of the tree's size, and a
-    /// deletion also what it takes out. At a telling place the told tree and the tree are walked.
+    /// deletion also what it takes out; the first one after a telling place copies the tree as well. At a telling place
+    /// the told tree and the tree are walked, where the tree changed since the one before.
     pub fn step(&mut self, alloc: Global, pass: u64, event: &Event) -> Result<Reply, NoMemory>
         ensures state { OnOk result (self.new ≡ (step self.old pass event.now).0) }
         ensures reply { IfOk result (λ reply. reply ≡ (step self.old pass event.now).1) }
@@ -72,20 +152,7 @@ impl State {
     fn will_tell(&self, pass: u64, event: &Event) -> bool
         ensures { result ≡ tells event.now (act self.now pass event.now).0 }
     {
-        match event {
-            Event::Checkpoint => true,
-            Event::Batch => false,
-            Event::Finish => self.batches.has_no_other(pass),
-            Event::EndBatch if self.batches.contains(pass) => self.batches.len() == 1,
-            Event::EndBatch
-            | Event::Enter
-            | Event::Leave
-            | Event::Schedule(_, _)
-            | Event::Take
-            | Event::CreateProject(_)
-            | Event::CreateFile(_, _)
-            | Event::Delete(_) => self.batches.is_empty(),
-        }
+        self.kept.will_tell(pass, event)
     }
 
     /// Does an event that isn't a telling place.
@@ -102,24 +169,23 @@ impl State {
         })
     }
 
-    /// Does an operation that is a telling place, on a copy of the state, and tells.
+    /// Does an operation that is a telling place, and tells.
     fn operate_and_tell(
         &mut self,
         alloc: Global,
         pass: u64,
         event: &Event,
     ) -> Result<Reply, NoMemory>
-        requires { tells event.now (act self.old pass event.now).0 ≡ true }
+        requires tells { tells event.now (act self.old pass event.now).0 ≡ true }
+        requires operation { is_operation event.now ≡ true }
         ensures state { OnOk result (self.new ≡ (step self.old pass event.now).0) }
         ensures reply { IfOk result (λ reply. reply ≡ (step self.old pass event.now).1) }
         ensures err { OnErr result (self.new ≡ self.old) }
     {
-        let mut next = self.copy()?;
-        let answer = next.act(alloc, pass, event)?;
-        let notice = next.notice(alloc)?;
-        next.told = next.tree.copy()?;
-        *self = next;
-        Ok(Reply { answer, notice })
+        match self.refusal(pass, event)? {
+            None => self.change_and_tell(alloc, pass, event),
+            Some(refusal) => self.tell(alloc, Answer::Refused(refusal)),
+        }
     }
 
     /// Does an event that is a telling place and changes no tree. What it tells is made before.
@@ -131,9 +197,51 @@ impl State {
         ensures err { OnErr result (self.new ≡ self.old) }
     {
         let notice = self.notice(alloc)?;
-        let told = self.tree.copy()?;
         let answer = self.act(alloc, pass, event)?;
-        self.told = told;
+        self.settle(alloc);
+        Ok(Reply { answer, notice })
+    }
+
+    /// Does an operation that isn't refused, and tells. The tree is copied before, and put back where memory wants.
+    fn change_and_tell(
+        &mut self,
+        alloc: Global,
+        pass: u64,
+        event: &Event,
+    ) -> Result<Reply, NoMemory>
+        requires tells { tells event.now (act self.old pass event.now).0 ≡ true }
+        requires operation { is_operation event.now ≡ true }
+        requires allowed { refusal self.old pass event.now ≡ nothing }
+        ensures state { OnOk result (self.new ≡ (step self.old pass event.now).0) }
+        ensures reply { IfOk result (λ reply. reply ≡ (step self.old pass event.now).1) }
+        ensures err { OnErr result (self.new ≡ self.old) }
+    {
+        let before = self.kept.tree.copy()?;
+        let node = self.kept.next_node;
+        let stamp = self.kept.next_stamp;
+        let answer = self.kept.effect(alloc, pass, event)?;
+        let told = told_tree(self.unchanged, &before, &self.kept.told);
+        match notice_between(alloc, told, &self.kept.tree) {
+            Ok(notice) => {
+                self.settle(alloc);
+                Ok(Reply { answer, notice })
+            }
+            Err(error) => {
+                drop(answer);
+                self.kept.put_back(before, node, stamp);
+                Err(error)
+            }
+        }
+    }
+
+    /// Tells what changed, with the answer to an event that changes nothing.
+    fn tell(&mut self, alloc: Global, answer: Answer) -> Result<Reply, NoMemory>
+        ensures state { OnOk result (self.new ≡ (told true self.old answer).0) }
+        ensures reply { IfOk result (λ reply. reply ≡ (told true self.old answer).1) }
+        ensures err { OnErr result (self.new ≡ self.old) }
+    {
+        let notice = self.notice(alloc)?;
+        self.settle(alloc);
         Ok(Reply { answer, notice })
     }
 
@@ -143,18 +251,53 @@ impl State {
         ensures answer { IfOk result (λ answer. answer ≡ (act self.old pass event.now).1) }
         ensures err { OnErr result (self.new ≡ self.old) }
     {
-        match self.refusal(pass, event)? {
-            None => self.effect(alloc, pass, event),
-            Some(refusal) => Ok(Answer::Refused(refusal)),
+        if event.is_operation() {
+            self.operate(alloc, pass, event)
+        } else {
+            self.arrange(alloc, pass, event)
         }
+    }
+
+    /// Does an operation, or refuses it, and tells nothing. The first one after a telling place keeps the told tree.
+    fn operate(&mut self, alloc: Global, pass: u64, event: &Event) -> Result<Answer, NoMemory>
+        ensures state { OnOk result (self.new ≡ (act self.old pass event.now).0) }
+        ensures answer { IfOk result (λ answer. answer ≡ (act self.old pass event.now).1) }
+        ensures err { OnErr result (self.new ≡ self.old) }
+    {
+        if !self.unchanged {
+            return Ok(self.kept.act(alloc, pass, event)?);
+        }
+        self.kept.told = self.kept.tree.copy()?;
+        self.unchanged = false;
+        Ok(self.kept.act(alloc, pass, event)?)
+    }
+
+    /// Does an event that changes no tree, or refuses it, and tells nothing.
+    fn arrange(&mut self, alloc: Global, pass: u64, event: &Event) -> Result<Answer, NoMemory>
+        requires { is_operation event.now ≡ false }
+        ensures state { OnOk result (self.new ≡ (act self.old pass event.now).0) }
+        ensures answer { IfOk result (λ answer. answer ≡ (act self.old pass event.now).1) }
+        ensures err { OnErr result (self.new ≡ self.old) }
+    {
+        Ok(self.kept.act(alloc, pass, event)?)
     }
 
     /// What changed since the tree was last told, where anything did.
     fn notice(&self, alloc: Global) -> Result<Option<Delta>, NoMemory>
         ensures { IfOk result (λ n. n ≡ notice self.now) }
     {
-        let delta = compare(alloc, &self.told, &self.tree)?;
-        Ok(unless_empty(delta))
+        if self.unchanged {
+            return Ok(None);
+        }
+        notice_between(alloc, &self.kept.told, &self.kept.tree)
+    }
+
+    /// The tree is told as it is.
+    fn settle(&mut self, alloc: Global)
+        ensures { self.new ≡ record self.old { told = self.old.tree } }
+    {
+        self.kept.told = ElemMap::empty(alloc);
+        self.unchanged = true;
     }
 
     /// An equal state, whose elements share their texts.
@@ -163,6 +306,39 @@ impl State {
     {
         self.clone()
     }
+}
+
+impl Clone for State {
+    ghost use Rattle.std.specs.Prelude.{◌≡◌};
+
+    ghost is_clone = { λ state copy. copy ≡ state };
+
+    fn clone(&self) -> Result<State, NoMemory> {
+        let kept = self.kept.clone()?;
+        Ok(State {
+            kept,
+            unchanged: self.unchanged,
+        })
+    }
+}
+
+/// The tree as it was last told: the one before the change, where nothing changed since the telling.
+fn told_tree<'a>(unchanged: bool, before: &'a ElemMap, told: &'a ElemMap) -> &'a ElemMap
+    ensures { result.now ≡ (if unchanged then before.now else told.now) }
+{
+    if unchanged { before } else { told }
+}
+
+/// What changed from one tree to another, where anything did.
+fn notice_between(
+    alloc: Global,
+    before: &ElemMap,
+    after: &ElemMap,
+) -> Result<Option<Delta>, NoMemory>
+    ensures { IfOk result (λ n. n ≡ some_nodes (delta before.now after.now)) }
+{
+    let delta = compare(alloc, before, after)?;
+    Ok(unless_empty(delta))
 }
 
 /// The delta, where it tells anything.

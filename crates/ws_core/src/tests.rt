@@ -1,270 +1,289 @@
 //! The workspace's rules, by examples worked by hand.
-use crate::{Answer, Core, Event, Refusal, State};
+use crate::{Answer, Core, Event, Refusal, Reply, State};
 use bytes::Bytes;
-use delta_kind::{ADDED, CHANGED, CONTENT, DeltaNode, OPEN, REPLACED};
+use delta_kind::DeltaNode;
 use res_path::{Name, Path};
 use std::alloc::Global;
+use std::process::Abort;
 use std::test::Fail;
 use ws_elem::{Element, Kind};
 
-fn path(alloc: Global, text: &str) -> Result<Path, Fail> {
-    Ok(Path::parse(alloc, text)?)
-}
+/// An event by its word and its path or name, and what it is to be answered and to tell.
+type Case = (&'static str, &'static str, &'static str);
 
-fn file(alloc: Global, text: &str) -> Result<Event, Fail> {
-    Ok(Event::CreateFile(path(alloc, text)?, Bytes::copy_from_slice(alloc, b"hi")?))
-}
+/// A batch that has made /P and /P/a and deleted /P/a, of which nothing is told.
+const UNTOLD: [Case; 4] = [
+    ("batch", "", "done"),
+    ("project", "/P", "done"),
+    ("file", "/P/a", "done"),
+    ("delete", "/P/a", "done"),
+];
 
-fn project(alloc: Global, text: &str) -> Result<Event, Fail> {
-    Ok(Event::CreateProject(path(alloc, text)?))
-}
+/// A workspace with a project /P and a file /P/a, both told.
+const SET_UP: [Case; 4] = [
+    ("batch", "", "done"),
+    ("project", "/P", "done"),
+    ("file", "/P/a", "done"),
+    ("endbatch", "", "done; / 4 0; /P 1 16384; /P/a 1 0"),
+];
 
-fn delete(alloc: Global, text: &str) -> Result<Event, Fail> {
-    Ok(Event::Delete(path(alloc, text)?))
-}
-
-fn node(alloc: Global, text: &str, kind: u8, flags: u32) -> Result<DeltaNode, Fail> {
-    Ok(DeltaNode {
-        path: path(alloc, text)?,
-        kind,
-        flags,
+fn event(alloc: Global, word: &str, text: &str) -> Result<Event, Fail> {
+    Ok(match word {
+        "enter" => Event::Enter,
+        "leave" => Event::Leave,
+        "schedule" => Event::Schedule(Name::parse(alloc, text)?, 30),
+        "take" => Event::Take,
+        "finish" => Event::Finish,
+        "batch" => Event::Batch,
+        "endbatch" => Event::EndBatch,
+        "checkpoint" => Event::Checkpoint,
+        "project" => Event::CreateProject(Path::parse(alloc, text)?),
+        "file" => Event::CreateFile(Path::parse(alloc, text)?, Bytes::from_static(b"hi")),
+        _ => Event::Delete(Path::parse(alloc, text)?),
     })
 }
 
+/// The path that a refusal names, if it names one.
+fn place(refusal: &Refusal) -> &str {
+    match refusal {
+        Refusal::NotFound(path)
+        | Refusal::Exists(path)
+        | Refusal::NotContainer(path)
+        | Refusal::WrongKind(path)
+        | Refusal::ProjectClosed(path) => path.as_str(),
+        Refusal::TreeFull | Refusal::NumbersUsed | Refusal::NoBatch => "",
+    }
+}
+
+fn answer_text(alloc: Global, answer: &Answer) -> Result<String, Fail> {
+    Ok(match answer {
+        Answer::Done => String::from_str(alloc, "done")?,
+        Answer::Id(id) => format!(in alloc; "id {id}")?,
+        Answer::None => String::from_str(alloc, "none")?,
+        Answer::Job(name) => format!(in alloc; "job {name}")?,
+        Answer::Refused(refusal) => {
+            format!(in alloc; "refused {} {}", refusal.number(), place(refusal))?
+        }
+    })
+}
+
+/// Adds each node's path, kind and flags.
+fn put_nodes(alloc: Global, text: &mut String, nodes: &[DeltaNode]) -> Result<(), Fail> {
+    for node in nodes {
+        let line = format!(in alloc; "; {} {} {}", node.path, node.kind, node.flags)?;
+        text.push_str(line.as_str())?;
+    }
+    Ok(())
+}
+
+/// The answer, and then each node that is told.
+fn reply_text(alloc: Global, reply: &Reply) -> Result<String, Fail> {
+    let mut text = answer_text(alloc, &reply.answer)?;
+    if let Some(delta) = &reply.notice {
+        put_nodes(alloc, &mut text, delta.nodes())?;
+    }
+    Ok(text)
+}
+
+/// What the last entry is answered and tells.
+fn last_text(alloc: Global, core: &Core) -> Result<String, Fail> {
+    match core.history().last() {
+        None => Ok(String::new(alloc)),
+        Some(entry) => reply_text(alloc, &entry.reply),
+    }
+}
+
 /// Does the event as pass 0.
-fn does(core: &mut Core, alloc: Global, event: Event) -> Result<(), Fail> {
+fn does(core: &mut Core, alloc: Global, word: &str, text: &str) -> Result<(), Fail> {
     if !core.has_entered(0) {
         return Err(Fail::new("pass 0 has left"));
     }
-    Ok(core.step(alloc, 0, event)?)
+    Ok(core.step(alloc, 0, event(alloc, word, text)?)?)
 }
 
-/// Whether the last entry's answer is this one.
-fn is_answered(core: &Core, answer: &Answer) -> bool {
-    match core.history().last() {
-        None => false,
-        Some(entry) => entry.reply.answer == *answer,
+/// Does the events as pass 0, and compares what each is answered and tells.
+fn follow<R: Abort>(rt: &R, alloc: Global, core: &mut Core, cases: &[Case]) -> Result<(), Fail> {
+    for (word, text, wanted) in cases {
+        does(core, alloc, word, text)?;
+        let found = last_text(alloc, core)?;
+        assert_eq!(rt; found.as_str(), *wanted, "{word} {text}");
     }
+    Ok(())
 }
 
-/// Whether the last entry tells exactly these nodes, nothing where there are none.
-fn is_told(core: &Core, nodes: &[DeltaNode]) -> bool {
-    match core.history().last() {
-        None => false,
-        Some(entry) => match &entry.reply.notice {
-            None => nodes.is_empty(),
-            Some(delta) => !nodes.is_empty() && delta.nodes() == nodes,
-        },
-    }
-}
-
-/// A workspace with a project /P and a file /P/a, both told.
-fn set_up(alloc: Global) -> Result<Core, Fail> {
+/// A workspace in which these were done, and then those.
+fn run<R: Abort>(rt: &R, alloc: Global, first: &[Case], then: &[Case]) -> Result<Core, Fail> {
     let mut core = Core::fresh(alloc)?;
-    does(&mut core, alloc, Event::Batch)?;
-    does(&mut core, alloc, project(alloc, "/P")?)?;
-    does(&mut core, alloc, file(alloc, "/P/a")?)?;
-    does(&mut core, alloc, Event::EndBatch)?;
+    follow(rt, alloc, &mut core, first)?;
+    follow(rt, alloc, &mut core, then)?;
     Ok(core)
 }
 
-/// A batch that has made /P and /P/a and deleted /P/a, of which nothing was told.
-fn set_up_untold(alloc: Global) -> Result<Core, Fail> {
-    let mut core = set_up_empty_batch(alloc)?;
-    does(&mut core, alloc, project(alloc, "/P")?)?;
-    does(&mut core, alloc, file(alloc, "/P/a")?)?;
-    does(&mut core, alloc, delete(alloc, "/P/a")?)?;
-    for entry in core.history() {
-        if entry.reply.notice.is_some() {
-            return Err(Fail::new("told within the batch"));
-        }
-    }
-    Ok(core)
+fn check<R: Abort>(rt: &R, alloc: Global, first: &[Case], then: &[Case]) -> Result<(), Fail> {
+    let _ = run(rt, alloc, first, then)?;
+    Ok(())
 }
 
 #[test]
 fn a_checkpoint_tells_what_its_batch_changed_and_the_next_nothing(
     rt: HostRuntime,
 ) -> Result<(), Fail> {
-    let alloc = rt.alloc();
-    let mut core = set_up_untold(alloc)?;
-    does(&mut core, alloc, Event::Checkpoint)?;
-    let told = [
-        node(alloc, "/", CHANGED, 0)?,
-        node(alloc, "/P", ADDED, OPEN)?,
+    let cases = [
+        ("checkpoint", "", "done; / 4 0; /P 1 16384"),
+        ("checkpoint", "", "done"),
+        ("file", "/P/b", "done"),
+        ("checkpoint", "", "done; / 4 0; /P 4 0; /P/b 1 0"),
     ];
-    assert!(rt; is_told(&core, &told));
-    does(&mut core, alloc, Event::Checkpoint)?;
-    assert!(rt; is_told(&core, &[]));
-    Ok(())
+    check(&rt, rt.alloc(), &UNTOLD, &cases)
 }
 
 #[test]
 fn the_end_of_a_batch_tells_what_no_checkpoint_told(rt: HostRuntime) -> Result<(), Fail> {
-    let alloc = rt.alloc();
-    let mut core = set_up_untold(alloc)?;
-    does(&mut core, alloc, Event::EndBatch)?;
-    let told = [
-        node(alloc, "/", CHANGED, 0)?,
-        node(alloc, "/P", ADDED, OPEN)?,
-    ];
-    assert!(rt; is_told(&core, &told) && is_answered(&core, &Answer::Done));
-    assert!(rt; core.since_start(alloc)?.nodes() == told.as_slice());
-    assert_eq!(rt; core.state().tree.len(), 2);
-    assert_eq!(rt; core.into_history().len(), 5);
-    Ok(())
-}
-
-/// A fresh workspace in an open batch.
-fn set_up_empty_batch(alloc: Global) -> Result<Core, Fail> {
-    let mut core = Core::fresh(alloc)?;
-    does(&mut core, alloc, Event::Batch)?;
-    Ok(core)
-}
-
-/// Creates a project or a file, or deletes, by one letter.
-fn operation(alloc: Global, letter: char, text: &str) -> Result<Event, Fail> {
-    match letter {
-        'p' => project(alloc, text),
-        'f' => file(alloc, text),
-        _ => delete(alloc, text),
-    }
-}
-
-/// Whether the last entry is refused with this number and this path, or done where the number is 0.
-fn is_refused(core: &Core, number: u8, text: &str) -> bool {
-    match core.history().last() {
-        None => false,
-        Some(entry) => match &entry.reply.answer {
-            Answer::Done => number == 0,
-            Answer::Refused(refusal) => refusal.number() == number && is_about(refusal, text),
-            _ => false,
-        },
-    }
-}
-
-fn is_about(refusal: &Refusal, text: &str) -> bool {
-    match refusal {
-        Refusal::NotFound(path)
-        | Refusal::Exists(path)
-        | Refusal::NotContainer(path)
-        | Refusal::WrongKind(path)
-        | Refusal::ProjectClosed(path) => path.as_str() == text,
-        Refusal::TreeFull | Refusal::NumbersUsed | Refusal::NoBatch => text.is_empty(),
-    }
+    let cases = [("endbatch", "", "done; / 4 0; /P 1 16384")];
+    check(&rt, rt.alloc(), &UNTOLD, &cases)
 }
 
 #[test]
 fn each_creation_and_deletion_is_refused_for_its_first_cause(rt: HostRuntime) -> Result<(), Fail> {
-    let alloc = rt.alloc();
-    let mut core = set_up_empty_batch(alloc)?;
     let cases = [
-        ('f', "/P/a", 10, "/P"),
-        ('p', "/P", 0, ""),
-        ('p', "/P", 11, "/P"),
-        ('f', "/P/a", 0, ""),
-        ('f', "/P/a/b", 12, "/P/a"),
-        ('f', "/P", 13, "/P"),
-        ('p', "/P/b", 13, "/P/b"),
-        ('d', "/", 13, "/"),
-        ('d', "/P/b", 10, "/P/b"),
+        ("batch", "", "done"),
+        ("file", "/P/a", "refused 10 /P"),
+        ("project", "/P", "done"),
+        ("project", "/P", "refused 11 /P"),
+        ("file", "/P/a", "done"),
+        ("file", "/P/a/b", "refused 12 /P/a"),
+        ("file", "/P/a/b/c", "refused 10 /P/a/b"),
+        ("file", "/P", "refused 13 /P"),
+        ("project", "/P/b", "refused 13 /P/b"),
+        ("delete", "/", "refused 13 /"),
+        ("delete", "/P/b", "refused 10 /P/b"),
     ];
-    for (letter, text, number, about) in cases {
-        does(&mut core, alloc, operation(alloc, letter, text)?)?;
-        assert!(rt; is_refused(&core, number, about));
-    }
-    Ok(())
+    check(&rt, rt.alloc(), &[], &cases)
 }
 
 #[test]
 fn the_end_of_a_batch_is_refused_where_none_is_open(rt: HostRuntime) -> Result<(), Fail> {
-    let alloc = rt.alloc();
-    let mut core = set_up_empty_batch(alloc)?;
-    does(&mut core, alloc, Event::EndBatch)?;
-    does(&mut core, alloc, Event::EndBatch)?;
-    assert!(rt; is_refused(&core, 44, ""));
-    Ok(())
+    let cases = [
+        ("batch", "", "done"),
+        ("endbatch", "", "done"),
+        ("endbatch", "", "refused 44 "),
+    ];
+    check(&rt, rt.alloc(), &[], &cases)
 }
 
 #[test]
 fn a_file_removed_and_made_again_is_told_as_replaced(rt: HostRuntime) -> Result<(), Fail> {
-    let alloc = rt.alloc();
-    let mut core = set_up(alloc)?;
-    does(&mut core, alloc, Event::Batch)?;
-    does(&mut core, alloc, delete(alloc, "/P/a")?)?;
-    does(&mut core, alloc, file(alloc, "/P/a")?)?;
-    does(&mut core, alloc, Event::EndBatch)?;
-    let told = [
-        node(alloc, "/", CHANGED, 0)?,
-        node(alloc, "/P", CHANGED, 0)?,
-        node(alloc, "/P/a", CHANGED, CONTENT + REPLACED)?,
+    let cases = [
+        ("batch", "", "done"),
+        ("delete", "/P/a", "done"),
+        ("file", "/P/a", "done"),
+        ("endbatch", "", "done; / 4 0; /P 4 0; /P/a 4 262400"),
     ];
-    assert!(rt; is_told(&core, &told));
-    Ok(())
+    check(&rt, rt.alloc(), &SET_UP, &cases)
 }
 
 #[test]
 fn a_batch_that_changes_nothing_tells_nothing(rt: HostRuntime) -> Result<(), Fail> {
-    let alloc = rt.alloc();
-    let mut core = set_up(alloc)?;
-    does(&mut core, alloc, Event::Batch)?;
-    does(&mut core, alloc, project(alloc, "/P")?)?;
-    does(&mut core, alloc, Event::EndBatch)?;
-    assert!(rt; is_told(&core, &[]));
-    Ok(())
+    let cases = [
+        ("batch", "", "done"),
+        ("project", "/P", "refused 11 /P"),
+        ("endbatch", "", "done"),
+    ];
+    check(&rt, rt.alloc(), &SET_UP, &cases)
 }
 
 #[test]
 fn outside_batches_an_operation_is_told_by_itself(rt: HostRuntime) -> Result<(), Fail> {
-    let alloc = rt.alloc();
-    let mut core = set_up(alloc)?;
-    does(&mut core, alloc, file(alloc, "/P/b")?)?;
-    let told = [
-        node(alloc, "/", CHANGED, 0)?,
-        node(alloc, "/P", CHANGED, 0)?,
-        node(alloc, "/P/b", ADDED, 0)?,
+    let cases = [
+        ("file", "/P/b", "done; / 4 0; /P 4 0; /P/b 1 0"),
+        ("file", "/P/b", "refused 11 /P/b"),
+        ("delete", "/P/a", "done; / 4 0; /P 4 0; /P/a 2 0"),
     ];
-    assert!(rt; is_told(&core, &told));
-    Ok(())
+    check(&rt, rt.alloc(), &SET_UP, &cases)
 }
 
 #[test]
 fn the_waiting_job_is_taken_once(rt: HostRuntime) -> Result<(), Fail> {
-    let alloc = rt.alloc();
-    let mut core = Core::fresh(alloc)?;
-    let job = Name::parse(alloc, "j")?;
-    does(&mut core, alloc, Event::Schedule(job.copy()?, 30))?;
-    does(&mut core, alloc, Event::Take)?;
-    assert!(rt; is_answered(&core, &Answer::Job(job)));
-    does(&mut core, alloc, Event::Take)?;
-    assert!(rt; is_answered(&core, &Answer::None));
-    Ok(())
+    let cases = [
+        ("schedule", "j", "done"),
+        ("take", "", "job j"),
+        ("take", "", "none"),
+        ("finish", "", "done"),
+    ];
+    check(&rt, rt.alloc(), &[], &cases)
 }
 
 #[test]
 fn a_new_pass_has_the_next_number_until_it_leaves(rt: HostRuntime) -> Result<(), Fail> {
-    let alloc = rt.alloc();
-    let mut core = Core::fresh(alloc)?;
-    does(&mut core, alloc, Event::Enter)?;
-    assert!(rt; is_answered(&core, &Answer::Id(1)));
-    does(&mut core, alloc, Event::Leave)?;
+    let cases = [("enter", "", "id 1"), ("leave", "", "done")];
+    let core = run(&rt, rt.alloc(), &[], &cases)?;
     assert!(rt; !core.has_entered(0) && core.has_entered(1));
     Ok(())
 }
 
-/// Answers of the state to a creation or a deletion.
-fn answer(state: &mut State, alloc: Global, letter: char, text: &str) -> Result<Answer, Fail> {
-    let event = operation(alloc, letter, text)?;
-    Ok(state.step(alloc, 0, &event)?.answer)
+#[test]
+fn the_history_and_what_changed_since_the_start_are_handed_out(
+    rt: HostRuntime,
+) -> Result<(), Fail> {
+    let core = run(&rt, rt.alloc(), &SET_UP, &[])?;
+    let delta = core.since_start(rt.alloc())?;
+    let mut found = String::new(rt.alloc());
+    put_nodes(rt.alloc(), &mut found, delta.nodes())?;
+    assert_eq!(rt; found.as_str(), "; / 4 0; /P 1 16384; /P/a 1 0");
+    assert_eq!(rt; core.into_history().len(), 4);
+    Ok(())
+}
+
+/// A number for each part of a state.
+fn numbers(state: &State) -> [u64; 7] {
+    [
+        state.next_node(),
+        state.next_stamp(),
+        state.next_pass(),
+        state.tree().len() as u64,
+        state.told().len() as u64,
+        state.passes().len() as u64,
+        state.batches().len() as u64,
+    ]
+}
+
+#[test]
+fn a_state_tells_its_parts(rt: HostRuntime) -> Result<(), Fail> {
+    let cases = [
+        ("batch", "", "done"),
+        ("file", "/P/b", "done"),
+        ("schedule", "j", "done"),
+    ];
+    let core = run(&rt, rt.alloc(), &SET_UP, &cases)?;
+    let copy = core.state().copy()?;
+    assert_eq!(rt; numbers(core.state()), [5, 4, 1, 4, 3, 1, 1]);
+    assert_eq!(rt; numbers(&copy), [5, 4, 1, 4, 3, 1, 1]);
+    assert!(rt; copy.waiting().is_some());
+    assert!(rt; copy.refusal(0, &Event::Leave)?.is_none());
+    Ok(())
+}
+
+/// Does the events on the state as pass 0, and compares what each is answered and tells.
+fn follow_on<R: Abort>(
+    rt: &R,
+    alloc: Global,
+    state: &mut State,
+    cases: &[Case],
+) -> Result<(), Fail> {
+    for (word, text, wanted) in cases {
+        let event = event(alloc, word, text)?;
+        let reply = state.step(alloc, 0, &event)?;
+        let found = reply_text(alloc, &reply)?;
+        assert_eq!(rt; found.as_str(), *wanted, "{word} {text}");
+    }
+    Ok(())
 }
 
 /// A fresh state with a closed project /P.
 fn with_closed_project(alloc: Global) -> Result<State, Fail> {
     let mut state = State::fresh(alloc)?;
-    let mut element = Element::bare(Kind::Project, 2);
-    element.opened = false;
-    let _ = state.tree.put(path(alloc, "/P")?, element)?;
-    state.next_node = 3;
+    let path = Path::parse(alloc, "/P")?;
+    let _ = state.kept.tree.put(path, Element::bare(Kind::Project, 2))?;
     Ok(state)
 }
 
@@ -272,21 +291,20 @@ fn with_closed_project(alloc: Global) -> Result<State, Fail> {
 fn a_closed_project_and_its_members_are_neither_made_nor_deleted(
     rt: HostRuntime,
 ) -> Result<(), Fail> {
-    let alloc = rt.alloc();
-    let mut state = with_closed_project(alloc)?;
-    for (letter, text) in [('f', "/P/a"), ('p', "/P"), ('d', "/P/a")] {
-        let answer = answer(&mut state, alloc, letter, text)?;
-        assert!(rt; answer == Answer::Refused(Refusal::ProjectClosed(path(alloc, text)?)));
-    }
-    Ok(())
+    let mut state = with_closed_project(rt.alloc())?;
+    let cases = [
+        ("file", "/P/a", "refused 14 /P/a"),
+        ("file", "/P/a/b", "refused 14 /P/a/b"),
+        ("project", "/P", "refused 14 /P"),
+        ("delete", "/P/a", "refused 14 /P/a"),
+    ];
+    follow_on(&rt, rt.alloc(), &mut state, &cases)
 }
 
 #[test]
 fn nothing_is_made_where_a_number_would_pass_its_end(rt: HostRuntime) -> Result<(), Fail> {
-    let alloc = rt.alloc();
-    let mut state = State::fresh(alloc)?;
-    state.next_stamp = (1 << 63) - 1;
-    let answer = answer(&mut state, alloc, 'p', "/P")?;
-    assert!(rt; answer == Answer::Refused(Refusal::NumbersUsed));
-    Ok(())
+    let mut state = State::fresh(rt.alloc())?;
+    state.kept.next_stamp = (1 << 63) - 1;
+    let cases = [("project", "/P", "refused 18 ")];
+    follow_on(&rt, rt.alloc(), &mut state, &cases)
 }

@@ -1,7 +1,7 @@
 use Rattle.std.proofs.Common.{◌==◌, ap, sym, ◌∙◌}
 use Rattle.ws_core.specs.Steps.{act, tells}
 use Rattle.ws_core.proofs.Batches.{none_other, end_tells}
-use Rattle.ws_core.proofs.state.State.will_tell.Goals as goal
+use Rattle.ws_core.proofs.kept.Kept.will_tell.Goals as goal
 
 pub returns-in-Finish : goal.returns-in-Finish
 returns-in-Finish c =
