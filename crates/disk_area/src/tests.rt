@@ -1,6 +1,9 @@
 ghost use Rattle.std.specs.Prelude.{◌≤◌, ◌<◌, ◌+◌, ◌^◌, length};
 
-use crate::{AreaFault, DamageCause, head, image_piece, record_piece, write_image, write_record};
+use crate::{
+    AreaFault, DamageCause, close_gate, head, image_piece, lay_image, open_gate, record_piece,
+    write_image, write_record,
+};
 use std::alloc::Global;
 use std::process::Abort;
 use std::test::Fail;
@@ -320,6 +323,27 @@ fn overwritten(alloc: Global, old: &[u8], failing: Vec<u64>) -> Result<(MemDisk,
     let mut stands = 0;
     let _ = write_all(&mut disk, 2, b"abc", b"abc", b"de", &mut stands);
     Ok((disk, stands))
+}
+
+/// Writes a save by its parts, and another one over it with the gate known to be shut.
+fn write_by_parts<D: Disk>(disk: &mut D) -> Result<(), Failed> {
+    close_gate(disk, Which::Left)?;
+    lay_image(disk, Which::Left, 1, b"abc")?;
+    open_gate(disk, Which::Left)?;
+    close_gate(disk, Which::Left)?;
+    write_image(disk, Which::Left, 2, b"de", true)
+}
+
+#[test]
+fn a_save_is_its_parts(rt: HostRuntime) -> Result<(), Fail> {
+    let mut disk = disk_of(rt.alloc(), b"", Vec::new(rt.alloc()))?;
+    write_by_parts(&mut disk)?;
+    // two calls for each gate, and six to lay an image: three writes, a sync, a cut, a sync
+    assert_eq!(rt; disk.calls().len(), 2 + 6 + 2 + 2 + 8);
+    let bytes = disk.contents().of(Which::Left);
+    assert_eq!(rt; bytes.len(), 57 + 2 + 1);
+    assert_eq!(rt; read_as(rt.alloc(), bytes)?.as_str(), "2 de");
+    Ok(())
 }
 
 /// How many of the three writes stand once so many calls were made: the first one makes ten, and the others six each.

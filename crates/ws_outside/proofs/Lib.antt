@@ -1,2 +1,3 @@
+pub mod Crashing
 pub mod Fronts
 pub mod Replays

@@ -1,10 +1,10 @@
 -- How a record of calls goes on.
-use Rattle.std.proofs.Common.{get_or, ◌≡◌, ◌⊎◌, inl, inr, ⊎_elim, ℕ, ◌+◌, ◌<◌, ◌≤◌, List, [], ◌∷◌, ◌++◌, length, take, refl, sym, ◌∙◌, ap, subst, arith, length-append}
+use Rattle.std.proofs.Common.{◌≡◌, ◌⊎◌, inl, inr, ⊎_elim, ℕ, ◌+◌, ◌≤◌, List, [], ◌∷◌, ◌++◌, length, refl, sym, ◌∙◌, ap, subst, arith, length-append}
 use Rattle.std.specs.Prelude.{if◌then◌else◌, nat_le, Bool, true, false, Option, None, Some, Result, Ok, Err, OnOk, OnErr}
 use Rattle.std.specs.Option.{MatchOption, option_map_or}
 use Rattle.std.proofs.lemmas.Bool.{cases_lt}
 use Rattle.std.proofs.lemmas.Bool.Decides.{nat_tests}
-use Rattle.std.proofs.lemmas.List.{take_more, take_all, take-append-le}
+use Rattle.std.proofs.lemmas.List.{take_all, take-append-le}
 use Rattle.ws_outside.specs.declared.call.Call.{Call}
 use Rattle.ws_outside.specs.declared.call.Request.{Request}
 use Rattle.ws_outside.specs.declared.call.Request.TheVariants.{Len, Read, Write, Cut, Sync}
@@ -27,20 +27,6 @@ left_push area [] call bytes old new left = (old, refl, subst (λ n. LeavesIn ar
 left_push area (x ∷ calls) call bytes old new left =
     let rest = left_push area calls call (reads_after area x bytes) left.0 new left.2 in
     (rest.0, (left.0, left.1, rest.1), rest.2)
-
-push_left : (area : Which) (calls : List Call) (call : Call) (bytes old mid new : List ℕ) → LeftBy area calls bytes old mid → LeavesIn area call (reads_as area calls bytes) mid new
-    → LeftBy area (calls ++ call ∷ []) bytes old new
-push_left area [] call bytes old mid new left step = (new, subst (λ n. LeavesIn area call bytes n new) left step, refl)
-push_left area (x ∷ calls) call bytes old mid new left step = (left.0, left.1, push_left area calls call (reads_after area x bytes) left.0 mid new left.2 step)
-
--- one call more, in both areas
-pub leaves_push : (first : Contents) (calls : List Call) (call : Call) (old new : Contents) → MayLeave first calls old
-    → LeavesIn Left call (reads_as Left calls first.left) old.left new.left → LeavesIn Right call (reads_as Right calls first.right) old.right new.right
-    → MayLeave first (calls ++ call ∷ []) new
-leaves_push first calls call old new left here there = record {
-  left = push_left Left calls call first.left first.left old.left new.left left.left here;
-  right = push_left Right calls call first.right first.right old.right new.right left.right there;
-}
 
 came_push : (area : Which) (request : Request) (ok : Bool) (first : Contents) (calls : List Call) (c : Contents)
     → MayLeave first (calls ++ record { area = area; request = request; done = ok } ∷ []) c
@@ -166,25 +152,3 @@ pub placed : (ok : Bool) (area : Which) (request : Request) (next : Option (List
 placed true area request None both same = sym (ap (λ bytes. holding area bytes both) same ∙ holding_held area both)
 placed true area request (Some bytes) both is = ap (λ l. holding area l both) is
 placed false area request next both is = refl
-
--- a crash that is followed call by call
-both : {a b c d : List ℕ} → a ≡ b → c ≡ d → let x : Contents = record { left = a; right = c } in let y : Contents = record { left = b; right = d } in x ≡ y
-both p q = λ i. record { left = p i; right = q i }
-
-one_more : (calls : List Call) (n : ℕ) (call : Call) → n < length calls → call ≡ get_or calls n call → take (n + 1) calls ≡ take n calls ++ call ∷ []
-one_more calls n call lt is = take_more calls n call lt ∙ ap (λ (x : Call). take n calls ++ x ∷ []) (sym is)
-
-module _ (first : Contents) (calls : List Call) (n : ℕ) (call : Call) (lt : n < length calls) (at : call ≡ get_or calls n call) (old : Contents) (read : old ≡ reads first (take n calls)) where
-  pub reads_more : (new : Contents) → new ≡ record { left = reads_after Left call old.left; right = reads_after Right call old.right } → new ≡ reads first (take (n + 1) calls)
-  reads_more new is =
-      is ∙ ap (λ (r : Contents). let next : Contents = record { left = reads_after Left call r.left; right = reads_after Right call r.right } in next) read
-      ∙ both (sym (reads_push Left (take n calls) call first.left)) (sym (reads_push Right (take n calls) call first.right))
-      ∙ ap (reads first) (sym (one_more calls n call lt at))
-
-  pub leaves_more : (before after : Contents) → MayLeave first (take n calls) before → LeavesIn Left call old.left before.left after.left → LeavesIn Right call old.right before.right after.right
-      → MayLeave first (take (n + 1) calls) after
-  leaves_more before after left here there =
-      subst (λ l. MayLeave first l after) (sym (one_more calls n call lt at))
-      (leaves_push first (take n calls) call before after left
-      (subst (λ (r : Contents). LeavesIn Left call r.left before.left after.left) read here)
-      (subst (λ (r : Contents). LeavesIn Right call r.right before.right after.right) read there))

@@ -4,6 +4,11 @@ use Rattle.ws_outside.specs.declared.contents.Contents.{Contents}
 use Rattle.ws_outside.specs.declared.contents.Which.{Which}
 use Rattle.ws_outside.specs.declared.contents.Which.TheVariants.{Left, Right}
 
+-- what belongs to an area
+abbrev pub picked : {T : Type 0} → Which → T → T → T
+picked Left on_left on_right = on_left
+picked Right on_left on_right = on_right
+
 -- what an area holds
 abbrev pub held : Which → Contents → List ℕ
 held Left both = both.left

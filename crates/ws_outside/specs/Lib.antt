@@ -1,3 +1,4 @@
+pub mod Crashes
 pub mod Disk
 pub mod Faults
 pub mod Laws

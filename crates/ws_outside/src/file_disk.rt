@@ -1,5 +1,6 @@
 // Two files of the system as one disk. What they hold is the system's, so contracts see the count of faults alone.
 ghost use Rattle.std.specs.Prelude.{◌≡◌, ◌≤◌, None, length, IfOk};
+ghost use Rattle.ws_outside.specs.Disk.{picked};
 ghost use Rattle.ws_outside.specs.Faults.{HasCause};
 
 use crate::faults::one_more;
@@ -209,7 +210,9 @@ impl<R: Files<File = File> + Drop> Disk for FileDisk<R> {
     }
 }
 
-fn file_of<'a>(left: &'a mut AreaFile, right: &'a mut AreaFile, area: Which) -> &'a mut AreaFile {
+fn file_of<'a>(left: &'a mut AreaFile, right: &'a mut AreaFile, area: Which) -> &'a mut AreaFile
+    ensures { result.now ≡ picked area left.old right.old }
+{
     match area {
         Which::Left => left,
         Which::Right => right,

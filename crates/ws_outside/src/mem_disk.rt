@@ -3,6 +3,7 @@ ghost use Rattle.std.specs.Prelude.{◌≡◌, ◌≤◌, ◌<◌, ◌+◌, ◌+
 ghost use Rattle.ws_outside.specs.declared.call.Request.TheVariants.{Len, Read, Write, Cut, Sync};
 ghost use Rattle.ws_outside.specs.Disk.{held, beside, holding, written, Torn, InArea, Came, Each, ReadsThere, Elapses};
 ghost use Rattle.ws_outside.specs.Disk as disk;
+ghost use Rattle.ws_outside.specs.Crashes.{left_of};
 ghost use Rattle.ws_outside.specs.Faults.{HasCause, next};
 ghost use Rattle.ws_outside.specs.Replay.{Made, reads, MayLeave, LeftSince};
 ghost use Rattle.ws_outside.specs.Stepping.{Stepped};
@@ -86,6 +87,7 @@ impl MemDisk {
 
     /// What a crash after so many of the calls leaves. Of each write and cut that no sync of its area has followed by then
     /// it leaves the remnant that stands at the call's number, and nothing where none stands there.
+    #[tactic(auto, using(crate::proofs::Crashing::of_may_be_left))]
     pub fn crash(
         &self,
         alloc: Global,
@@ -93,7 +95,8 @@ impl MemDisk {
         remnants: &[Remnant<'_>],
     ) -> Result<Contents, NoMemory>
         requires { calls ≤ length self.now.calls }
-        ensures { IfOk result (MayLeave self.now.first (take calls self.now.calls)) }
+        ensures allowed { IfOk result (MayLeave self.now.first (take calls self.now.calls)) }
+        ensures chosen { IfOk result (λ left. left ≡ left_of self.now.first (take calls self.now.calls) remnants.now) }
     {
         crash_of(alloc, &self.first, &self.calls[..calls], remnants)
     }
@@ -120,6 +123,7 @@ impl MemDisk {
         ensures stepped { OnOk result (Stepped area request true self.old self.new) }
         ensures failed { OnErr result (Stepped area request false self.old self.new) }
         ensures fails { Contains self.old.failing (length self.old.calls) → IsErr result }
+        ensures only_so { OnErr result (Contains self.old.failing (length self.old.calls) ⊎ (self.new ≡ record self.old { faults = next self.old.faults })) }
         ensures cause { HasCause self.old.faults self.new.faults result }
     {
         match self.try_step(area, request) {
@@ -136,6 +140,7 @@ impl MemDisk {
     }
 }
 
+/// A call fails where it is to fail, and for want of memory, and then it isn't remembered.
 impl Disk for MemDisk {
     ghost use Rattle.std.specs.Prelude.{Some, length};
     ghost use Rattle.ws_outside.specs.Laws.{leaves_itself, counts_here, only_here};
@@ -165,6 +170,7 @@ impl Disk for MemDisk {
         ensures cause { HasCause self.old.faults self.new.faults result }
 
         ensures fails { Contains self.old.failing (length self.old.calls) → IsErr result }
+        ensures only_so { OnErr result (Contains self.old.failing (length self.old.calls) ⊎ (self.new ≡ record self.old { faults = next self.old.faults })) }
         ensures made { Made area Len result self.old self.new }
     {
         self.step(area, Request::Len)?;
@@ -180,6 +186,7 @@ impl Disk for MemDisk {
         ensures cause { HasCause self.old.faults self.new.faults result }
 
         ensures fails { Contains self.old.failing (length self.old.calls) → IsErr result }
+        ensures only_so { OnErr result (Contains self.old.failing (length self.old.calls) ⊎ (self.new ≡ record self.old { faults = next self.old.faults })) }
         ensures made { Made area (Read at (length buf.old)) result self.old self.new }
     {
         let len = buf.len() as u64;
@@ -196,6 +203,7 @@ impl Disk for MemDisk {
         ensures cause { HasCause self.old.faults self.new.faults result }
 
         ensures fails { Contains self.old.failing (length self.old.calls) → IsErr result }
+        ensures only_so { OnErr result (Contains self.old.failing (length self.old.calls) ⊎ (self.new ≡ record self.old { faults = next self.old.faults })) }
         ensures made { Made area (Write at piece.now) result self.old self.new }
     {
         match Octets::of(self.alloc, piece) {
@@ -216,6 +224,7 @@ impl Disk for MemDisk {
         ensures cause { HasCause self.old.faults self.new.faults result }
 
         ensures fails { Contains self.old.failing (length self.old.calls) → IsErr result }
+        ensures only_so { OnErr result (Contains self.old.failing (length self.old.calls) ⊎ (self.new ≡ record self.old { faults = next self.old.faults })) }
         ensures made { Made area (Cut len) result self.old self.new }
     {
         self.step(area, Request::Cut { len })
@@ -229,6 +238,7 @@ impl Disk for MemDisk {
         ensures cause { HasCause self.old.faults self.new.faults result }
 
         ensures fails { Contains self.old.failing (length self.old.calls) → IsErr result }
+        ensures only_so { OnErr result (Contains self.old.failing (length self.old.calls) ⊎ (self.new ≡ record self.old { faults = next self.old.faults })) }
         ensures made { Made area Sync result self.old self.new }
     {
         self.step(area, Request::Sync)

@@ -1,5 +1,6 @@
 // What a crash may leave of a write or a cut.
-ghost use Rattle.std.specs.Prelude.{◌≤◌, length, IfOk};
+ghost use Rattle.std.specs.Prelude.{◌≡◌, take, IfOk};
+ghost use Rattle.ws_outside.specs.Crashes as crashes;
 
 use crate::NoMemory;
 use std::alloc::Global;
@@ -21,13 +22,15 @@ pub enum Remnant<'a> {
 
 impl Remnant<'_> {
     /// Whether a cut of which this is left has happened.
-    pub(crate) fn is_some(&self) -> bool {
+    pub(crate) fn happened(&self) -> bool
+        ensures { result ≡ crashes.happened self.now }
+    {
         !matches!(self, Remnant::Nothing)
     }
 
     /// What is left of these bytes.
     pub(crate) fn kept(&self, alloc: Global, bytes: &[u8]) -> Result<Vec<u8>, NoMemory>
-        ensures { IfOk result (λ kept. length kept.items ≤ length bytes.now) }
+        ensures { IfOk result (λ kept. kept.items ≡ crashes.kept self.now bytes.now) }
     {
         match self {
             Remnant::Nothing => Ok(Vec::new(alloc)),
@@ -40,8 +43,7 @@ impl Remnant<'_> {
 }
 
 fn front(alloc: Global, bytes: &[u8], len: usize) -> Result<Vec<u8>, NoMemory>
-    ensures fits { IfOk result (λ front. length front.items ≤ len) }
-    ensures part { IfOk result (λ front. length front.items ≤ length bytes.now) }
+    ensures { IfOk result (λ front. front.items ≡ take len bytes.now) }
 {
     bytes[..len.min(bytes.len())].to_vec(alloc)
 }

@@ -1,9 +1,11 @@
 // What a call makes of an area, and what a crash leaves of a call.
-ghost use Rattle.std.specs.Prelude.{◌≡◌, length, take, IfOk, OnOk, MatchOption, if◌then◌else◌, nat_le};
+ghost use Rattle.std.specs.Prelude.{◌≡◌, length, take, get_or, IfOk, OnOk, MatchOption, if◌then◌else◌, nat_le};
 ghost use Rattle.std.specs.Option.{option_map_or};
 ghost use Rattle.ws_outside.specs.declared.contents.Which.TheVariants.{Left, Right};
-ghost use Rattle.ws_outside.specs.Disk.{holding, written, Torn};
-ghost use Rattle.ws_outside.specs.Replay.{done, reads_after, Leaves, LeavesIn, MayLeave};
+ghost use Rattle.ws_outside.specs.Disk.{holding, written};
+ghost use Rattle.ws_outside.specs.Replay.{done, reads_after};
+ghost use Rattle.ws_outside.specs.Crashes.{kept as kept_of, left_after, left_in, left_of as left_of_both};
+ghost use Rattle.ws_outside.specs.declared.remnant.Remnant.TheVariants.{Nothing};
 
 use crate::{Call, Contents, NoMemory, Octets, Remnant, Request, Which};
 use std::alloc::Global;
@@ -74,8 +76,7 @@ pub(crate) fn leave(
     left: &mut Contents,
 ) -> Result<(), NoMemory>
     ensures reads { OnOk result (reads.new ≡ record { left = reads_after Left call.now reads.old.left; right = reads_after Right call.now reads.old.right }) }
-    ensures left { OnOk result (LeavesIn Left call.now reads.old.left left.old.left left.new.left) }
-    ensures right { OnOk result (LeavesIn Right call.now reads.old.right left.old.right left.new.right) }
+    ensures left { OnOk result (left.new ≡ record { left = left_in Left call.now remnant.entry reads.old.left left.old.left; right = left_in Right call.now remnant.entry reads.old.right left.old.right }) }
 {
     let area = call.area;
     let kept = left_of(alloc, call, &remnant, reads.of(area), left.of(area))?;
@@ -93,14 +94,15 @@ fn left_of(
     reads: &[u8],
     left: &[u8],
 ) -> Result<Option<Octets>, NoMemory>
-    ensures { IfOk result (λ next. MatchOption next (Leaves call.now.request call.now.done reads.now left.now left.now) (λ octets. Leaves call.now.request call.now.done reads.now left.now octets)) }
+    ensures { IfOk result (λ next. MatchOption next (left_after call.now.request call.now.done remnant.now reads.now left.now ≡ left.now)
+        (λ octets. octets ≡ left_after call.now.request call.now.done remnant.now reads.now left.now)) }
 {
     match &call.request {
         Request::Write { at, bytes } => {
             let next = torn(alloc, *at, bytes.as_slice(), remnant, left)?;
             Ok(Some(next))
         }
-        Request::Cut { len } if remnant.is_some() => {
+        Request::Cut { len } if remnant.happened() => {
             let next = front(alloc, *len as usize, left)?;
             Ok(Some(Octets::from(next)))
         }
@@ -110,7 +112,6 @@ fn left_of(
 }
 
 /// What a crash leaves of an area to which a piece was written, where this is left of the piece.
-#[tactic(auto, using(crate::specs::Laws::torn_part))]
 fn torn(
     alloc: Global,
     at: u64,
@@ -118,11 +119,18 @@ fn torn(
     remnant: &Remnant<'_>,
     left: &[u8],
 ) -> Result<Octets, NoMemory>
-    ensures { IfOk result (Torn at (length piece.now) left.now) }
+    ensures { IfOk result (λ next. next ≡ (if nat_le at (length left.now) then written at (kept_of remnant.now piece.now) left.now else left.now)) }
 {
     let kept = remnant.kept(alloc, piece)?;
     let next = overwrite(alloc, at as usize, &kept, left)?;
     Ok(Octets::from(next))
+}
+
+/// The remnant that stands at a number, or nothing.
+fn remnant_at<'a>(remnants: &[Remnant<'a>], number: usize) -> Remnant<'a>
+    ensures { result ≡ get_or remnants.now number Nothing }
+{
+    remnants.get(number).copied().unwrap_or(Remnant::Nothing)
 }
 
 /// What a crash after these calls leaves: of each write and cut that no sync has followed the remnant that stands at its
@@ -133,12 +141,12 @@ pub(crate) fn crash_of(
     calls: &[Call],
     remnants: &[Remnant<'_>],
 ) -> Result<Contents, NoMemory>
-    ensures { IfOk result (MayLeave first.now calls.now) }
+    ensures { IfOk result (λ left. left ≡ left_of_both first.now calls.now remnants.now) }
 {
     let mut reads = first.copy(alloc)?;
     let mut left = first.copy(alloc)?;
     for number in 0..calls.len() {
-        let remnant = remnants.get(number).copied().unwrap_or(Remnant::Nothing);
+        let remnant = remnant_at(remnants, number);
         leave(alloc, &calls[number], remnant, &mut reads, &mut left)?;
     }
     Ok(left)
