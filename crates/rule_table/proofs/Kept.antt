@@ -86,8 +86,8 @@ newest_in {T} p (x ∷ xs) g h = by (newest p xs) refl (newest_in p xs g)
 
     by : (o : Option T) → newest p xs ≡ o → (newest p xs ≡ Some g → IsIn g xs × (p g ≡ true)) → IsIn g (x ∷ xs) × (p g ≡ true)
     by (Some y) e more =
-      let found = more (e ∙ sym (ap (or_before p x) e) ∙ h) in
-      (inr found.0, found.1)
+        let found = more (e ∙ sym (ap (or_before p x) e) ∙ h) in
+        (inr found.0, found.1)
     by None e more = here (p x) refl (sym (ap (or_before p x) e) ∙ h)
 
 -- ---- a rule that is handed over
@@ -128,100 +128,100 @@ apart_moved {A} contains conflicts from to (x ∷ xs) n h = (each xs n.1 h.0, ap
 -- ---- a rule that is begun
 
 module _ {A : Type 0} {contains conflicts : A → A → Bool} (laws : IsLawful contains conflicts) where
-    not_false : (b : Bool) → not b ≡ true → b ≡ false
-    not_false true h = cc
-    not_false false h = refl
+  not_false : (b : Bool) → not b ≡ true → b ≡ false
+  not_false true h = cc
+  not_false false h = refl
 
-    never : true ≡ false → ⊥
-    never h = cc
+  never : true ≡ false → ⊥
+  never h = cc
 
-    unless : (b : Bool) → (b ≡ true → ⊥) → not b ≡ true
-    unless true h = absurd (h refl)
-    unless false h = refl
+  unless : (b : Bool) → (b ≡ true → ⊥) → not b ≡ true
+  unless true h = absurd (h refl)
+  unless false h = refl
 
-    -- a holder without a non-null rule begins one that is free
-    pub fits_alone : (k : ℕ) (r : List A) (xs : List (Held A)) → newest (is_outer k) xs ≡ None → is_free conflicts xs r ≡ true → AllByRecursion (λ x. fits contains conflicts x (record { holder = k; rule = r }) ≡ true) xs
-    fits_alone k r [] n f = tt
-    fits_alone k r (x ∷ xs) n f =
+  -- a holder without a non-null rule begins one that is free
+  pub fits_alone : (k : ℕ) (r : List A) (xs : List (Held A)) → newest (is_outer k) xs ≡ None → is_free conflicts xs r ≡ true → AllByRecursion (λ x. fits contains conflicts x (record { holder = k; rule = r }) ≡ true) xs
+  fits_alone k r [] n f = tt
+  fits_alone k r (x ∷ xs) n f =
       let parts = nothing_before (is_outer k) x (newest (is_outer k) xs) n in
       let c = rule_conflicts conflicts x.rule r in
       let rest = list_any (λ held. rule_conflicts conflicts held.rule r) xs in
       let clear = neither c rest f in
       (here (x.holder == k) (is_null x.rule) parts.1 clear.0, fits_alone k r xs parts.0 clear.1)
-      where
-        neither : (a b : Bool) → not (a || b) ≡ true → (not a ≡ true) × (not b ≡ true)
-        neither true b h = cc
-        neither false b h = (refl, h)
+    where
+      neither : (a b : Bool) → not (a || b) ≡ true → (not a ≡ true) × (not b ≡ true)
+      neither true b h = cc
+      neither false b h = (refl, h)
 
-        here : (s z : Bool) → (s && not z) ≡ false → not (rule_conflicts conflicts x.rule r) ≡ true → cond s (z || rule_contains contains x.rule r) (not (rule_conflicts conflicts x.rule r)) ≡ true
-        here true true h g = refl
-        here true false h g = cc
-        here false z h g = g
+      here : (s z : Bool) → (s && not z) ≡ false → not (rule_conflicts conflicts x.rule r) ≡ true → cond s (z || rule_contains contains x.rule r) (not (rule_conflicts conflicts x.rule r)) ≡ true
+      here true true h g = refl
+      here true false h g = cc
+      here false z h g = g
 
-    fits_through : (k : ℕ) (r : List A) (x g : Held A) → g.holder ≡ k → rule_contains contains g.rule r ≡ true → fits contains conflicts x g ≡ true → fits contains conflicts x (record { holder = k; rule = r }) ≡ true
-    fits_through k r x g e h f = by (x.holder == k) (is_null x.rule) (ap (λ m. cond (x.holder == m) (is_null x.rule || rule_contains contains x.rule g.rule) (not (rule_conflicts conflicts x.rule g.rule))) (sym e) ∙ f)
-      where
-        by : (s z : Bool) → cond s (z || rule_contains contains x.rule g.rule) (not (rule_conflicts conflicts x.rule g.rule)) ≡ true → cond s (z || rule_contains contains x.rule r) (not (rule_conflicts conflicts x.rule r)) ≡ true
-        by true true f = refl
-        by true false f = rule_contains_through laws x.rule g.rule r f h
-        by false z f = unless (rule_conflicts conflicts x.rule r) (λ c.
+  fits_through : (k : ℕ) (r : List A) (x g : Held A) → g.holder ≡ k → rule_contains contains g.rule r ≡ true → fits contains conflicts x g ≡ true → fits contains conflicts x (record { holder = k; rule = r }) ≡ true
+  fits_through k r x g e h f = by (x.holder == k) (is_null x.rule) (ap (λ m. cond (x.holder == m) (is_null x.rule || rule_contains contains x.rule g.rule) (not (rule_conflicts conflicts x.rule g.rule))) (sym e) ∙ f)
+    where
+      by : (s z : Bool) → cond s (z || rule_contains contains x.rule g.rule) (not (rule_conflicts conflicts x.rule g.rule)) ≡ true → cond s (z || rule_contains contains x.rule r) (not (rule_conflicts conflicts x.rule r)) ≡ true
+      by true true f = refl
+      by true false f = rule_contains_through laws x.rule g.rule r f h
+      by false z f = unless (rule_conflicts conflicts x.rule r) (λ c.
           let wider = wider_rule_conflicts laws g.rule r x.rule h (sym (rule_conflicts_back laws x.rule r) ∙ c) in
           never (sym (rule_conflicts_back laws x.rule g.rule ∙ wider) ∙ not_false (rule_conflicts conflicts x.rule g.rule) f))
 
-    fits_after : (k : ℕ) (r : List A) (g x : Held A) → g.holder ≡ k → rule_contains contains g.rule r ≡ true → is_outer k x ≡ false → fits contains conflicts g x ≡ true → fits contains conflicts x (record { holder = k; rule = r }) ≡ true
-    fits_after k r g x e h n f =
+  fits_after : (k : ℕ) (r : List A) (g x : Held A) → g.holder ≡ k → rule_contains contains g.rule r ≡ true → is_outer k x ≡ false → fits contains conflicts g x ≡ true → fits contains conflicts x (record { holder = k; rule = r }) ≡ true
+  fits_after k r g x e h n f =
       let turned : (g.holder == x.holder) ≡ (x.holder == k) = grind (arith, nat_tests) in
       by (x.holder == k) (is_null x.rule) n ((λ i. cond (sym turned i) (is_null g.rule || rule_contains contains g.rule x.rule) (not (rule_conflicts conflicts g.rule x.rule))) ∙ f)
-      where
-        by : (s z : Bool) → (s && not z) ≡ false → cond s (is_null g.rule || rule_contains contains g.rule x.rule) (not (rule_conflicts conflicts g.rule x.rule)) ≡ true → cond s (z || rule_contains contains x.rule r) (not (rule_conflicts conflicts x.rule r)) ≡ true
-        by true true n f = refl
-        by true false n f = cc
-        by false z n f = unless (rule_conflicts conflicts x.rule r) (λ c.
+    where
+      by : (s z : Bool) → (s && not z) ≡ false → cond s (is_null g.rule || rule_contains contains g.rule x.rule) (not (rule_conflicts conflicts g.rule x.rule)) ≡ true → cond s (z || rule_contains contains x.rule r) (not (rule_conflicts conflicts x.rule r)) ≡ true
+      by true true n f = refl
+      by true false n f = cc
+      by false z n f = unless (rule_conflicts conflicts x.rule r) (λ c.
           let wider = wider_rule_conflicts laws g.rule r x.rule h (sym (rule_conflicts_back laws x.rule r) ∙ c) in
           never (sym wider ∙ not_false (rule_conflicts conflicts g.rule x.rule) f))
 
-    each_after : (k : ℕ) (r : List A) (g : Held A) → g.holder ≡ k → rule_contains contains g.rule r ≡ true → (xs : List (Held A)) → AllByRecursion (λ x. is_outer k x ≡ false) xs → AllByRecursion (λ x. fits contains conflicts g x ≡ true) xs → AllByRecursion (λ x. fits contains conflicts x (record { holder = k; rule = r }) ≡ true) xs
-    each_after k r g e h [] n f = tt
-    each_after k r g e h (x ∷ xs) n f = (fits_after k r g x e h n.0 f.0, each_after k r g e h xs n.1 f.1)
+  each_after : (k : ℕ) (r : List A) (g : Held A) → g.holder ≡ k → rule_contains contains g.rule r ≡ true → (xs : List (Held A)) → AllByRecursion (λ x. is_outer k x ≡ false) xs → AllByRecursion (λ x. fits contains conflicts g x ≡ true) xs → AllByRecursion (λ x. fits contains conflicts x (record { holder = k; rule = r }) ≡ true) xs
+  each_after k r g e h [] n f = tt
+  each_after k r g e h (x ∷ xs) n f = (fits_after k r g x e h n.0 f.0, each_after k r g e h xs n.1 f.1)
 
-    holder_is : (k : ℕ) (g : Held A) → is_outer k g ≡ true → g.holder ≡ k
-    holder_is k g h = let parts = both (g.holder == k) (not (is_null g.rule)) h in grind (arith, nat_tests)
+  holder_is : (k : ℕ) (g : Held A) → is_outer k g ≡ true → g.holder ≡ k
+  holder_is k g h = let parts = both (g.holder == k) (not (is_null g.rule)) h in grind (arith, nat_tests)
 
-    fits_itself : (k : ℕ) (r : List A) (g : Held A) → g.holder ≡ k → rule_contains contains g.rule r ≡ true → fits contains conflicts g (record { holder = k; rule = r }) ≡ true
-    fits_itself k r g e h =
+  fits_itself : (k : ℕ) (r : List A) (g : Held A) → g.holder ≡ k → rule_contains contains g.rule r ≡ true → fits contains conflicts g (record { holder = k; rule = r }) ≡ true
+  fits_itself k r g e h =
       let same : (g.holder == k) ≡ true = grind (arith, nat_tests) in
       (λ i. cond (same i) (is_null g.rule || rule_contains contains g.rule r) (not (rule_conflicts conflicts g.rule r))) ∙ by (is_null g.rule)
-      where
-        by : (z : Bool) → (z || rule_contains contains g.rule r) ≡ true
-        by true = refl
-        by false = h
+    where
+      by : (z : Bool) → (z || rule_contains contains g.rule r) ≡ true
+      by true = refl
+      by false = h
 
-    -- a holder begins one within its topmost rule that isn't null
-    pub fits_within : (k : ℕ) (r : List A) (xs : List (Held A)) (g : Held A) → IsApart contains conflicts xs → newest (is_outer k) xs ≡ Some g → rule_contains contains g.rule r ≡ true → AllByRecursion (λ x. fits contains conflicts x (record { holder = k; rule = r }) ≡ true) xs
-    fits_within k r [] g f n h = absurd (not_there g n)
-    fits_within k r (x ∷ xs) g f n h = by (newest (is_outer k) xs) refl (fits_within k r xs g f.1)
-      where
-        here : (b : Bool) → is_outer k x ≡ b → cond b (Some x) None ≡ Some g → newest (is_outer k) xs ≡ None → AllByRecursion (λ x. fits contains conflicts x (record { holder = k; rule = r }) ≡ true) (x ∷ xs)
-        here true e s none =
+  -- a holder begins one within its topmost rule that isn't null
+  pub fits_within : (k : ℕ) (r : List A) (xs : List (Held A)) (g : Held A) → IsApart contains conflicts xs → newest (is_outer k) xs ≡ Some g → rule_contains contains g.rule r ≡ true → AllByRecursion (λ x. fits contains conflicts x (record { holder = k; rule = r }) ≡ true) xs
+  fits_within k r [] g f n h = absurd (not_there g n)
+  fits_within k r (x ∷ xs) g f n h = by (newest (is_outer k) xs) refl (fits_within k r xs g f.1)
+    where
+      here : (b : Bool) → is_outer k x ≡ b → cond b (Some x) None ≡ Some g → newest (is_outer k) xs ≡ None → AllByRecursion (λ x. fits contains conflicts x (record { holder = k; rule = r }) ≡ true) (x ∷ xs)
+      here true e s none =
           let same = inside_some x g s in
           let inner : rule_contains contains x.rule r ≡ true = (λ i. rule_contains contains ((same i).rule) r) ∙ h in
           let holder = holder_is k x e in
           (fits_itself k r x holder inner, each_after k r x holder inner xs (none_passes (is_outer k) xs none) f.0)
-        here false e s none = absurd (not_there g s)
+      here false e s none = absurd (not_there g s)
 
-        by : (o : Option (Held A)) → newest (is_outer k) xs ≡ o → (newest (is_outer k) xs ≡ Some g → rule_contains contains g.rule r ≡ true → AllByRecursion (λ x. fits contains conflicts x (record { holder = k; rule = r }) ≡ true) xs) → AllByRecursion (λ x. fits contains conflicts x (record { holder = k; rule = r }) ≡ true) (x ∷ xs)
-        by (Some y) e more =
+      by : (o : Option (Held A)) → newest (is_outer k) xs ≡ o → (newest (is_outer k) xs ≡ Some g → rule_contains contains g.rule r ≡ true → AllByRecursion (λ x. fits contains conflicts x (record { holder = k; rule = r }) ≡ true) xs) → AllByRecursion (λ x. fits contains conflicts x (record { holder = k; rule = r }) ≡ true) (x ∷ xs)
+      by (Some y) e more =
           let found : newest (is_outer k) xs ≡ Some g = e ∙ sym (ap (or_before (is_outer k) x) e) ∙ n in
           let g_in = newest_in (is_outer k) xs g found in
           (fits_through k r x g (holder_is k g g_in.1) h (each_at (λ y. fits contains conflicts x y ≡ true) g xs f.0 g_in.0), more found h)
-        by None e more = here (is_outer k x) refl (sym (ap (or_before (is_outer k) x) e) ∙ n) e
+      by None e more = here (is_outer k x) refl (sym (ap (or_before (is_outer k) x) e) ∙ n) e
 
-    pub begun_apart : (k : ℕ) (r : List A) (xs : List (Held A)) → IsApart contains conflicts xs → admits contains conflicts xs k r ≡ true → IsApart contains conflicts (xs ++ record { holder = k; rule = r } ∷ [])
-    begun_apart k r xs f h = by (newest (is_outer k) xs) refl h
-      where
-        by : (o : Option (Held A)) → newest (is_outer k) xs ≡ o → admits_under contains conflicts xs r (option_map (λ held. held.rule) o) ≡ true → IsApart contains conflicts (xs ++ record { holder = k; rule = r } ∷ [])
-        by None e h = pairs_push (λ earlier later. fits contains conflicts earlier later ≡ true) xs (record { holder = k; rule = r }) f (fits_alone k r xs e h)
-        by (Some g) e h = pairs_push (λ earlier later. fits contains conflicts earlier later ≡ true) xs (record { holder = k; rule = r }) f (fits_within k r xs g f e h)
+  pub begun_apart : (k : ℕ) (r : List A) (xs : List (Held A)) → IsApart contains conflicts xs → admits contains conflicts xs k r ≡ true → IsApart contains conflicts (xs ++ record { holder = k; rule = r } ∷ [])
+  begun_apart k r xs f h = by (newest (is_outer k) xs) refl h
+    where
+      by : (o : Option (Held A)) → newest (is_outer k) xs ≡ o → admits_under contains conflicts xs r (option_map (λ held. held.rule) o) ≡ true → IsApart contains conflicts (xs ++ record { holder = k; rule = r } ∷ [])
+      by None e h = pairs_push (λ earlier later. fits contains conflicts earlier later ≡ true) xs (record { holder = k; rule = r }) f (fits_alone k r xs e h)
+      by (Some g) e h = pairs_push (λ earlier later. fits contains conflicts earlier later ≡ true) xs (record { holder = k; rule = r }) f (fits_within k r xs g f e h)
 
 -- a holder without a last rule has none
 pub none_of : {A : Type 0} (k : ℕ) (xs : List (Held A)) → last_rule k xs ≡ None → AllByRecursion (λ x. is_of k x ≡ false) xs

@@ -124,7 +124,7 @@ removed_at k xs (suc n) x l w e f h =
     let here : get_or xs n x ≡ x = sym (e ∙ ap (λ m. get_or xs m x) back) in
     ap (remove xs) back
     ∙ sym (stays_is k xs n x inside h
-      ∙ ap (λ b. cond b (take n xs) (without_last k (take n xs) ++ get_or xs n x ∷ []) ++ drop (suc n) xs) (ap (is_of k) here ∙ f))
+    ∙ ap (λ b. cond b (take n xs) (without_last k (take n xs) ++ get_or xs n x ∷ []) ++ drop (suc n) xs) (ap (is_of k) here ∙ f))
 
 -- ---- what a comparison of holders says
 

@@ -64,7 +64,11 @@ pub fn first_conflict<'a, A: Atom>(all: &'a [Held<A>], rule: &Rule<A>) -> Option
 }
 
 /// What was found, or the next one where it conflicts and has a lower holder or nothing was found.
-fn with_next<'a, A: Atom>(found: Option<&'a Held<A>>, next: &'a Held<A>, rule: &Rule<A>) -> Option<&'a Held<A>>
+fn with_next<'a, A: Atom>(
+    found: Option<&'a Held<A>>,
+    next: &'a Held<A>,
+    rule: &Rule<A>,
+) -> Option<&'a Held<A>>
     ensures { option_copied result ≡ (if rule_conflicts A.conflicts next.now.rule rule.now
         then lower_than_found (option_copied found.entry) next.now else option_copied found.entry) }
 {

@@ -1,4 +1,6 @@
 //! The table over the workspace's atoms, and over another kind of atom.
+ghost use Rattle.std.specs.Prelude.{◌≡◌, ◌+◌};
+
 use crate::{BeginError, EndError, RuleTable};
 use res_path::Path;
 use sched_rules::{Atom, NoMemory, Rule, WsAtom};
@@ -134,9 +136,23 @@ impl Atom for Interval {
 
     ghost conflicts = { λ a b. nat_le a.start (b.start + b.more) && nat_le b.start (a.start + a.more) };
 
-    ghost lawful = { ? };
+    ghost lawful = { record {
+      contains_itself = λ a. Prim.grind (arith, nat_tests);
+      contains_both = λ a b h g.
+          let start : a.start ≡ b.start = Prim.grind (arith, nat_tests) in
+          let more : a.more ≡ b.more = Prim.grind (arith, nat_tests) in
+          λ i. record { start = start i; more = more i };
+      contains_through = λ a b c h g. Prim.grind (arith, nat_tests);
+      conflicts_itself = λ a. Prim.grind (arith, nat_tests);
+      conflicts_back = λ a b. Prim.grind (arith, nat_tests);
+      contained_conflicts = λ a b h. Prim.grind (arith, nat_tests);
+      wider_conflicts = λ a b c h g. Prim.grind (arith, nat_tests);
+    } };
 
-    ghost exact = { ? };
+    ghost exact = { λ a b h.
+        let start : a.start ≡ b.start = Prim.grind (arith, nat_tests) in
+        let more : a.more ≡ b.more = Prim.grind (arith, nat_tests) in
+        λ i. record { start = start i; more = more i } };
 
     fn contains(&self, other: &Interval) -> bool {
         self.start <= other.start && other.last() <= self.last()
@@ -154,7 +170,7 @@ impl Atom for Interval {
     }
 }
 
-fn interval(rt: &impl Abort, alloc: Global, start: u32, more: u32) -> Rule<Interval> {
+fn span(rt: &impl Abort, alloc: Global, start: u32, more: u32) -> Rule<Interval> {
     Rule::of(alloc, Interval { start, more }).expect(rt, "a rule")
 }
 
@@ -162,19 +178,19 @@ fn interval(rt: &impl Abort, alloc: Global, start: u32, more: u32) -> Rule<Inter
 fn the_table_keeps_intervals_apart_too(rt: HostRuntime) {
     let alloc = rt.alloc();
     let mut table = RuleTable::empty(alloc);
-    begin(&rt, &mut table, 1, interval(&rt, alloc, 0, 9));
-    begin(&rt, &mut table, 2, interval(&rt, alloc, 10, 2));
-    begin(&rt, &mut table, 1, interval(&rt, alloc, 3, 1));
-    let refused = table.begin(3, interval(&rt, alloc, 5, 10)).err();
-    let rule = interval(&rt, alloc, 0, 9);
+    begin(&rt, &mut table, 1, span(&rt, alloc, 0, 9));
+    begin(&rt, &mut table, 2, span(&rt, alloc, 10, 2));
+    begin(&rt, &mut table, 1, span(&rt, alloc, 3, 1));
+    let refused = table.begin(3, span(&rt, alloc, 5, 10)).err();
+    let rule = span(&rt, alloc, 0, 9);
     assert!(rt; refused == Some(BeginError::Conflict { holder: 1, rule }));
-    let refused = table.begin(1, interval(&rt, alloc, 4, 1)).err();
-    let outer = interval(&rt, alloc, 3, 1);
+    let refused = table.begin(1, span(&rt, alloc, 4, 1)).err();
+    let outer = span(&rt, alloc, 3, 1);
     assert!(rt; refused == Some(BeginError::NotContained { outer }));
-    assert!(rt; table.end(1, &interval(&rt, alloc, 3, 1)) == Ok(()));
+    assert!(rt; table.end(1, &span(&rt, alloc, 3, 1)) == Ok(()));
     assert!(rt; table.transfer(1, 4) == Ok(()));
-    assert!(rt; table.last(4) == Some(&interval(&rt, alloc, 0, 9)));
+    assert!(rt; table.last(4) == Some(&span(&rt, alloc, 0, 9)));
     table.drop_all(2);
-    assert!(rt; table.is_free(&interval(&rt, alloc, 10, 0)));
-    assert!(rt; !table.is_free(&interval(&rt, alloc, 9, 0)));
+    assert!(rt; table.is_free(&span(&rt, alloc, 10, 0)));
+    assert!(rt; !table.is_free(&span(&rt, alloc, 9, 0)));
 }

@@ -14,9 +14,9 @@ loop-at-preserved g c =
 pub returns-then-all-at-clause-entry : goal.returns-then-all-at-clause-entry
 returns-then-all-at-clause-entry g c = λ d.
     found_at (is_of c.args.holder) c.args.all.now c.loop-at.at c.index-all-at.result d c.loop-at-test.true c.index-all-at.is
-      (is_his c.args.holder c.index-all-at.result _ c.index-all-at.is c.if-all-at.true) c.loop-at.invariant.none
+    (is_his c.args.holder c.index-all-at.result _ c.index-all-at.is c.if-all-at.true) c.loop-at.invariant.none
 
 pub returns-then-all-at-clause-removed : goal.returns-then-all-at-clause-removed
 returns-then-all-at-clause-removed g c =
     removed_at c.args.holder c.args.all.now c.loop-at.at c.index-all-at.result c.loop-at-test.true c.loop-at.invariant.none.within c.index-all-at.is
-      (is_his c.args.holder c.index-all-at.result _ c.index-all-at.is c.if-all-at.true) c.loop-at.invariant.stays
+    (is_his c.args.holder c.index-all-at.result _ c.index-all-at.is c.if-all-at.true) c.loop-at.invariant.stays

@@ -6,7 +6,7 @@ use Rattle.rule_table.proofs.table.RuleTable.drop_all.Goals as goal
 pub invariant_of-self : goal.invariant_of-self
 invariant_of-self g c =
     subst (IsApart g.A.Atom.contains g.A.Atom.conflicts) (sym c.drop_all.ensures)
-      (pairs_filter (λ earlier later. fits g.A.Atom.contains g.A.Atom.conflicts earlier later ≡ true) (λ held. not (is_of c.args.holder held)) c.self.inside.held.items c.self.invariant)
+    (pairs_filter (λ earlier later. fits g.A.Atom.contains g.A.Atom.conflicts earlier later ≡ true) (λ held. not (is_of c.args.holder held)) c.self.inside.held.items c.self.invariant)
 
 pub returns-clause-apart : goal.returns-clause-apart
 returns-clause-apart g c = invariant_of-self g c

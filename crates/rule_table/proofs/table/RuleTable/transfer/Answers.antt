@@ -17,7 +17,7 @@ invariant_of-self g c =
     let all = c.self.inside.held.items in
     let none : last_rule c.args.to all ≡ None = ap (last_rule c.args.to) c.self.view_is ∙ sym c.last-2.ensures ∙ none_lent c.last-2.result c.if-is_some.ensures in
     subst (IsApart g.A.Atom.contains g.A.Atom.conflicts) (sym (returns-clause-moved g c ∙ ap (moved c.args.from c.args.to) (sym c.self.view_is)))
-      (apart_moved g.A.Atom.contains g.A.Atom.conflicts c.args.from c.args.to all (none_of c.args.to all none) c.self.invariant)
+    (apart_moved g.A.Atom.contains g.A.Atom.conflicts c.args.from c.args.to all (none_of c.args.to all none) c.self.invariant)
 
 pub returns-clause-apart : goal.returns-clause-apart
 returns-clause-apart g c = invariant_of-self g c
