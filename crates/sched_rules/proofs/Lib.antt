@@ -1,0 +1,4 @@
+pub mod Members
+pub mod RuleLaws
+pub mod Placing
+pub mod Combining
