@@ -71,7 +71,8 @@ admits contains conflicts all holder rule = admits_under contains conflicts all 
 -- without the rule that this holder began last
 abbrev pub without_last : {A : Type 0} → ℕ → List (Held A) → List (Held A)
 without_last holder [] = []
-without_last holder (held ∷ all) = if is_of holder held && not (list_any (is_of holder) all) then all else held ∷ without_last holder all
+without_last holder (held ∷ all) =
+    if is_of holder held && not (list_any (is_of holder) all) then all else held ∷ without_last holder all
 
 -- a rule, in the hands of another holder where the one has it
 abbrev pub handed : {A : Type 0} → ℕ → ℕ → Held A → Held A
@@ -85,9 +86,12 @@ moved from to all = map (handed from to) all
 abbrev pub without : {A : Type 0} → ℕ → List (Held A) → List (Held A)
 without holder all = filter (λ held. not (is_of holder held)) all
 
--- a rule beside one that was begun before it: within it where they have one holder and that isn't null, in no conflict with it where they have two
+-- a rule beside one that was begun before it: where they have one holder, within it unless that one is null; where they
+-- have two, in no conflict with it
 abbrev pub fits : {A : Type 0} → (A → A → Bool) → (A → A → Bool) → Held A → Held A → Bool
-fits contains conflicts earlier later = if earlier.holder == later.holder then is_null earlier.rule || rule_contains contains earlier.rule later.rule else not (rule_conflicts conflicts earlier.rule later.rule)
+fits contains conflicts earlier later =
+    if earlier.holder == later.holder then is_null earlier.rule || rule_contains contains earlier.rule later.rule
+    else not (rule_conflicts conflicts earlier.rule later.rule)
 
 -- each rule is within each non-null one that its holder began before, and no rules of two holders conflict
 abbrev pub IsApart : {A : Type 0} → (A → A → Bool) → (A → A → Bool) → List (Held A) → Type 0

@@ -11,7 +11,8 @@ use sched_rules::{Atom, Rule};
 pub fn last_place<A: Atom>(all: &[Held<A>], holder: u64) -> Option<usize>
     ensures none { IfNone result (newest (is_of holder) all.now ≡ None) }
     ensures within { IfSome result (λ at. at < length all.now) }
-    ensures entry { IfSome result (λ at. (d : Held A) → newest (is_of holder) all.now ≡ Some (slice_index_or all.now at d)) }
+    ensures entry { IfSome result (λ at. (d : Held A)
+        → newest (is_of holder) all.now ≡ Some (slice_index_or all.now at d)) }
     ensures removed { IfSome result (λ at. remove all.now at ≡ without_last holder all.now) }
 {
     let mut at = all.len();

@@ -66,12 +66,14 @@ impl<A: Atom> RuleTable<A> {
 
     /// Puts the rule on top of those of the holder. Refused with `NotContained` where the topmost rule of the holder
     /// that isn't null doesn't contain it, and with `Conflict` where the holder has none such and another holder's rule
-    /// conflicts with it. So a holder of a non-null rule never meets a conflict, and the null rule is never refused.
+    /// conflicts with it. So a holder of a non-null rule never meets a conflict, and the null rule is never refused. A
+    /// refused rule is let go.
     pub fn begin(&mut self, holder: u64, rule: Rule<A>) -> Result<(), BeginError<A>>
         ensures begun { OnOk result (self.new ≡ self.old ++ record { holder = holder; rule = rule } ∷ []) }
         ensures admitted { OnOk result (IsTrue (admits A.contains A.conflicts self.old holder rule)) }
         ensures refused { IfErr result (λ e. RefusesBegin A.contains A.conflicts self.old holder rule e) }
-        ensures inner { IsSome (outer_rule holder self.old) → (other : ℕ) (held : List A) → result ≢ Err (BeginError.Conflict other held) }
+        ensures inner { IsSome (outer_rule holder self.old) → (other : ℕ) (held : List A)
+            → result ≢ Err (BeginError.Conflict other held) }
         ensures same { OnErr result (self.new ≡ self.old) }
         ensures apart { IsApart A.contains A.conflicts self.new }
     {
@@ -91,8 +93,8 @@ impl<A: Atom> RuleTable<A> {
         }
     }
 
-    /// Takes the rule from the top of those of the holder. Refused with `HoldsNothing` where the holder has no rule, and
-    /// with `NotLast` where it began another one last.
+    /// Takes the rule from the top of those of the holder. Refused with `HoldsNothing` where the holder has no rule,
+    /// else with `NotLast` where it began another one last. Takes no memory.
     pub fn end(&mut self, holder: u64, rule: &Rule<A>) -> Result<(), EndError>
         ensures ended { OnOk result (self.new ≡ without_last holder self.old) }
         ensures last { OnOk result (last_rule holder self.old ≡ Some rule.now) }
@@ -111,8 +113,8 @@ impl<A: Atom> RuleTable<A> {
         Err(EndError::NotLast { held })
     }
 
-    /// Hands all rules of one holder over to another. Refused with `HoldsNothing` where the one has no rule, and with
-    /// `TargetHolds` where the other has one.
+    /// Hands all rules of one holder over to another. Refused with `HoldsNothing` where the one has no rule, else with
+    /// `TargetHolds` where the other has one. Takes no memory.
     pub fn transfer(&mut self, from: u64, to: u64) -> Result<(), EndError>
         ensures moved { OnOk result (self.new ≡ moved from to self.old) }
         ensures holds { OnOk result (IsSome (last_rule from self.old) × (last_rule to self.old ≡ None)) }
@@ -130,7 +132,7 @@ impl<A: Atom> RuleTable<A> {
         Ok(())
     }
 
-    /// Takes all rules of the holder away.
+    /// Takes all rules of the holder away. Takes no memory.
     pub fn drop_all(&mut self, holder: u64)
         ensures dropped { self.new ≡ without holder self.old }
         ensures apart { IsApart A.contains A.conflicts self.new }
@@ -161,7 +163,8 @@ fn copies<A: Atom>(alloc: Global, all: &[Held<A>]) -> Result<Vec<Held<A>>, NoMem
 /// Whether the topmost rule of a holder that isn't null contains the new one.
 fn within<A: Atom>(outer: &Rule<A>, rule: &Rule<A>) -> Result<(), BeginError<A>>
     ensures admitted { OnOk result (rule_contains A.contains outer.now rule.now ≡ true) }
-    ensures refused { IfErr result (λ e. (e ≡ BeginError.Memory) ⊎ ((e ≡ BeginError.NotContained outer.now) × (rule_contains A.contains outer.now rule.now ≡ false))) }
+    ensures refused { IfErr result (λ e. (e ≡ BeginError.Memory)
+        ⊎ ((e ≡ BeginError.NotContained outer.now) × (rule_contains A.contains outer.now rule.now ≡ false))) }
 {
     if outer.contains(rule) {
         return Ok(());
@@ -174,7 +177,8 @@ fn within<A: Atom>(outer: &Rule<A>, rule: &Rule<A>) -> Result<(), BeginError<A>>
 /// Whether no held rule conflicts with the new one.
 fn alone<A: Atom>(all: &[Held<A>], rule: &Rule<A>) -> Result<(), BeginError<A>>
     ensures admitted { OnOk result (is_free A.conflicts all.now rule.now ≡ true) }
-    ensures refused { IfErr result (λ e. (e ≡ BeginError.Memory) ⊎ IsSomeAnd (first_conflict A.conflicts all.now rule.now) (λ held. e ≡ BeginError.Conflict held.holder held.rule)) }
+    ensures refused { IfErr result (λ e. (e ≡ BeginError.Memory)
+        ⊎ IsSomeAnd (first_conflict A.conflicts all.now rule.now) (λ held. e ≡ BeginError.Conflict held.holder held.rule)) }
 {
     match search::first_conflict(all, rule) {
         None => Ok(()),

@@ -2,7 +2,7 @@
 ghost use Rattle.std.specs.Prelude.{◌≡◌, ◌+◌};
 
 use crate::{BeginError, EndError, RuleTable};
-use res_path::Path;
+use res_path::{Name, Path};
 use sched_rules::{Atom, NoMemory, Rule, WsAtom};
 use std::alloc::Global;
 use std::process::Abort;
@@ -15,6 +15,11 @@ fn path(rt: &impl Abort, alloc: Global, text: &str) -> Rule<WsAtom> {
 
 fn paths(rt: &impl Abort, alloc: Global, one: &str, two: &str) -> Rule<WsAtom> {
     Rule::combine(alloc, &path(rt, alloc, one), &path(rt, alloc, two)).expect(rt, "a rule")
+}
+
+fn mutex(rt: &impl Abort, alloc: Global, text: &str) -> Rule<WsAtom> {
+    let name = Name::parse(alloc, text).expect(rt, "a name");
+    Rule::of(alloc, WsAtom::Mutex(name)).expect(rt, "a rule")
 }
 
 fn begin<A: Atom>(rt: &impl Abort, table: &mut RuleTable<A>, holder: u64, rule: Rule<A>) {
@@ -49,6 +54,16 @@ fn an_inner_rule_has_to_be_within_the_outer_one(rt: HostRuntime) {
     assert!(rt; table.end(1, &paths(&rt, alloc, "/P/a", "/R/b")) == Ok(()));
     assert!(rt; table.end(1, &paths(&rt, alloc, "/P", "/R")) == Ok(()));
     assert!(rt; table.last(1).is_none());
+}
+
+#[test]
+fn who_holds_a_mutex_has_no_path(rt: HostRuntime) {
+    let alloc = rt.alloc();
+    let mut table = RuleTable::empty(alloc);
+    begin(&rt, &mut table, 1, mutex(&rt, alloc, "m"));
+    let refused = table.begin(1, path(&rt, alloc, "/Q/x")).err();
+    let outer = mutex(&rt, alloc, "m");
+    assert!(rt; refused == Some(BeginError::NotContained { outer }));
 }
 
 #[test]

@@ -1,4 +1,3 @@
-use Rattle.std.proofs.Common.{◌≡◌}
 use Rattle.std.specs.Prelude.{option_copied}
 use Rattle.sched_rules.specs.Rules.{rule_conflicts}
 use Rattle.rule_table.proofs.Lowest.{found_next}

@@ -1,4 +1,4 @@
-use Rattle.std.proofs.Common.{◌≡◌, false, true}
+use Rattle.std.proofs.Common.{◌≡◌, false}
 use Rattle.rule_table.specs.Tables.{is_of}
 use Rattle.rule_table.proofs.Newest.{none_more, stays_more, found_at, removed_at, is_his, is_not_his}
 use Rattle.rule_table.proofs.search.last_place.Goals as goal

@@ -1,4 +1,4 @@
-use Rattle.std.proofs.Common.{◌≡◌, ◌∙◌, sym, ap, set}
+use Rattle.std.proofs.Common.{◌∙◌, sym, ap, set}
 use Rattle.std.proofs.lemmas.List.Edits.{map_over_more}
 use Rattle.rule_table.specs.Tables.{handed}
 use Rattle.rule_table.proofs.search.move_all.Goals as goal

@@ -1,4 +1,4 @@
-use Rattle.std.proofs.Common.{◌≡◌, ◌∙◌, sym, ap}
+use Rattle.std.proofs.Common.{◌∙◌, sym}
 use Rattle.rule_table.specs.Tables.{is_outer}
 use Rattle.rule_table.proofs.Newest.{none_more, found_here}
 use Rattle.rule_table.proofs.search.outer.Goals as goal

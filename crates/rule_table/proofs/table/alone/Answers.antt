@@ -1,4 +1,4 @@
-use Rattle.std.proofs.Common.{◌≡◌, sym}
+use Rattle.std.proofs.Common.{sym}
 use Rattle.sched_rules.specs.Rules.{rule_conflicts}
 use Rattle.rule_table.proofs.Lowest.{none_found}
 use Rattle.rule_table.proofs.table.alone.Goals as goal

@@ -1,4 +1,4 @@
-use Rattle.std.proofs.Common.{◌≡◌, ◌∙◌, sym, ap, subst, true, false, arith, Option, Some, None, Bor, refl}
+use Rattle.std.proofs.Common.{◌≡◌, ◌∙◌, sym, ap, subst, false, arith, Option, Some, None, Bor, refl}
 use Rattle.std.specs.Prelude.{option_copied, is_some}
 use Rattle.std.proofs.lemmas.Grind.{common_steps}
 use Rattle.rule_table.specs.Tables.{IsApart, last_rule, moved}
