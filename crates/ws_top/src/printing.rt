@@ -1,5 +1,5 @@
 //! The report of a run is written to a sink, gathered in pieces.
-ghost use Rattle.std.specs.Prelude.{◌≡◌, ◌++◌, [], codes, OnOk, OnErr, Err};
+ghost use Rattle.std.specs.Prelude.{◌≡◌, ◌<◌, ◌++◌, [], length, codes, OnOk, OnErr, Err};
 ghost use Rattle.std.specs.Option.{option_copied};
 ghost use Rattle.ws_outside.specs.Faults.{Rose};
 ghost use Rattle.ws_outside.specs.Streams.{Gains, GainsFront};
@@ -21,10 +21,12 @@ const PIECE: usize = 65_536;
 /// Writes what was gathered, where that is a piece.
 #[tactic(auto, using(crate::proofs::Printed::prints_none, crate::proofs::Printed::prints_all, crate::proofs::Printed::some_of))]
 fn print_gathered<K: Sink>(sink: &mut K, out: &mut Vec<u8>) -> Result<(), Unwritten>
-    ensures printed { OnOk result (Prints (K.written sink.old) (K.written sink.new) out.old.items ([]) out.new.items) }
-    ensures some { OnErr result (PrintsSome (K.written sink.old) (K.written sink.new) out.old.items ([])) }
+    ensures printed { OnOk result (Prints (K.written sink.old) (K.written sink.new) out.old.items [] out.new.items) }
+    ensures some { OnErr result (PrintsSome (K.written sink.old) (K.written sink.new) out.old.items []) }
     ensures fault { result ≡ Err Unwritten.Fault → Rose (K.faults sink.old) (K.faults sink.new) }
     ensures calm { OnOk result (K.faults sink.new ≡ K.faults sink.old) }
+    // less than a piece is left to wait
+    ensures little { OnOk result (length out.new.items < 65536) }
 {
     if out.len() < PIECE {
         return Ok(());
@@ -38,8 +40,8 @@ fn print_gathered<K: Sink>(sink: &mut K, out: &mut Vec<u8>) -> Result<(), Unwrit
 /// Prints a text.
 #[tactic(auto, using(crate::proofs::Printed::some_none, crate::proofs::Printed::prints_after, crate::proofs::Printed::some_after))]
 fn print_text<K: Sink>(sink: &mut K, out: &mut Vec<u8>, text: &str) -> Result<(), Unwritten>
-    ensures printed { OnOk result (Prints (K.written sink.old) (K.written sink.new) out.old.items (text.now) out.new.items) }
-    ensures some { OnErr result (PrintsSome (K.written sink.old) (K.written sink.new) out.old.items (text.now)) }
+    ensures printed { OnOk result (Prints (K.written sink.old) (K.written sink.new) out.old.items text.now out.new.items) }
+    ensures some { OnErr result (PrintsSome (K.written sink.old) (K.written sink.new) out.old.items text.now) }
     ensures fault { result ≡ Err Unwritten.Fault → Rose (K.faults sink.old) (K.faults sink.new) }
     ensures calm { OnOk result (K.faults sink.new ≡ K.faults sink.old) }
 {
