@@ -2,4 +2,8 @@ pub mod Rising
 pub mod Merged
 pub mod Above
 pub mod Told
+pub mod Firsts
+pub mod Moved
+pub mod Table
 pub mod Same
+pub mod Elsewhere

@@ -2,11 +2,11 @@
 use Rattle.std.proofs.Common.{◌≡◌, ◌↔◌, ℕ, Bool, true, false, cond, not, ◌&&◌, ◌||◌, List, [], ◌∷◌, ◌++◌, length, map, refl, sym, ap, ◌∙◌, arith, rules, ◌+◌}
 use Rattle.std.specs.Prelude.{Option, Some, None, is_some, ◌==◌}
 use Rattle.std.specs.Bool.{beq}
+use Rattle.std.specs.Option.{option_and_then}
 use Rattle.std.specs.FinMap.{empty, get, entries, keys, find, get-empty, get-entries, same_map, contains_key-keys, len-empty, len-entries}
 use Rattle.std.specs.FinMap.Entries.{is_some-find}
 use Rattle.std.specs.Cmp.Lexicographic.{bytes_decides}
 use Rattle.std.proofs.lemmas.Grind.{common_steps}
-use Rattle.std.proofs.lemmas.Bool.Decides.{nat_tests}
 use Rattle.std.specs.List.{list_any}
 use Rattle.std.specs.Ordering.{eq_by_cmp, is_eq}
 use Rattle.std.proofs.lemmas.List.Folds.{list_any-append}
@@ -14,16 +14,20 @@ use Rattle.res_path.specs.Paths.{Names, path_cmp, path_eq, is_prefix}
 use Rattle.res_path.specs.PathLaws.{path_cmp_total, path_ties}
 use Rattle.res_path.proofs.Prefixes.{path_cmp_exact, path_itself}
 use Rattle.ws_elem.specs.declared.element.Element.{Element}
-use Rattle.ws_elem.specs.Kinds.{is_file, is_project}
+use Rattle.ws_elem.specs.Kinds.{kind_number, is_file, is_project}
 use Rattle.ws_elem.specs.Trees.{Tree}
 use Rattle.ws_elem.proofs.Cuts.{any_filter, same_at}
 use Rattle.delta_kind.specs.declared.node.DeltaNode.{DeltaNode}
-use Rattle.delta_kind.specs.Flags.{flag_if, flags_of, differs}
-use Rattle.delta_kind.specs.declared.flags.TheConstants.{CONTENT, OPEN, REPLACED}
-use Rattle.delta_kind.specs.Deltas.{node_of, node_at, changed, with_above, delta, paths_of}
-use Rattle.delta_kind.specs.Rows.{Rows, Sides, row_paths, delta_of_rows}
+use Rattle.delta_kind.specs.Flags.{flag_if, moved_flags, differs}
+use Rattle.delta_kind.specs.Moves.{lost, place_of}
+use Rattle.delta_kind.specs.declared.flags.TheConstants.{CONTENT, OPEN, TYPE, REPLACED, DESCRIPTION, DERIVED_CHANGED}
+use Rattle.delta_kind.specs.declared.row.Turn.TheVariants.{Lost, Gained}
+use Rattle.delta_kind.specs.Deltas.{node_at, changed, with_above, delta, paths_of, InPathOrder}
+use Rattle.delta_kind.specs.Rows.{Rows, Sides, row_paths, place_in, node_by, delta_of_rows}
 use Rattle.delta_kind.proofs.Merged.{RowsOf}
-use Rattle.delta_kind.proofs.Told.{above_set, get-above_set, node_by, node_in}
+use Rattle.delta_kind.proofs.Told.{above_set, get-above_set, node_found, node_in}
+use Rattle.delta_kind.proofs.Moved.{no_flags, none_lost, none_gained, losers_are, gainers_are}
+use Rattle.delta_kind.proofs.Rising.{Rises, sorted_rises}
 
 -- ---- tests of all paths of a list
 
@@ -92,30 +96,31 @@ same_above a b rows h = ap keys (same_map path_cmp_total path_cmp_exact (above_s
     ∙ sym (get-above_set (changed a b) q)))
 
 -- a path that doesn't differ has the node of one that is not there
-idle_node : (p : Names) (x y : Option Element) → differs x y ≡ false → node_of p None None ≡ node_of p x y
-idle_node p None None h = refl
-idle_node p None (Some b) h = cc
-idle_node p (Some a) None h = cc
-idle_node p (Some a) (Some b) h = ap (λ (flags : ℕ). record { path = p; kind = 4; flags = flags }) (sym (zero (flags_of (Some a) (Some b)) h))
-  where
-    zero : (n : ℕ) → not (n == 0) ≡ false → n ≡ 0
-    zero n h = grind (arith, nat_tests)
+idle_node : (f g : ℕ → Option Names) (p : Names) (x y : Option Element) → differs x y ≡ false → node_by f g p (None, None) ≡ node_by f g p (x, y)
+idle_node f g p None None h = refl
+idle_node f g p None (Some b) h = cc
+idle_node f g p (Some a) None h = cc
+idle_node f g p (Some a) (Some b) h =
+    let from : option_and_then f (lost (Some b) (Some a)) ≡ None = ap (option_and_then f) (none_gained (Some a) (Some b) h) in
+    let to : option_and_then g (lost (Some a) (Some b)) ≡ None = ap (option_and_then g) (none_lost (Some a) (Some b) h) in
+    λ i. record { path = p; kind = 4; flags = sym (no_flags a b h) i + moved_flags (sym from i) (sym to i); moved_from = sym from i; moved_to = sym to i }
 
-node_there : (a b : Tree) (rows : Rows) → RowsOf a b rows → (p : Names) → node_in rows p ≡ node_at a b p
-node_there a b rows h p = ap (node_by p) (h p) ∙ by (differs (get a p) (get b p)) refl
+node_there : (a b : Tree) (rows : Rows) → RowsOf a b rows → Rises None (row_paths rows) → (p : Names) → node_in (place_in Lost rows) (place_in Gained rows) rows p ≡ node_at a b p
+node_there a b rows h up p =
+    (λ i. node_found (λ n. losers_are a b rows h up n i) (λ n. gainers_are a b rows h up n i) p (h p i)) ∙ by (differs (get a p) (get b p)) refl
   where
-    by : (c : Bool) → differs (get a p) (get b p) ≡ c → node_by p (cond c (Some (get a p, get b p)) None) ≡ node_at a b p
+    by : (c : Bool) → differs (get a p) (get b p) ≡ c → node_found (place_of a b) (place_of b a) p (cond c (Some (get a p, get b p)) None) ≡ node_at a b p
     by true e = refl
-    by false e = idle_node p (get a p) (get b p) e
+    by false e = idle_node (place_of a b) (place_of b a) p (get a p) (get b p) e
 
 map_same : (f g : Names → DeltaNode) → ((p : Names) → f p ≡ g p) → (ps : List Names) → map f ps ≡ map g ps
 map_same f g h [] = refl
 map_same f g h (p ∷ ps) = λ i. h p i ∷ map_same f g h ps i
 
 -- the delta of the rows of two trees is that of the trees
-pub rows_delta : (a b : Tree) (rows : Rows) → RowsOf a b rows → delta_of_rows rows ≡ delta a b
-rows_delta a b rows h =
-    map_same (node_in rows) (node_at a b) (node_there a b rows h) (with_above (row_paths rows))
+pub rows_delta : (a b : Tree) (rows : Rows) → RowsOf a b rows → InPathOrder (row_paths rows) → delta_of_rows rows ≡ delta a b
+rows_delta a b rows h order =
+    map_same (node_in (place_in Lost rows) (place_in Gained rows) rows) (node_at a b) (node_there a b rows h (sorted_rises (row_paths rows) order)) (with_above (row_paths rows))
     ∙ ap (map (node_at a b)) (same_above a b rows h)
 
 -- ---- which paths a delta tells
@@ -196,7 +201,10 @@ pub differs_same : (x : Option Element) → differs x x ≡ false
 differs_same None = refl
 differs_same (Some e) = λ i. not (flag_if CONTENT (idle (is_file e.kind) (e.stamp == e.stamp) (equal_numbers e.stamp) i)
     + flag_if OPEN (idle (is_project e.kind) (beq e.opened e.opened) (equal_bools e.opened) i)
-    + flag_if REPLACED (ap not (equal_numbers e.node) i) == 0)
+    + flag_if TYPE (ap not (equal_numbers (kind_number e.kind)) i)
+    + flag_if REPLACED (ap not (equal_numbers e.node) i)
+    + flag_if DESCRIPTION (idle (is_project e.kind) (e.desc_stamp == e.desc_stamp) (equal_numbers e.desc_stamp) i)
+    + flag_if DERIVED_CHANGED (ap not (equal_bools e.derived) i) == 0)
 
 pub tells_no_change : (a b : Tree) → a ≡ b → delta a b ≡ []
 tells_no_change a b h = nothing_told a b (λ p. ap (λ t. differs (get a p) (get t p)) (sym h) ∙ differs_same (get a p))

@@ -1,5 +1,5 @@
 -- The paths that one pass over rows tells.
-use Rattle.std.proofs.Common.{◌≡◌, Bool, true, false, cond, not, ◌&&◌, ◌||◌, List, [], ◌∷◌, ◌++◌, map, refl, sym, ap, ◌∙◌, subst}
+use Rattle.std.proofs.Common.{◌≡◌, ℕ, Bool, true, false, cond, not, ◌&&◌, ◌||◌, List, [], ◌∷◌, ◌++◌, map, refl, sym, ap, ◌∙◌, subst}
 use Rattle.std.specs.Prelude.{Option, Some, None, filter, unwrap_or}
 use Rattle.std.specs.declared.cmp.Ordering.{Ordering}
 use Rattle.std.specs.declared.cmp.Ordering.TheVariants.{Less, Equal, Greater}
@@ -11,10 +11,11 @@ use Rattle.res_path.specs.Paths.{Names, path_cmp, is_prefix}
 use Rattle.res_path.specs.PathLaws.{path_cmp_total}
 use Rattle.res_path.proofs.Prefixes.{path_cmp_exact, path_itself, prefix_between}
 use Rattle.ws_elem.proofs.Cuts.{any_filter}
-use Rattle.ws_elem.proofs.Entries.{keys_is}
+use Rattle.ws_elem.proofs.Ordered.{keys_is}
 use Rattle.delta_kind.specs.declared.node.DeltaNode.{DeltaNode}
-use Rattle.delta_kind.specs.Deltas.{node_of, above, put_paths, with_above, paths_of, InPathOrder}
-use Rattle.delta_kind.specs.Rows.{Rows, Sides, row_paths, delta_of_rows, is_above, new_above, untouched, nodes_from}
+use Rattle.delta_kind.specs.Deltas.{above, put_paths, with_above, paths_of, InPathOrder}
+use Rattle.delta_kind.specs.Rows.{Rows, Sides, row_paths, place_in, node_by, delta_of_rows, is_above, new_above, untouched, nodes_from}
+use Rattle.delta_kind.specs.declared.row.Turn.TheVariants.{Lost, Gained}
 use Rattle.delta_kind.proofs.Above.{above_rises, above_less, above_prefix, prefix_is}
 use Rattle.delta_kind.proofs.Rising.{Over, Rises, all_over, rises_sorted, sorted_rises, find_missing}
 
@@ -166,51 +167,55 @@ map_append f [] qs = refl
 map_append f (p ∷ ps) qs = ap (λ ys. f p ∷ ys) (map_append f ps qs)
 
 -- the node of a path, by what was found there
-abbrev pub node_by : Names → Option Sides → DeltaNode
-node_by p found = let s : Sides = unwrap_or found (None, None) in node_of p s.0 s.1
+abbrev pub node_found : (ℕ → Option Names) → (ℕ → Option Names) → Names → Option Sides → DeltaNode
+node_found l g p found = node_by l g p (unwrap_or found (None, None))
 
-abbrev pub node_in : Rows → Names → DeltaNode
-node_in rows p = node_by p (find path_cmp p rows)
-
--- a path below all rows is none of theirs
-node_missing : (rows : Rows) (p : Names) → Rises (Some p) (row_paths rows) → untouched p ≡ node_in rows p
-node_missing rows p h = sym (ap (node_by p) (find_missing p rows h))
+abbrev pub node_in : (ℕ → Option Names) → (ℕ → Option Names) → Rows → Names → DeltaNode
+node_in l g rows p = node_found l g p (find path_cmp p rows)
 
 later_tie : (p q : Names) → path_cmp p q ≡ Less → eq_by_cmp path_cmp q p ≡ false
 later_tie p q h = ap is_eq (path_cmp_total.antisymm q p ∙ ap ordering_reverse h)
 
-pub nodes_told : (rows : Rows) (last : Option Names) → Rises last (row_paths rows) → nodes_from last rows ≡ map (node_in rows) (told_from last (row_paths rows))
-nodes_told [] last h = refl
-nodes_told (r ∷ rows) last h =
-    (λ i. before i ++ here i ∷ after (nodes_told rows (Some r.0) h.1) i) ∙ sym (map_append (node_in (r ∷ rows)) (new_above last r.0) (r.0 ∷ told_from (Some r.0) (row_paths rows)))
-  where
-    before : map untouched (new_above last r.0) ≡ map (node_in (r ∷ rows)) (new_above last r.0)
-    before = map_on untouched (node_in (r ∷ rows)) (new_above last r.0)
-        (all_kept (λ q. untouched q ≡ node_in (r ∷ rows) q) (λ q. not (is_above q last)) (above r.0)
-        (all_hold (λ q. path_cmp q r.0 ≡ Less) (λ q. untouched q ≡ node_in (r ∷ rows) q) (above r.0) (λ q less. node_missing (r ∷ rows) q (less, h.1)) (above_less r.0)))
+-- by who lost and who gained each node
+module _ (l g : ℕ → Option Names) where
+  -- a path below all rows is none of theirs
+  node_missing : (rows : Rows) (p : Names) → Rises (Some p) (row_paths rows) → untouched p ≡ node_in l g rows p
+  node_missing rows p h = sym (ap (node_found l g p) (find_missing p rows h))
 
-    here : node_of r.0 r.1.0 r.1.1 ≡ node_in (r ∷ rows) r.0
-    here = sym (ap (λ b. node_by r.0 (cond b (Some r.1) (find path_cmp r.0 rows))) (ap is_eq (path_itself r.0)))
+  pub nodes_told : (rows : Rows) (last : Option Names) → Rises last (row_paths rows) → nodes_from (node_by l g) last rows ≡ map (node_in l g rows) (told_from last (row_paths rows))
+  nodes_told [] last h = refl
+  nodes_told (r ∷ rows) last h =
+      (λ i. before i ++ here i ∷ after (nodes_told rows (Some r.0) h.1) i) ∙ sym (map_append (node_in l g (r ∷ rows)) (new_above last r.0) (r.0 ∷ told_from (Some r.0) (row_paths rows)))
+    where
+      before : map untouched (new_above last r.0) ≡ map (node_in l g (r ∷ rows)) (new_above last r.0)
+      before = map_on untouched (node_in l g (r ∷ rows)) (new_above last r.0)
+          (all_kept (λ q. untouched q ≡ node_in l g (r ∷ rows) q) (λ q. not (is_above q last)) (above r.0)
+          (all_hold (λ q. path_cmp q r.0 ≡ Less) (λ q. untouched q ≡ node_in l g (r ∷ rows) q) (above r.0) (λ q less. node_missing (r ∷ rows) q (less, h.1)) (above_less r.0)))
 
-    after : nodes_from (Some r.0) rows ≡ map (node_in rows) (told_from (Some r.0) (row_paths rows)) → nodes_from (Some r.0) rows ≡ map (node_in (r ∷ rows)) (told_from (Some r.0) (row_paths rows))
-    after rest = rest
-        ∙ map_on (node_in rows) (node_in (r ∷ rows)) (told_from (Some r.0) (row_paths rows))
-        (all_hold (λ q. path_cmp r.0 q ≡ Less) (λ q. node_in rows q ≡ node_in (r ∷ rows) q) (told_from (Some r.0) (row_paths rows))
-        (λ q less. sym (ap (λ b. node_by q (cond b (Some r.1) (find path_cmp q rows))) (later_tie r.0 q less)))
-        (all_over r.0 (told_from (Some r.0) (row_paths rows)) (told_rises (row_paths rows) (Some r.0) h.1)))
+      here : node_by l g r.0 r.1 ≡ node_in l g (r ∷ rows) r.0
+      here = sym (ap (λ b. node_found l g r.0 (cond b (Some r.1) (find path_cmp r.0 rows))) (ap is_eq (path_itself r.0)))
 
-paths_nodes : (rows : Rows) (ps : List Names) → paths_of (map (node_in rows) ps) ≡ ps
-paths_nodes rows [] = refl
-paths_nodes rows (p ∷ ps) = ap (λ qs. p ∷ qs) (paths_nodes rows ps)
+      after : nodes_from (node_by l g) (Some r.0) rows ≡ map (node_in l g rows) (told_from (Some r.0) (row_paths rows))
+          → nodes_from (node_by l g) (Some r.0) rows ≡ map (node_in l g (r ∷ rows)) (told_from (Some r.0) (row_paths rows))
+      after rest = rest
+          ∙ map_on (node_in l g rows) (node_in l g (r ∷ rows)) (told_from (Some r.0) (row_paths rows))
+          (all_hold (λ q. path_cmp r.0 q ≡ Less) (λ q. node_in l g rows q ≡ node_in l g (r ∷ rows) q) (told_from (Some r.0) (row_paths rows))
+          (λ q less. sym (ap (λ b. node_found l g q (cond b (Some r.1) (find path_cmp q rows))) (later_tie r.0 q less)))
+          (all_over r.0 (told_from (Some r.0) (row_paths rows)) (told_rises (row_paths rows) (Some r.0) h.1)))
+
+  paths_nodes : (rows : Rows) (ps : List Names) → paths_of (map (node_in l g rows) ps) ≡ ps
+  paths_nodes rows [] = refl
+  paths_nodes rows (p ∷ ps) = ap (λ qs. p ∷ qs) (paths_nodes rows ps)
+
+  pub pass_rises : (rows : Rows) → InPathOrder (row_paths rows) → InPathOrder (paths_of (nodes_from (node_by l g) None rows))
+  pass_rises rows h =
+      let up = sorted_rises (row_paths rows) h in
+      subst (λ ps. InPathOrder ps) (sym (ap paths_of (nodes_told rows None up) ∙ paths_nodes rows (told_from None (row_paths rows))))
+      (rises_sorted None (told_from None (row_paths rows)) (told_rises (row_paths rows) None up))
 
 -- one pass makes the delta of the rows
-pub pass_is : (rows : Rows) → InPathOrder (row_paths rows) → nodes_from None rows ≡ delta_of_rows rows
+pub pass_is : (rows : Rows) → InPathOrder (row_paths rows) → nodes_from (node_by (place_in Lost rows) (place_in Gained rows)) None rows ≡ delta_of_rows rows
 pass_is rows h =
     let up = sorted_rises (row_paths rows) h in
-    nodes_told rows None up ∙ ap (map (node_in rows)) (sym (told_is (row_paths rows) up))
-
-pub pass_rises : (rows : Rows) → InPathOrder (row_paths rows) → InPathOrder (paths_of (nodes_from None rows))
-pass_rises rows h =
-    let up = sorted_rises (row_paths rows) h in
-    subst (λ ps. InPathOrder ps) (sym (ap paths_of (nodes_told rows None up) ∙ paths_nodes rows (told_from None (row_paths rows))))
-    (rises_sorted None (told_from None (row_paths rows)) (told_rises (row_paths rows) None up))
+    nodes_told (place_in Lost rows) (place_in Gained rows) rows None up
+    ∙ ap (map (node_in (place_in Lost rows) (place_in Gained rows) rows)) (sym (told_is (row_paths rows) up))

@@ -1,23 +1,30 @@
 -- The delta of two trees, path by path.
-use Rattle.std.specs.Prelude.{List, [], ◌∷◌, ◌++◌, map, filter, Option}
-use Rattle.std.specs.List.{flat_map}
+use Rattle.std.specs.Prelude.{◌+◌, List, [], ◌∷◌, ◌++◌, map, filter, Option}
+use Rattle.std.specs.List.{flat_map, AllByRecursion}
 use Rattle.std.specs.List.Sorted.{IsStrictlySortedBy}
 use Rattle.std.specs.FinMap.{FinMap, empty, insert, get, keys}
 use Rattle.res_path.specs.Paths.{Names, path_cmp}
 use Rattle.ws_elem.specs.declared.element.Element.{Element}
 use Rattle.ws_elem.specs.Trees.{Tree}
 use Rattle.delta_kind.specs.declared.node.DeltaNode.{DeltaNode}
-use Rattle.delta_kind.specs.Flags.{kind_of, flags_of, differs}
+use Rattle.delta_kind.specs.Flags.{kind_of, flags_of, moved_flags, differs}
+use Rattle.delta_kind.specs.Moves.{moved, TellsPlace}
 
--- what became of the path p, by its entries before and after
-abbrev pub node_of : Names → Option Element → Option Element → DeltaNode
-node_of p a b = record { path = p; kind = kind_of a b; flags = flags_of a b }
+-- what became of the path p, by its entries before and after, where what is there was, and where what was there is
+abbrev pub node_of : Names → Option Element → Option Element → Option Names → Option Names → DeltaNode
+node_of p a b from to = record {
+  path = p;
+  kind = kind_of a b;
+  flags = flags_of a b + moved_flags from to;
+  moved_from = from;
+  moved_to = to;
+}
 
 -- what became of the path p from a to b
 abbrev pub node_at : Tree → Tree → Names → DeltaNode
-node_at a b p = node_of p (get a p) (get b p)
+node_at a b p = node_of p (get a p) (get b p) (moved a b p) (moved b a p)
 
--- the paths of either tree that came, went or have a flag
+-- the paths of either tree that came, went or have a flag; where a node moved at a path that stays, REPLACED is one
 abbrev pub changed : Tree → Tree → List Names
 changed a b = filter (λ p. differs (get a p) (get b p)) (keys a ++ keys b)
 
@@ -46,3 +53,7 @@ InPathOrder = IsStrictlySortedBy path_cmp
 -- the paths of nodes
 abbrev pub paths_of : List DeltaNode → List Names
 paths_of = map (λ node. node.path)
+
+-- each node tells where what is at its path was, and where what was there is, if elsewhere
+abbrev pub TellsMoves : Tree → Tree → List DeltaNode → Type 0
+TellsMoves a b = AllByRecursion (λ node. TellsPlace a b node.path node.moved_from × TellsPlace b a node.path node.moved_to)

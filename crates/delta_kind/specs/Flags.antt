@@ -1,9 +1,10 @@
 -- What became of one path, by its entries before and after.
-use Rattle.std.specs.Prelude.{ℕ, ◌+◌, Bool, true, false, not, ◌&&◌, ◌==◌, if◌then◌else◌, Option, Some, None}
+use Rattle.std.specs.Prelude.{ℕ, ◌+◌, Bool, true, false, not, ◌&&◌, ◌==◌, if◌then◌else◌, Option, Some, None, is_some}
 use Rattle.std.specs.Bool.{beq}
+use Rattle.res_path.specs.Paths.{Names}
 use Rattle.ws_elem.specs.declared.element.Element.{Element}
-use Rattle.ws_elem.specs.Kinds.{is_file, is_project}
-use Rattle.delta_kind.specs.declared.flags.TheConstants.{ADDED, REMOVED, CHANGED, CONTENT, OPEN, REPLACED}
+use Rattle.ws_elem.specs.Kinds.{kind_number, is_file, is_project}
+use Rattle.delta_kind.specs.declared.flags.TheConstants.{ADDED, REMOVED, CHANGED, CONTENT, MOVED_FROM, MOVED_TO, OPEN, TYPE, REPLACED, DESCRIPTION, DERIVED_CHANGED}
 
 -- both are files, and their stamps differ
 abbrev pub has_content : Option Element → Option Element → Bool
@@ -17,22 +18,47 @@ has_open (Some a) (Some b) = is_project a.kind && is_project b.kind && not (beq 
 has_open None (Some b) = is_project b.kind && b.opened
 has_open before None = false
 
+-- both are there, and their kinds differ
+abbrev pub has_type : Option Element → Option Element → Bool
+has_type (Some a) (Some b) = not (kind_number a.kind == kind_number b.kind)
+has_type (Some a) None = false
+has_type None after = false
+
 -- both are there, and their nodes differ
 abbrev pub has_replaced : Option Element → Option Element → Bool
 has_replaced (Some a) (Some b) = not (a.node == b.node)
 has_replaced (Some a) None = false
 has_replaced None after = false
 
+-- both are projects, and the stamps of their descriptions differ
+abbrev pub has_description : Option Element → Option Element → Bool
+has_description (Some a) (Some b) = is_project a.kind && is_project b.kind && not (a.desc_stamp == b.desc_stamp)
+has_description (Some a) None = false
+has_description None after = false
+
+-- both are there, and one of them alone is derived
+abbrev pub has_derived_changed : Option Element → Option Element → Bool
+has_derived_changed (Some a) (Some b) = not (beq a.derived b.derived)
+has_derived_changed (Some a) None = false
+has_derived_changed None after = false
+
 -- the flag, where it holds
 abbrev pub flag_if : ℕ → Bool → ℕ
 flag_if flag holds = if holds then flag else 0
 
--- all flags that hold
+-- the flags that a path's own entries tell
 abbrev pub flags_of : Option Element → Option Element → ℕ
 flags_of a b =
     flag_if CONTENT (has_content a b)
     + flag_if OPEN (has_open a b)
+    + flag_if TYPE (has_type a b)
     + flag_if REPLACED (has_replaced a b)
+    + flag_if DESCRIPTION (has_description a b)
+    + flag_if DERIVED_CHANGED (has_derived_changed a b)
+
+-- the flags that tell where what is at a path was, and where what was there is
+abbrev pub moved_flags : Option Names → Option Names → ℕ
+moved_flags from to = flag_if MOVED_FROM (is_some from) + flag_if MOVED_TO (is_some to)
 
 -- only after: ADDED; only before: REMOVED; else CHANGED
 abbrev pub kind_of : Option Element → Option Element → ℕ

@@ -1,8 +1,9 @@
 //! The platform's kinds and flags of a change (`IResourceDelta`), and when each holds.
-ghost use Rattle.std.specs.Prelude.{◌≡◌};
+ghost use Rattle.std.specs.Prelude.{◌≡◌, ◌≤◌, ◌<◌, ◌^◌};
 ghost use Rattle.std.specs.Option.{option_copied};
-ghost use Rattle.delta_kind.specs.Flags.{has_content, has_open, has_replaced, flag_if, flags_of, kind_of, differs};
+ghost use Rattle.delta_kind.specs.Flags.{has_content, has_open, has_type, has_replaced, has_description, has_derived_changed, flag_if, flags_of, moved_flags, kind_of, differs};
 
+use res_path::Path;
 use ws_elem::Element;
 
 /// Of a delta without nodes: nothing changed.
@@ -20,11 +21,26 @@ pub const CHANGED: u8 = 4;
 /// The contents of a file changed.
 pub const CONTENT: u32 = 0x100;
 
+/// What is at the path was at another one.
+pub const MOVED_FROM: u32 = 0x1000;
+
+/// What was at the path is at another one.
+pub const MOVED_TO: u32 = 0x2000;
+
 /// A project was opened or closed, or came and is open.
 pub const OPEN: u32 = 0x4000;
 
+/// A resource of another kind stands at the path.
+pub const TYPE: u32 = 0x8000;
+
 /// Another resource stands at the path.
 pub const REPLACED: u32 = 0x40000;
+
+/// The description of a project changed.
+pub const DESCRIPTION: u32 = 0x80000;
+
+/// A resource became derived, or no longer is.
+pub const DERIVED_CHANGED: u32 = 0x400000;
 
 fn has_content(before: Option<&Element>, after: Option<&Element>) -> bool
     ensures { result ≡ has_content (option_copied before.entry) (option_copied after.entry) }
@@ -45,6 +61,15 @@ fn has_open(before: Option<&Element>, after: Option<&Element>) -> bool
     }
 }
 
+fn has_type(before: Option<&Element>, after: Option<&Element>) -> bool
+    ensures { result ≡ has_type (option_copied before.entry) (option_copied after.entry) }
+{
+    match (before, after) {
+        (Some(a), Some(b)) => a.kind.number() != b.kind.number(),
+        _ => false,
+    }
+}
+
 fn has_replaced(before: Option<&Element>, after: Option<&Element>) -> bool
     ensures { result ≡ has_replaced (option_copied before.entry) (option_copied after.entry) }
 {
@@ -54,19 +79,52 @@ fn has_replaced(before: Option<&Element>, after: Option<&Element>) -> bool
     }
 }
 
+fn has_description(before: Option<&Element>, after: Option<&Element>) -> bool
+    ensures { result ≡ has_description (option_copied before.entry) (option_copied after.entry) }
+{
+    match (before, after) {
+        (Some(a), Some(b)) => {
+            a.kind.is_project() && b.kind.is_project() && a.desc_stamp != b.desc_stamp
+        }
+        _ => false,
+    }
+}
+
+fn has_derived_changed(before: Option<&Element>, after: Option<&Element>) -> bool
+    ensures { result ≡ has_derived_changed (option_copied before.entry) (option_copied after.entry) }
+{
+    match (before, after) {
+        (Some(a), Some(b)) => a.derived != b.derived,
+        _ => false,
+    }
+}
+
 fn flag_if(flag: u32, holds: bool) -> u32
-    ensures { result ≡ flag_if flag holds }
+    ensures value { result ≡ flag_if flag holds }
+    ensures most { result ≤ flag }
 {
     if holds { flag } else { 0 }
 }
 
-/// All flags that hold of a path with these entries.
+/// The flags that hold of a path with these entries, but for those that tell where a node was and went.
 pub fn flags_of(before: Option<&Element>, after: Option<&Element>) -> u32
-    ensures { result ≡ flags_of (option_copied before.entry) (option_copied after.entry) }
+    ensures value { result ≡ flags_of (option_copied before.entry) (option_copied after.entry) }
+    ensures most { result < 2 ^ 24 }
 {
     flag_if(CONTENT, has_content(before, after))
         + flag_if(OPEN, has_open(before, after))
+        + flag_if(TYPE, has_type(before, after))
         + flag_if(REPLACED, has_replaced(before, after))
+        + flag_if(DESCRIPTION, has_description(before, after))
+        + flag_if(DERIVED_CHANGED, has_derived_changed(before, after))
+}
+
+/// The flags that tell where a node was and went.
+pub fn moved_flags(from: Option<&Path>, to: Option<&Path>) -> u32
+    ensures value { result ≡ moved_flags (option_copied from.entry) (option_copied to.entry) }
+    ensures most { result < 2 ^ 16 }
+{
+    flag_if(MOVED_FROM, from.is_some()) + flag_if(MOVED_TO, to.is_some())
 }
 
 /// `ADDED`, `REMOVED` or `CHANGED`.

@@ -4,6 +4,7 @@
 //! - `node`: a `DeltaNode`, what became of one path.
 //! - `delta`: a `Delta`, the nodes in path order.
 //! - `row`: a `Row`, a path with its entries before and after.
+//! - `places`: which paths lost and gained each node.
 //! - `walk`: the rows of two trees, walked side by side.
 //! - `making`: the delta of two trees, and the one pass over rows that makes it.
 #![tactic(auto)]
@@ -12,13 +13,17 @@ mod delta;
 mod flags;
 mod making;
 mod node;
+mod places;
 mod row;
 #[cfg(test)]
 mod tests;
 mod walk;
 
 pub use delta::Delta;
-pub use flags::{ADDED, CHANGED, CONTENT, NO_CHANGE, OPEN, REMOVED, REPLACED};
+pub use flags::{
+    ADDED, CHANGED, CONTENT, DERIVED_CHANGED, DESCRIPTION, MOVED_FROM, MOVED_TO, NO_CHANGE, OPEN,
+    REMOVED, REPLACED, TYPE,
+};
 pub use making::{compare, delta_of_rows};
 pub use node::DeltaNode;
-pub use row::Row;
+pub use row::{Row, Turn};

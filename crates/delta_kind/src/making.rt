@@ -4,25 +4,30 @@ ghost use Rattle.std.specs.FinMap.{get, find};
 ghost use Rattle.std.specs.Option.{option_copied};
 ghost use Rattle.res_path.specs.Paths.{Names, path_cmp, path_eq, is_prefix};
 ghost use Rattle.std.specs.List.{list_any};
+ghost use Rattle.ws_elem.specs.Trees.{Whole};
 ghost use Rattle.delta_kind.specs.Flags.{differs};
-ghost use Rattle.delta_kind.specs.Deltas.{delta, changed, InPathOrder, paths_of};
-ghost use Rattle.delta_kind.specs.Rows.{shown, row_paths, delta_of_rows, nodes_from, is_above, new_above, untouched};
+ghost use Rattle.delta_kind.specs.Deltas.{delta, changed, InPathOrder, paths_of, TellsMoves};
+ghost use Rattle.delta_kind.specs.Rows.{shown, row_paths, node_by, delta_of_rows, nodes_from, is_above, new_above, untouched};
 
+use crate::places::Moves;
 use crate::walk::Walk;
-use crate::{CHANGED, Delta, DeltaNode, Row};
+use crate::{CHANGED, Delta, DeltaNode, Row, Turn, flags};
 use res_path::Path;
 use std::alloc::Global;
 use ws_elem::{ElemMap, NoMemory};
 
-/// The delta from one tree to another. Costs one walk of both trees and then one pass over the paths that differ;
-/// no element and no tree is copied, and the delta's paths share their texts with the trees'.
+/// The delta from one tree to another. Costs one walk of both trees and then one pass over the paths that differ, in
+/// which each node that came or went is looked up among those that went; no element and no tree is copied, and the
+/// delta's paths share their texts with the trees'.
 pub fn compare(alloc: Global, before: &ElemMap, after: &ElemMap) -> Result<Delta, NoMemory>
-    ensures delta { IfOk result (λ d. d ≡ delta before.now after.now) }
+    ensures delta { IfOk result (λ d. d ≡ delta before.now.map after.now.map) }
     // A path has a node exactly where it, or a path below it, came, went or has a flag.
     ensures paths { IfOk result (λ d. (p : Names) → list_any (path_eq p) (paths_of d)
-        ≡ list_any (is_prefix p) (changed before.now after.now)) }
-    ensures none { IfOk result (λ d. (d ≡ []) ↔ ((p : Names) → differs (get before.now p) (get after.now p) ≡ false)) }
-    ensures same { IfOk result (λ d. before.now ≡ after.now → d ≡ []) }
+        ≡ list_any (is_prefix p) (changed before.now.map after.now.map)) }
+    ensures none { IfOk result (λ d. (d ≡ []) ↔ ((p : Names) → differs (get before.now.map p) (get after.now.map p) ≡ false)) }
+    ensures same { IfOk result (λ d. before.now.map ≡ after.now.map → d ≡ []) }
+    // In whole trees a node tells just where what is at its path was, and where what was there is.
+    ensures moves { IfOk result (λ d. Whole before.now.map → Whole after.now.map → TellsMoves before.now.map after.now.map d) }
 {
     let rows = changed_rows(alloc, before, after)?;
     delta_of_rows(alloc, rows.as_slice())
@@ -36,7 +41,7 @@ fn changed_rows<'a>(
 ) -> Result<Vec<Row<'a>>, NoMemory>
     ensures order { IfOk result (λ rows. InPathOrder (row_paths (map shown rows.items))) }
     ensures rows { IfOk result (λ rows. (p : Names) → find path_cmp p (map shown rows.items)
-        ≡ (if differs (get before.now p) (get after.now p) then Some (get before.now p, get after.now p) else None)) }
+        ≡ (if differs (get before.now.map p) (get after.now.map p) then Some (get before.now.map p, get after.now.map p) else None)) }
 {
     let mut rows = Vec::new(alloc);
     for row in Walk::of(before, after) {
@@ -53,22 +58,42 @@ pub fn delta_of_rows(alloc: Global, rows: &[Row<'_>]) -> Result<Delta, NoMemory>
     requires { InPathOrder (row_paths (map shown rows.now)) }
     ensures { IfOk result (λ d. d ≡ delta_of_rows (map shown rows.now)) }
 {
-    let nodes = nodes_of(alloc, rows)?;
+    let moves = Moves::of_rows(alloc, rows)?;
+    let nodes = nodes_of(alloc, rows, &moves)?;
     Ok(Delta::of(nodes))
 }
 
 /// The nodes of some rows, and just before each those of what is above it and above none before it.
-fn nodes_of(alloc: Global, rows: &[Row<'_>]) -> Result<Vec<DeltaNode>, NoMemory>
-    ensures { IfOk result (λ nodes. nodes.items ≡ nodes_from None (map shown rows.now)) }
+fn nodes_of(alloc: Global, rows: &[Row<'_>], moves: &Moves) -> Result<Vec<DeltaNode>, NoMemory>
+    ensures { IfOk result (λ nodes. nodes.items ≡ nodes_from (node_by (get moves.now.losers) (get moves.now.gainers)) None (map shown rows.now)) }
 {
-    let mut nodes = Vec::new(alloc);
+    let above = rows.len() / 8;
+    let mut nodes = Vec::with_capacity(alloc, rows.len().saturating_add(above))?;
     let mut last = None;
     for row in rows {
         tell_above(&mut nodes, row.path, last)?;
-        nodes.push(row.node()?)?;
+        nodes.push(node_of(row, moves)?)?;
         last = Some(row.path);
     }
     Ok(nodes)
+}
+
+/// What became of the row's path.
+fn node_of(row: &Row<'_>, moves: &Moves) -> Result<DeltaNode, NoMemory>
+    ensures { IfOk result (λ node. node ≡ node_by (get moves.now.losers) (get moves.now.gainers) (shown row.now).0 (shown row.now).1) }
+{
+    let path = row.path.copy()?;
+    let moved_from = moves.losers.path_of(row.turned(Turn::Gained))?;
+    let moved_to = moves.gainers.path_of(row.turned(Turn::Lost))?;
+    let flags = flags::flags_of(row.before, row.after)
+        + flags::moved_flags(moved_from.as_ref(), moved_to.as_ref());
+    Ok(DeltaNode {
+        path,
+        kind: flags::kind_of(row.before, row.after),
+        flags,
+        moved_from,
+        moved_to,
+    })
 }
 
 /// Tells what is above the path and not above the last one, the highest first.
@@ -86,6 +111,8 @@ fn tell_above(nodes: &mut Vec<DeltaNode>, path: &Path, last: Option<&Path>) -> R
         path: parent,
         kind: CHANGED,
         flags: 0,
+        moved_from: None,
+        moved_to: None,
     })?;
     Ok(())
 }

@@ -9,4 +9,8 @@ pub struct DeltaNode {
     pub kind: u8,
     /// The sum of the flags that hold; 0 where only something below the path changed.
     pub flags: u32,
+    /// Where what is at the path was; with `MOVED_FROM`.
+    pub moved_from: Option<Path>,
+    /// Where what was at the path is; with `MOVED_TO`.
+    pub moved_to: Option<Path>,
 }

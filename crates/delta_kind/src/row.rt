@@ -1,8 +1,18 @@
 //! A path with its entries before and after.
+ghost use Rattle.std.specs.Prelude.{◌≡◌, ◌==◌, if◌then◌else◌, Some, None};
+ghost use Rattle.std.specs.Option.{option_copied};
+ghost use Rattle.delta_kind.specs.Moves.{lost};
 
-use crate::{DeltaNode, flags};
+use crate::flags;
 use res_path::Path;
-use ws_elem::{Element, NoMemory};
+use ws_elem::Element;
+
+/// What a path does to a node: it has it only before, or only after.
+#[derive(Clone, Copy, Debug)]
+pub enum Turn {
+    Lost,
+    Gained,
+}
 
 /// A path with its entries before and after. Nothing is copied.
 #[derive(Clone, Copy, Debug)]
@@ -13,10 +23,9 @@ pub struct Row<'a> {
 }
 
 impl<'a> Row<'a> {
-    ghost use Rattle.std.specs.Prelude.{◌≡◌, IfOk};
+    ghost use Rattle.std.specs.Prelude.{◌≡◌};
     ghost use Rattle.delta_kind.specs.Flags.{differs};
-    ghost use Rattle.delta_kind.specs.Deltas.{node_of};
-    ghost use Rattle.delta_kind.specs.Rows.{shown};
+    ghost use Rattle.delta_kind.specs.Rows.{shown, turned};
 
     /// Whether the path came, went or has a flag.
     pub fn differs(&self) -> bool
@@ -25,14 +34,30 @@ impl<'a> Row<'a> {
         flags::differs(self.before, self.after)
     }
 
-    /// What became of the path.
-    pub fn node(&self) -> Result<DeltaNode, NoMemory>
-        ensures { IfOk result (λ node. node ≡ node_of (shown self.now).0 (shown self.now).1.0 (shown self.now).1.1) }
+    /// The node that the path loses, or that it gains.
+    pub fn turned(&self, turn: Turn) -> Option<u64>
+        ensures { result ≡ turned turn (shown self.now).1 }
     {
-        Ok(DeltaNode {
-            path: self.path.copy()?,
-            kind: flags::kind_of(self.before, self.after),
-            flags: flags::flags_of(self.before, self.after),
-        })
+        match turn {
+            Turn::Lost => lost(self.before, self.after),
+            Turn::Gained => lost(self.after, self.before),
+        }
     }
+}
+
+/// The node of the first element, unless the second has it too.
+fn lost(first: Option<&Element>, second: Option<&Element>) -> Option<u64>
+    ensures { result ≡ lost (option_copied first.entry) (option_copied second.entry) }
+{
+    match (first, second) {
+        (Some(a), Some(b)) => unless_same(a.node, b.node),
+        (Some(a), None) => Some(a.node),
+        (None, _) => None,
+    }
+}
+
+fn unless_same(node: u64, other: u64) -> Option<u64>
+    ensures { result ≡ (if node == other then None else Some node) }
+{
+    if node == other { None } else { Some(node) }
 }

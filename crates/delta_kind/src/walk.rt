@@ -7,8 +7,7 @@ ghost use Rattle.delta_kind.specs.Walks.{pending};
 use crate::Row;
 use res_path::Path;
 use std::cmp::Ordering;
-use std::collections::btree_map::Iter;
-use ws_elem::{ElemMap, Element};
+use ws_elem::{ElemMap, Element, Entries};
 
 type Entry<'a> = (&'a Path, &'a Element);
 
@@ -16,9 +15,9 @@ type Entry<'a> = (&'a Path, &'a Element);
 #[derive(Drop)]
 pub struct Walk<'a> {
     first: Option<Entry<'a>>,
-    before: Iter<'a, Path, Element>,
+    before: Entries<'a>,
     second: Option<Entry<'a>>,
-    after: Iter<'a, Path, Element>,
+    after: Entries<'a>,
 }
 
 impl<'a> Walk<'a> {
@@ -28,7 +27,7 @@ impl<'a> Walk<'a> {
 
     /// The walk of two trees from their first entries on.
     pub fn of(before: &'a ElemMap, after: &'a ElemMap) -> Walk<'a>
-        ensures { rows_left result ≡ merged (map.entries before.now) (map.entries after.now) }
+        ensures { rows_left result ≡ merged (map.entries before.now.map) (map.entries after.now.map) }
     {
         Walk {
             first: None,
@@ -93,7 +92,7 @@ fn row<'a>(path: &'a Path, before: Option<&'a Element>, after: Option<&'a Elemen
 }
 
 /// Looks at the next entry, unless one was looked at.
-fn look<'a>(seen: &mut Option<Entry<'a>>, rest: &mut Iter<'a, Path, Element>)
+fn look<'a>(seen: &mut Option<Entry<'a>>, rest: &mut Entries<'a>)
     ensures same { pending seen.new rest.new ≡ pending seen.old rest.old }
     ensures last { seen.new ≡ None → rest.new ≡ [] }
 {

@@ -4,3 +4,4 @@ pub mod Compared
 pub mod Kept
 pub mod Built
 pub mod Prefixes
+pub mod Words

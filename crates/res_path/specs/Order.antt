@@ -1,5 +1,5 @@
 -- The order and the prefixes of paths, by the texts that they are kept in.
-use Rattle.std.specs.Prelude.{ℕ, ◌+◌, Bool, true, false, ◌==◌, ◌&&◌, if◌then◌else◌, List, [], ◌∷◌}
+use Rattle.std.specs.Prelude.{◌≢◌, ℕ, ◌+◌, ◌*◌, ◌<◌, slice_index, length, Bool, true, false, ◌==◌, ◌&&◌, if◌then◌else◌, List, [], ◌∷◌}
 use Rattle.std.specs.declared.cmp.Ordering.{Ordering}
 use Rattle.std.specs.Ordering.{nat_cmp, on}
 use Rattle.std.specs.Cmp.Lexicographic.{slice_cmp}
@@ -23,3 +23,14 @@ abbrev pub text_prefix : List ℕ → List ℕ → Bool
 text_prefix [] q = ends_name q
 text_prefix (b ∷ p) [] = false
 text_prefix (b ∷ p) (c ∷ q) = b == c && text_prefix p q
+
+-- the number that bytes spell, the first byte the lowest
+abbrev pub word_of : List ℕ → ℕ
+word_of [] = 0
+word_of (b ∷ bytes) = word_of bytes * 256 + b
+
+-- two texts have different bytes at a place of both
+pub record DifferAt (a b : List ℕ) (at : ℕ) : Type 0 where
+  pub first : at < length a
+  pub second : at < length b
+  pub other : slice_index a at ≢ slice_index b at

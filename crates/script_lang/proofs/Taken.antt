@@ -123,6 +123,15 @@ ahead_more start mid lines read words c h t i e = record {
   left = λ all more a s. let before = h.left all more a s in next_of mid lines read words c t i e all before.0 more before.1 before.2 before.3;
 }
 
+-- the same, with the batch's beginning in front
+pub record AheadBatch (start lines : List (List ℕ)) (commands : List Command) : Type 0 where
+  pub inner : List Command
+  pub commands_are : commands ≡ Batch ∷ inner
+  pub ahead : Ahead start lines inner
+
+pub batch_begun : (lines : List (List ℕ)) (commands : List Command) → commands ≡ Batch ∷ [] → AheadBatch lines lines commands
+batch_begun lines commands e = record { inner = []; commands_are = e; ahead = ahead_none lines }
+
 end_of : (mid lines : List (List ℕ)) (read : List Command) → TakesLine mid (codes "endbatch" ∷ []) lines
     → (all others : List Command) (more : List (List Word)) → all ≡ read ++ others → AllByRecursion IsInner others → SpellsLines mid (map command_words others ++ (codes "endbatch" ∷ []) ∷ more)
     → (all ≡ read) × SpellsLines lines more

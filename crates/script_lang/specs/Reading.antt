@@ -4,6 +4,7 @@ use Rattle.std.specs.List.{AllByRecursion}
 use Rattle.script_lang.specs.declared.reader.Reader.{Reader}
 use Rattle.res_path.specs.Names.{IsName}
 use Rattle.script_lang.specs.declared.script.Command.{Command}
+use Rattle.script_lang.specs.declared.script.Command.TheVariants.{Batch}
 use Rattle.script_lang.specs.declared.script.Job.{Job}
 use Rattle.script_lang.specs.declared.script.Phase.{Phase}
 use Rattle.script_lang.specs.Words.{Word}
@@ -23,6 +24,12 @@ pub record ReadsInner (old new : List (List ℕ)) (inner : List Command) : Type 
   -- no others are spelled there
   pub only : (others : List Command) (more : List (List Word)) → AllByRecursion IsInner others
       → SpellsLines old (map command_words others ++ (codes "endbatch" ∷ []) ∷ more) → (others ≡ inner) × SpellsLines new more
+
+-- the same, with the batch's beginning in front
+pub record ReadsBatch (old new : List (List ℕ)) (commands : List Command) : Type 0 where
+  pub inner : List Command
+  pub commands_are : commands ≡ Batch ∷ inner
+  pub read : ReadsInner old new inner
 
 -- no commands of a batch, up to its end, are spelled there
 abbrev pub HasNoInner : List (List ℕ) → Type 0

@@ -6,7 +6,7 @@ ghost use Rattle.script_lang.specs.Words.{Word};
 ghost use Rattle.script_lang.specs.Lines.{lines_of, SpellsLines, TakesLine, TakesLines, IsLineAhead};
 ghost use Rattle.script_lang.specs.Commands.{command_words, IsInner};
 ghost use Rattle.script_lang.specs.Scripts.{is_priority, IsScript};
-ghost use Rattle.script_lang.specs.Reading.{Advances, ReadsInner, HasNoInner, ReadsHead, HasNoHead, ReadsJob, HasNoJob, ReadsPhase, HasNoPhase, IsHeadOf, IsPriorityOf};
+ghost use Rattle.script_lang.specs.Reading.{Advances, ReadsBatch, HasNoInner, ReadsHead, HasNoHead, ReadsJob, HasNoJob, ReadsPhase, HasNoPhase, IsHeadOf, IsPriorityOf};
 ghost use Rattle.script_lang.specs.declared.script.Command.{Command};
 ghost use Rattle.script_lang.specs.declared.script.Script.{Script};
 
@@ -74,14 +74,15 @@ fn keyword(reader: &mut Reader, alloc: Global, word: &[u8]) -> Result<(), Script
     Ok(())
 }
 
-/// The commands of a batch, up to its end.
-fn inner(reader: &mut Reader, alloc: Global) -> Result<Vec<Command>, ScriptError>
-    ensures read { IfOk result (λ commands. ReadsInner (lines_of reader.old.rest) (lines_of reader.new.rest) commands.items) }
+/// The commands of a batch, after its first line up to its end: its beginning, and what stands within.
+fn batch(reader: &mut Reader, alloc: Global) -> Result<Vec<Command>, ScriptError>
+    ensures read { IfOk result (λ commands. ReadsBatch (lines_of reader.old.rest) (lines_of reader.new.rest) commands.items) }
     ensures count { OnOk result (Advances reader.old reader.new) }
     ensures bad { (number : ℕ) → result ≡ Err (ScriptError.BadLine number) → HasNoInner (lines_of reader.old.rest) }
     ensures place { (number : ℕ) → result ≡ Err (ScriptError.BadLine number) → IsLineAhead reader.old.number (lines_of reader.old.rest) number }
 {
     let mut commands = Vec::new(alloc);
+    commands.push(Command::Batch)?;
     loop {
         let words = reader.line(alloc)?;
         if is_alone(words.as_slice(), b"endbatch") {
@@ -103,9 +104,8 @@ fn job(reader: &mut Reader, alloc: Global) -> Result<Job, ScriptError>
 {
     let (name, priority) = head(reader, alloc)?;
     keyword(reader, alloc, b"batch")?;
-    let mut commands = inner(reader, alloc)?;
+    let mut commands = batch(reader, alloc)?;
     keyword(reader, alloc, b"endjob")?;
-    commands.insert(0, Command::Batch)?;
     commands.push(Command::EndBatch)?;
     Ok(Job {
         name,

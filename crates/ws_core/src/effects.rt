@@ -5,11 +5,12 @@ ghost use Rattle.ws_core.specs.Effects.{effect, enter, schedule, taken, take_job
 ghost use Rattle.ws_core.specs.Refusals.{refusal, first_cause, creation_causes, place_causes, room_causes, is_spent};
 
 use crate::kept::Kept;
+use crate::plain_tree::PlainTree;
 use crate::{Answer, Event, NoMemory, Refusal};
 use bytes::Bytes;
 use res_path::{Name, Path};
 use std::alloc::Global;
-use ws_elem::{ElemMap, Element, Kind};
+use ws_elem::{Element, Kind};
 
 /// The description of a project that nobody described.
 const EMPTY_DESCRIPTION: &[u8] = b"{\"commands\":[],\"references\":[]}";
@@ -166,7 +167,7 @@ impl Kept {
 
 /// Puts the element at the path where nothing is, and tells whether it did. It is one look-up where nothing is there.
 #[tactic(auto, using(crate::proofs::Made::there, crate::proofs::Made::put_again))]
-fn put_new(tree: &mut ElemMap, path: &Path, element: Element) -> Result<bool, NoMemory>
+fn put_new(tree: &mut PlainTree, path: &Path, element: Element) -> Result<bool, NoMemory>
     ensures new { IfOk result (λ new. new ≡ not (contains_key tree.old path.now)) }
     ensures tree { IfOk result (λ new. tree.new ≡ (if new then insert tree.old path.now element else tree.old)) }
     ensures err { OnErr result (tree.new ≡ tree.old) }
@@ -183,7 +184,7 @@ fn put_new(tree: &mut ElemMap, path: &Path, element: Element) -> Result<bool, No
 }
 
 /// The element stands at the path in the place of the one that is there. It takes no memory.
-fn restore(tree: &mut ElemMap, path: Path, element: Element)
+fn restore(tree: &mut PlainTree, path: Path, element: Element)
     requires { contains_key tree.old path ≡ true }
     ensures { tree.new ≡ insert tree.old path element }
 {

@@ -2,17 +2,17 @@
 ghost use Rattle.std.specs.Prelude.{◌≡◌, IfOk, OnOk, OnErr};
 ghost use Rattle.ws_core.specs.Steps.{act, tells};
 
+use crate::plain_tree::PlainTree;
 use crate::{Answer, Event, NoMemory, Numbers};
 use res_path::Name;
 use std::alloc::Global;
-use ws_elem::ElemMap;
 
 /// What a state keeps.
 #[derive(Clone, Debug, Drop)]
 pub struct Kept {
-    pub tree: ElemMap,
+    pub tree: PlainTree,
     /// The tree as it was last told. A state that hasn't changed it since keeps nothing here.
-    pub told: ElemMap,
+    pub told: PlainTree,
     /// The number that the next new resource gets.
     pub next_node: u64,
     /// The number that the next new contents or description gets.
@@ -76,7 +76,7 @@ impl Kept {
     }
 
     /// The tree and the counters are these again.
-    pub fn put_back(&mut self, tree: ElemMap, next_node: u64, next_stamp: u64)
+    pub fn put_back(&mut self, tree: PlainTree, next_node: u64, next_stamp: u64)
         ensures { self.new ≡ record self.old { tree = tree; next_node = next_node; next_stamp = next_stamp } }
     {
         self.tree = tree;

@@ -5,6 +5,7 @@
 //! - `history`: an `Entry`, one event with its reply, and a `History`, entries in order.
 //! - `numbers`: `Numbers`, passes by their numbers.
 //! - `kept`: what a state keeps, and what an event does to it before anything is told.
+//! - `plain_tree`: a `PlainTree`, a tree of which contracts see the map alone.
 //! - `state`: a `State`, and its `step`.
 //! - `refusals`: why an event is refused.
 //! - `effects`: what an event does that isn't refused.
@@ -16,6 +17,7 @@ mod event;
 mod history;
 mod kept;
 mod numbers;
+mod plain_tree;
 mod refusals;
 mod reply;
 mod session;

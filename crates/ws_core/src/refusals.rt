@@ -7,9 +7,10 @@ ghost use Rattle.ws_core.specs.Places.{project_of, has_file, has_closed, is_shut
 ghost use Rattle.ws_core.specs.Refusals.{refusal, first_cause, creation_causes, deletion_causes, place_causes, room_causes, is_spent};
 
 use crate::kept::Kept;
+use crate::plain_tree::PlainTree;
 use crate::{Event, NoMemory, Refusal};
 use res_path::Path;
-use ws_elem::{ElemMap, Element};
+use ws_elem::Element;
 
 /// The most elements that a workspace may have.
 const MAX_ELEMENTS: usize = 1_048_576;
@@ -136,7 +137,7 @@ fn has_closed(element: Option<&Element>) -> bool
 
 /// Whether the path is a closed project or has the path of a member of one, where it is known what stands above it.
 #[tactic(auto, using(crate::proofs::Places::project_above_two))]
-fn is_shut_below(tree: &ElemMap, path: &Path, above: Option<&Element>) -> Result<bool, NoMemory>
+fn is_shut_below(tree: &PlainTree, path: &Path, above: Option<&Element>) -> Result<bool, NoMemory>
     requires { option_copied above ≡ get tree.now (parent path.now) }
     ensures { IfOk result (λ b. b ≡ is_shut tree.now path.now) }
 {
@@ -147,7 +148,7 @@ fn is_shut_below(tree: &ElemMap, path: &Path, above: Option<&Element>) -> Result
 }
 
 /// Whether the path is a closed project or has the path of a member of one.
-fn is_shut(tree: &ElemMap, path: &Path) -> Result<bool, NoMemory>
+fn is_shut(tree: &PlainTree, path: &Path) -> Result<bool, NoMemory>
     ensures { IfOk result (λ b. b ≡ is_shut tree.now path.now) }
 {
     let project = project_of(path)?;

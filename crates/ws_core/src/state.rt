@@ -7,6 +7,7 @@ ghost use Rattle.ws_core.specs.Steps.{act, step, tells, told, notice, some_nodes
 ghost use Rattle.ws_core.specs.Histories.{fresh};
 
 use crate::kept::Kept;
+use crate::plain_tree::PlainTree;
 use crate::{Answer, Event, NoMemory, Numbers, Refusal, Reply};
 use delta_kind::{Delta, compare};
 use res_path::Name;
@@ -48,8 +49,8 @@ impl State {
         passes.push(0)?;
         Ok(State {
             kept: Kept {
-                tree: ElemMap::fresh(alloc)?,
-                told: ElemMap::empty(alloc),
+                tree: PlainTree::fresh(alloc)?,
+                told: PlainTree::empty(alloc),
                 next_node: 2,
                 next_stamp: 1,
                 next_pass: 1,
@@ -63,19 +64,19 @@ impl State {
 
     /// The tree.
     pub fn tree(&self) -> &ElemMap
-        ensures { result.now ≡ self.now.tree }
+        ensures { result.now.map ≡ self.now.tree }
     {
-        &self.kept.tree
+        self.kept.tree.as_map()
     }
 
     /// The tree as it was last told.
     pub fn told(&self) -> &ElemMap
-        ensures { result.now ≡ self.now.told }
+        ensures { result.now.map ≡ self.now.told }
     {
         if self.unchanged {
-            return &self.kept.tree;
+            return self.kept.tree.as_map();
         }
-        &self.kept.told
+        self.kept.told.as_map()
     }
 
     /// The number that the next new resource gets.
@@ -296,7 +297,7 @@ impl State {
     fn settle(&mut self, alloc: Global)
         ensures { self.new ≡ record self.old { told = self.old.tree } }
     {
-        self.kept.told = ElemMap::empty(alloc);
+        self.kept.told = PlainTree::empty(alloc);
         self.unchanged = true;
     }
 
@@ -323,7 +324,7 @@ impl Clone for State {
 }
 
 /// The tree as it was last told: the one before the change, where nothing changed since the telling.
-fn told_tree<'a>(unchanged: bool, before: &'a ElemMap, told: &'a ElemMap) -> &'a ElemMap
+fn told_tree<'a>(unchanged: bool, before: &'a PlainTree, told: &'a PlainTree) -> &'a PlainTree
     ensures { result.now ≡ (if unchanged then before.now else told.now) }
 {
     if unchanged { before } else { told }
@@ -332,12 +333,12 @@ fn told_tree<'a>(unchanged: bool, before: &'a ElemMap, told: &'a ElemMap) -> &'a
 /// What changed from one tree to another, where anything did.
 fn notice_between(
     alloc: Global,
-    before: &ElemMap,
-    after: &ElemMap,
+    before: &PlainTree,
+    after: &PlainTree,
 ) -> Result<Option<Delta>, NoMemory>
     ensures { IfOk result (λ n. n ≡ some_nodes (delta before.now after.now)) }
 {
-    let delta = compare(alloc, before, after)?;
+    let delta = compare(alloc, before.as_map(), after.as_map())?;
     Ok(unless_empty(delta))
 }
 

@@ -1,3 +1,6 @@
-pub mod Entries
+pub mod Ordered
 pub mod Cuts
 pub mod Fresh
+pub mod Rooms
+pub mod Kept
+pub mod Filled

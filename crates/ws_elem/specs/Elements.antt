@@ -7,11 +7,11 @@ use Rattle.ws_elem.specs.declared.element.Element.{Element}
 abbrev pub bare : Kind → ℕ → Element
 bare kind node = record {
   kind = kind;
+  opened = false;
+  derived = false;
   node = node;
   stamp = 0;
-  opened = false;
   desc_stamp = 0;
-  derived = false;
   desc = [];
   bytes = [];
 }

@@ -2,3 +2,6 @@ pub mod Kinds
 pub mod Elements
 pub mod Trees
 pub mod Walks
+pub mod Rooms
+pub mod RoomyTrees
+pub mod Slots

@@ -9,15 +9,15 @@ use bytes::Bytes;
 #[derive(Clone, Debug, PartialEq, Eq, Drop)]
 pub struct Element {
     pub kind: Kind,
+    /// Only of an open project.
+    pub opened: bool,
+    pub derived: bool,
     /// Tells this resource from all others, also from one that was at the same path before it.
     pub node: u64,
     /// Changes with the contents; 0 but for files.
     pub stamp: u64,
-    /// Only of an open project.
-    pub opened: bool,
     /// Changes with the description; 0 but for projects.
     pub desc_stamp: u64,
-    pub derived: bool,
     /// The description's text; empty but for projects.
     pub desc: Bytes,
     /// The contents; empty but for files.
@@ -31,11 +31,11 @@ impl Element {
     {
         Element {
             kind,
+            opened: false,
+            derived: false,
             node,
             stamp: 0,
-            opened: false,
             desc_stamp: 0,
-            derived: false,
             desc: Bytes::new(),
             bytes: Bytes::new(),
         }

@@ -3,15 +3,23 @@
 //! - `kind`: a `Kind`, what sort of resource an element is.
 //! - `element`: an `Element`, what the workspace keeps of one resource.
 //! - `elem_map`: an `ElemMap`, elements by path.
+//! - `tree_rep`: `TreeRep`, what serves as a tree.
 #![tactic(auto)]
 
 mod elem_map;
 mod element;
+mod entries;
 mod kind;
 #[cfg(test)]
+mod room_tests;
+mod slots;
+#[cfg(test)]
 mod tests;
+mod tree_rep;
 
 pub use elem_map::ElemMap;
 pub use element::Element;
+pub use entries::Entries;
 pub use kind::Kind;
 pub use res_path::NoMemory;
+pub use tree_rep::TreeRep;

@@ -41,8 +41,8 @@ left_after Sync false remnant reads left = left
 abbrev pub left_in : Which → Call → Remnant → List ℕ → List ℕ → List ℕ
 left_in area call remnant reads left = if is_same area call.area then left_after call.request call.done remnant reads left else left
 
--- what it leaves of an area after these calls, of which the first one has this number, where at each call's number stands
--- what is left of it, or nothing is
+-- what a crash leaves of an area after these calls: the first of them has the given number, and at the number of each
+-- stands what is left of that call, or nothing
 abbrev pub left_by : Which → ℕ → List Call → List Remnant → List ℕ → List ℕ → List ℕ
 left_by area number [] remnants reads left = left
 left_by area number (call ∷ calls) remnants reads left =

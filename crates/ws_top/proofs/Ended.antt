@@ -1,15 +1,14 @@
 -- How a run's text ends.
-use Rattle.std.proofs.Common.{◌≡◌, ◌≢◌, ◌⊎◌, inl, inr, ℕ, ◌+◌, ◌≤◌, List, [], ◌++◌, codes, length, take, Option, refl, sym, ◌∙◌, ap, subst, arith, append-nil, length-append, ◌∷◌, ◌<◌, lit<}
+use Rattle.std.proofs.Common.{◌≡◌, ◌≢◌, ◌⊎◌, inl, inr, ℕ, ◌+◌, List, [], ◌++◌, codes, Option, refl, sym, ◌∙◌, ap, subst, arith, append-nil, ◌∷◌, ◌<◌, lit<}
 use Rattle.std.proofs.lemmas.Fmt.{decimal_digit}
 use Rattle.ws_outside.specs.Streams.{Gains, GainsFront}
 use Rattle.ws_core.specs.Histories.{fresh}
 use Rattle.ws_core.specs.declared.history.Entry.{Entry}
 use Rattle.ws_core.specs.declared.state.State.{State}
-use Rattle.ws_top.specs.Outcomes.{IsTextCut, WritesCut, Writes, WasUnread}
-use Rattle.ws_top.specs.Printing.{Prints, PrintsSome}
+use Rattle.ws_top.specs.Outcomes.{WritesCut, Writes}
+use Rattle.ws_top.specs.Printing.{PrintsSome}
 use Rattle.ws_top.specs.Texts.{report_from, text, status_line}
-use Rattle.ws_top.proofs.Written.{gains_none, gains_more}
-use Rattle.ws_top.proofs.Printed.{prints_all, some_of, some_front, some_before, some_more}
+use Rattle.ws_top.proofs.Printed.{some_of, some_front, some_before, some_more}
 
 -- all of a text is a front of it
 pub all_is_front : (a b : Option (List ℕ)) (t : List ℕ) → Gains a t b → GainsFront a t b
@@ -29,10 +28,6 @@ front_part a b t u h = some_front a b [] (t ++ u) (t ++ u) (some_before a b [] t
 pub front_after : (a b c : Option (List ℕ)) (t u : List ℕ) → Gains a t b → GainsFront b u c → GainsFront a (t ++ u) c
 front_after a b c t u g h = some_front a c [] (t ++ u) (t ++ u)
     (some_more a b c [] t [] u (record { front = t; written = g; whole = append-nil t }) (some_of_front b c u h)) refl
-
--- one text after another
-pub whole_after : (a b c : Option (List ℕ)) (t u : List ℕ) → Gains a t b → Gains b u c → Gains a (t ++ u) c
-whole_after a b c t u g h = gains_more a b c t u g h
 
 status_0 : status_line 0 ≡ codes "status 0\n"
 status_0 = ap (λ ds. codes "status " ++ ds ++ codes "\n") (decimal_digit 0 (lit< tt))

@@ -6,7 +6,7 @@ use Rattle.script_lang.specs.declared.script.Script.{Script}
 use Rattle.script_lang.specs.Scripts.{IsScript}
 use Rattle.ws_core.specs.declared.history.Entry.{Entry}
 use Rattle.ws_top.specs.declared.words.Form.{Form}
-use Rattle.ws_top.specs.declared.words.Form.TheVariants.{Run}
+use Rattle.ws_top.specs.declared.words.Form.TheVariants.{Run, Help, Version}
 use Rattle.script_lang.specs.Lines.{lines_of, IsLineAhead}
 use Rattle.ws_core.specs.Histories.{fresh}
 use Rattle.ws_top.specs.Limits.{ReadsAll}
@@ -16,6 +16,10 @@ use Rattle.ws_top.specs.Runs.{Call, call_of, calls}
 -- the words ask for a run
 abbrev pub IsRun : Option Form → Type 0
 IsRun form = form ≡ Some Run
+
+-- the words ask for a text of the program's own
+abbrev pub IsTelling : Option Form → Type 0
+IsTelling form = (form ≡ Some Help) ⊎ (form ≡ Some Version)
 
 -- the status is none of those of a source that wasn't read to its end, and memory sufficed
 pub record WasRead (status : ℕ) : Type 0 where
@@ -56,21 +60,21 @@ CutShuffle script h = (others : List Call) × (map call_of h ++ others ≡ calls
 abbrev pub Judges : Option (List ℕ) → Option (List ℕ) → ℕ → Type 0
 Judges old new status = (bytes : List ℕ) × ReadsAll old new bytes × ((status ≡ 6) ↔ SpellsNone bytes)
 
--- the source was read to its end, its bytes spell a script, and that is what was run
-pub record RanAll (old new : Option (List ℕ)) (h : List Entry) : Type 0 where
+-- the source was read to its end, its bytes spell a script, and what was run is made of it in this way
+pub record Ran (Made : Script → List Entry → Type 0) (old new : Option (List ℕ)) (h : List Entry) : Type 0 where
   pub bytes : List ℕ
   pub script : Script
   pub read : ReadsAll old new bytes
   pub spelled : IsScript bytes script
-  pub shuffle : Shuffle script h
+  pub made : Made script h
+
+-- the script was run to its end
+abbrev pub RanAll : Option (List ℕ) → Option (List ℕ) → List Entry → Type 0
+RanAll = Ran Shuffle
 
 -- the same, up to a call at which it stopped
-pub record RanSome (old new : Option (List ℕ)) (h : List Entry) : Type 0 where
-  pub bytes : List ℕ
-  pub script : Script
-  pub read : ReadsAll old new bytes
-  pub spelled : IsScript bytes script
-  pub shuffle : CutShuffle script h
+abbrev pub RanSome : Option (List ℕ) → Option (List ℕ) → List Entry → Type 0
+RanSome = Ran CutShuffle
 
 -- the source was read to its end, its bytes spell no script, and this is the text that says where the reading stopped:
 -- at one of the lines or just past the last

@@ -121,18 +121,13 @@ fn print_notice<K: Sink>(
 
 /// Prints an entry's line.
 #[tactic(auto, using(crate::proofs::Printed::some_none, crate::proofs::Printed::prints_after, crate::proofs::Printed::some_after))]
-fn print_line<K: Sink>(
-    sink: &mut K,
-    out: &mut Vec<u8>,
-    alloc: Global,
-    entry: &Entry,
-) -> Result<(), Unwritten>
+fn print_line<K: Sink>(sink: &mut K, out: &mut Vec<u8>, entry: &Entry) -> Result<(), Unwritten>
     ensures printed { OnOk result (Prints (K.written sink.old) (K.written sink.new) out.old.items (entry_line entry.now) out.new.items) }
     ensures some { OnErr result (PrintsSome (K.written sink.old) (K.written sink.new) out.old.items (entry_line entry.now)) }
     ensures fault { result ≡ Err Unwritten.Fault → Rose (K.faults sink.old) (K.faults sink.new) }
     ensures calm { OnOk result (K.faults sink.new ≡ K.faults sink.old) }
 {
-    match put_line(out, alloc, entry) {
+    match put_line(out, entry) {
         Ok(()) => print_gathered(sink, out),
         Err(_) => Err(Unwritten::Memory),
     }
@@ -140,18 +135,13 @@ fn print_line<K: Sink>(
 
 /// Prints an entry's line, and what it told.
 #[tactic(auto, using(crate::proofs::Printed::prints_more, crate::proofs::Printed::some_more, crate::proofs::Printed::some_before))]
-fn print_shown<K: Sink>(
-    sink: &mut K,
-    out: &mut Vec<u8>,
-    alloc: Global,
-    entry: &Entry,
-) -> Result<(), Unwritten>
+fn print_shown<K: Sink>(sink: &mut K, out: &mut Vec<u8>, entry: &Entry) -> Result<(), Unwritten>
     ensures printed { OnOk result (Prints (K.written sink.old) (K.written sink.new) out.old.items (entry_line entry.now ++ notice_lines entry.now.reply.notice) out.new.items) }
     ensures some { OnErr result (PrintsSome (K.written sink.old) (K.written sink.new) out.old.items (entry_line entry.now ++ notice_lines entry.now.reply.notice)) }
     ensures fault { result ≡ Err Unwritten.Fault → Rose (K.faults sink.old) (K.faults sink.new) }
     ensures calm { OnOk result (K.faults sink.new ≡ K.faults sink.old) }
 {
-    match print_line(sink, out, alloc, entry) {
+    match print_line(sink, out, entry) {
         Ok(()) => print_notice(sink, out, entry.reply.notice.as_ref()),
         Err(error) => Err(error),
     }
@@ -159,19 +149,14 @@ fn print_shown<K: Sink>(
 
 /// Prints an entry, where it is shown.
 #[tactic(auto, using(crate::proofs::Printed::prints_none))]
-fn print_entry<K: Sink>(
-    sink: &mut K,
-    out: &mut Vec<u8>,
-    alloc: Global,
-    entry: &Entry,
-) -> Result<(), Unwritten>
+fn print_entry<K: Sink>(sink: &mut K, out: &mut Vec<u8>, entry: &Entry) -> Result<(), Unwritten>
     ensures printed { OnOk result (Prints (K.written sink.old) (K.written sink.new) out.old.items (entry_lines entry.now) out.new.items) }
     ensures some { OnErr result (PrintsSome (K.written sink.old) (K.written sink.new) out.old.items (entry_lines entry.now)) }
     ensures fault { result ≡ Err Unwritten.Fault → Rose (K.faults sink.old) (K.faults sink.new) }
     ensures calm { OnOk result (K.faults sink.new ≡ K.faults sink.old) }
 {
     if is_shown(&entry.event) {
-        print_shown(sink, out, alloc, entry)
+        print_shown(sink, out, entry)
     } else {
         Ok(())
     }
@@ -182,7 +167,6 @@ fn print_entry<K: Sink>(
 fn print_entries<K: Sink>(
     sink: &mut K,
     out: &mut Vec<u8>,
-    alloc: Global,
     entries: &[Entry],
 ) -> Result<(), Unwritten>
     ensures printed { OnOk result (Prints (K.written sink.old) (K.written sink.new) out.old.items (history_lines entries.now) out.new.items) }
@@ -191,7 +175,7 @@ fn print_entries<K: Sink>(
     ensures calm { OnOk result (K.faults sink.new ≡ K.faults sink.old) }
 {
     for entry in entries {
-        match print_entry(sink, out, alloc, entry) {
+        match print_entry(sink, out, entry) {
             Ok(()) => {}
             Err(error) => return Err(error),
         }
@@ -231,7 +215,7 @@ fn print_report<K: Sink>(
     ensures fault { result ≡ Err Unwritten.Fault → Rose (K.faults sink.old) (K.faults sink.new) }
     ensures calm { OnOk result (K.faults sink.new ≡ K.faults sink.old) }
 {
-    match print_entries(sink, out, alloc, core.history()) {
+    match print_entries(sink, out, core.history()) {
         Ok(()) => print_changes(sink, out, alloc, core),
         Err(error) => Err(error),
     }

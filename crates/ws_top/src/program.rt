@@ -1,6 +1,6 @@
 //! The one call of the program.
-ghost use Rattle.std.specs.Prelude.{◌≡◌, ◌≢◌, ◌↔◌, ◌⊎◌, ◌≤◌, ◌++◌, ℕ, List, [], map, string_bytes, length, codes, decimal, true, false, Some, None, Err, IfOk, OnOk, OnErr};
-ghost use Rattle.ws_core.specs.Histories.{fresh, replay, Legal, notices, told_of};
+ghost use Rattle.std.specs.Prelude.{◌≡◌, ◌≢◌, ◌↔◌, ◌⊎◌, ◌≤◌, ◌++◌, ℕ, List, [], map, string_bytes, length, true, Some, None, Err, IfOk, OnOk};
+ghost use Rattle.ws_core.specs.Histories.{fresh, Legal, notices, told_of};
 ghost use Rattle.ws_outside.specs.Faults.{Rose};
 ghost use Rattle.ws_outside.specs.Streams.{IsAtEnd, Gains, GainsFront};
 ghost use Rattle.script_lang.specs.Lines.{lines_of, IsLineAhead};
@@ -8,7 +8,7 @@ ghost use Rattle.script_lang.specs.Scripts.{IsScript};
 ghost use Rattle.script_lang.specs.declared.script.Script.{Script};
 ghost use Rattle.ws_top.specs.Forms.{form_of};
 ghost use Rattle.ws_top.specs.Limits.{longest, Reads, ReadsShort, ReadsLong};
-ghost use Rattle.ws_top.specs.Outcomes.{IsRun, WasRead, WasRun, WasIdle, SpellsNone, Shuffle, CutShuffle, Judges, RanAll, RanSome, IsTextBad, IsResponse, WasUnread, WritesCut, Writes};
+ghost use Rattle.ws_top.specs.Outcomes.{IsRun, IsTelling, WasRead, WasRun, WasIdle, SpellsNone, Shuffle, CutShuffle, Judges, RanAll, RanSome, IsTextBad, IsResponse, WasUnread, WritesCut, Writes};
 ghost use Rattle.ws_top.specs.Texts.{text, report_from, status_line, bad_line};
 
 use crate::NoMemory;
@@ -74,6 +74,7 @@ pub fn top<S: Source, K: Sink>(
     ensures text_bad { result.status ≡ 6 → (written : List ℕ) × IsTextBad (S.left source.old) (S.left source.new) written × Writes (K.written sink.old) (K.written sink.new) (K.faults sink.old) (K.faults sink.new) written }
     ensures text_status { WasUnread result.status → Writes (K.written sink.old) (K.written sink.new) (K.faults sink.old) (K.faults sink.new) (status_line result.status) }
     // the two other forms write their text and do nothing
+    ensures told_help { IsTelling (form_of (map string_bytes words.now)) → (result.status ≡ 0) ⊎ ((result.status ≡ 4) × Rose (K.faults sink.old) (K.faults sink.new)) }
     ensures text_help { form_of (map string_bytes words.now) ≡ Some Form.Help → Writes (K.written sink.old) (K.written sink.new) (K.faults sink.old) (K.faults sink.new) HELP.now }
     ensures text_version { form_of (map string_bytes words.now) ≡ Some Form.Version → Writes (K.written sink.old) (K.written sink.new) (K.faults sink.old) (K.faults sink.new) VERSION.now }
     ensures unread { (IsRun (form_of (map string_bytes words.now)) → ⊥) → (S.left source.new ≡ S.left source.old) × (S.faults source.new ≡ S.faults source.old) }
@@ -155,7 +156,7 @@ fn say_bad_line<K: Sink>(alloc: Global, sink: &mut K, line: u64) -> Outcome
     ensures cut { result.status ≡ 8 → GainsFront (K.written sink.old) (status_line 8) (K.written sink.new) }
 {
     let mut text = Vec::new(alloc);
-    match put_bad_line(&mut text, alloc, line) {
+    match put_bad_line(&mut text, line) {
         Ok(()) => say(alloc, sink, 6, text.as_slice()),
         Err(_) => say(alloc, sink, 8, b"status 8\n"),
     }
@@ -258,7 +259,7 @@ fn report_cut<K: Sink>(alloc: Global, sink: &mut K, core: Core) -> Outcome
 }
 
 /// Writes what was done, what changed since the start, and then the last line.
-#[tactic(auto, using(crate::proofs::Ended::all_is_front, crate::proofs::Ended::front_part, crate::proofs::Ended::front_after, crate::proofs::Ended::whole_after))]
+#[tactic(auto, using(crate::proofs::Ended::all_is_front, crate::proofs::Ended::front_part, crate::proofs::Ended::front_after, crate::proofs::Written::gains_more))]
 fn write_run<K: Sink>(sink: &mut K, alloc: Global, core: &Core, last: &str) -> Result<(), Unwritten>
     requires { core.now.opened ≡ fresh }
     ensures whole { OnOk result (Gains (K.written sink.old) (report_from core.now.opened core.now.history ++ last.now) (K.written sink.new)) }

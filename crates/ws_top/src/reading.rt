@@ -1,6 +1,6 @@
 //! A source is read to its end.
-ghost use Rattle.std.specs.Prelude.{◌≡◌, ◌+◌, ◌≤◌, ◌<◌, ◌⊎◌, ◌≢◌, ℕ, List, [], ◌++◌, length, take, Err, IfOk, IfErr, OnErr, OnOk};
-ghost use Rattle.ws_outside.specs.Faults.{Rose, HasCause};
+ghost use Rattle.std.specs.Prelude.{◌≡◌, ◌+◌, ◌≤◌, ◌<◌, ◌⊎◌, ◌≢◌, ℕ, List, length, Err, IfOk, OnErr, OnOk};
+ghost use Rattle.ws_outside.specs.Faults.{Rose};
 ghost use Rattle.ws_outside.specs.Streams.{Takes, IsAtEnd, CountsOne};
 ghost use Rattle.ws_top.specs.Limits.{longest, Reads, ReadsAll, ReadsShort, ReadsLong};
 
@@ -11,8 +11,8 @@ use ws_outside::Source;
 /// The bytes of the longest script.
 const LONGEST: usize = 67_108_864;
 
-/// The most bytes that one read asks for.
-const PIECE: usize = 65_536;
+/// The most bytes that one read asks for: standard input gives no more at once.
+const PIECE: usize = 8_192;
 
 /// Why a source was not read to its end.
 #[derive(Clone, Copy, Debug, PartialEq, Eq)]

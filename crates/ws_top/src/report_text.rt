@@ -1,12 +1,15 @@
 //! The lines of a run's text.
 ghost use Rattle.std.specs.Prelude.{◌≡◌, ◌++◌, [], codes, decimal, OnOk, if◌then◌else◌};
+ghost use Rattle.std.specs.Option.{option_copied};
 ghost use Rattle.res_path.specs.Paths.{path_text};
-ghost use Rattle.ws_top.specs.Texts.{event_text, refusal_text, answer_text, sign, where_set, flag_names, node_line, entry_line, is_shown, bad_line};
+ghost use Rattle.ws_top.specs.Texts.{event_text, refusal_text, answer_text, sign, where_set, place_text, moved_names, middle_names, last_names, flag_names, node_line, entry_line, is_shown, bad_line};
 
 use crate::NoMemory;
-use delta_kind::{ADDED, CONTENT, DeltaNode, OPEN, REMOVED, REPLACED};
+use delta_kind::{
+    ADDED, CONTENT, DERIVED_CHANGED, DESCRIPTION, DeltaNode, OPEN, REMOVED, REPLACED, TYPE,
+};
+use itoa::Buffer;
 use res_path::Path;
-use std::alloc::Global;
 use ws_core::{Answer, Entry, Event, Refusal, Reply};
 
 /// Appends the bytes.
@@ -27,11 +30,11 @@ pub fn put_text(out: &mut Vec<u8>, text: &str) -> Result<(), NoMemory>
 }
 
 /// Appends the number in decimal.
-pub fn put_number(out: &mut Vec<u8>, alloc: Global, number: u64) -> Result<(), NoMemory>
+pub fn put_number(out: &mut Vec<u8>, number: u64) -> Result<(), NoMemory>
     ensures { OnOk result (out.new.items ≡ out.old.items ++ decimal number) }
 {
-    let text = number.to_string(alloc)?;
-    put_text(out, text.as_str())
+    let mut buffer = Buffer::new();
+    put_text(out, buffer.format(number))
 }
 
 /// Appends a text and a path.
@@ -42,13 +45,13 @@ fn put_path(out: &mut Vec<u8>, before: &str, path: &Path) -> Result<(), NoMemory
     put_text(out, path.as_str())
 }
 
-fn put_schedule(out: &mut Vec<u8>, alloc: Global, name: &str, priority: u8) -> Result<(), NoMemory>
+fn put_schedule(out: &mut Vec<u8>, name: &str, priority: u8) -> Result<(), NoMemory>
     ensures { OnOk result (out.new.items ≡ out.old.items ++ codes "schedule " ++ name.now ++ codes " " ++ decimal priority ++ codes " path /") }
 {
     put_text(out, "schedule ")?;
     put_text(out, name)?;
     put_text(out, " ")?;
-    put_number(out, alloc, u64::from(priority))?;
+    put_number(out, u64::from(priority))?;
     put_text(out, " path /")
 }
 
@@ -67,13 +70,13 @@ fn put_create_project(out: &mut Vec<u8>, path: &Path) -> Result<(), NoMemory>
     put_path(out, "project ", path)
 }
 
-fn put_event(out: &mut Vec<u8>, alloc: Global, event: &Event) -> Result<(), NoMemory>
+fn put_event(out: &mut Vec<u8>, event: &Event) -> Result<(), NoMemory>
     ensures { OnOk result (out.new.items ≡ out.old.items ++ event_text event.now) }
 {
     match event {
         Event::Enter => put_text(out, "enter"),
         Event::Leave => put_text(out, "leave"),
-        Event::Schedule(name, priority) => put_schedule(out, alloc, name.text(), *priority),
+        Event::Schedule(name, priority) => put_schedule(out, name.text(), *priority),
         Event::Take => put_text(out, "take"),
         Event::Finish => put_text(out, "finish"),
         Event::Batch => put_text(out, "batch"),
@@ -100,11 +103,11 @@ fn put_refusal(out: &mut Vec<u8>, refusal: &Refusal) -> Result<(), NoMemory>
     }
 }
 
-fn put_id(out: &mut Vec<u8>, alloc: Global, id: u64) -> Result<(), NoMemory>
+fn put_id(out: &mut Vec<u8>, id: u64) -> Result<(), NoMemory>
     ensures { OnOk result (out.new.items ≡ out.old.items ++ codes "id " ++ decimal id) }
 {
     put_text(out, "id ")?;
-    put_number(out, alloc, id)
+    put_number(out, id)
 }
 
 fn put_refused(out: &mut Vec<u8>, refusal: &Refusal) -> Result<(), NoMemory>
@@ -114,12 +117,12 @@ fn put_refused(out: &mut Vec<u8>, refusal: &Refusal) -> Result<(), NoMemory>
     put_refusal(out, refusal)
 }
 
-fn put_answer(out: &mut Vec<u8>, alloc: Global, answer: &Answer) -> Result<(), NoMemory>
+fn put_answer(out: &mut Vec<u8>, answer: &Answer) -> Result<(), NoMemory>
     ensures { OnOk result (out.new.items ≡ out.old.items ++ answer_text answer.now) }
 {
     match answer {
         Answer::Done => put_text(out, "ok"),
-        Answer::Id(id) => put_id(out, alloc, *id),
+        Answer::Id(id) => put_id(out, *id),
         Answer::None => put_text(out, "none"),
         Answer::Job(name) => put_text(out, name.text()),
         Answer::Refused(refusal) => put_refused(out, refusal),
@@ -147,12 +150,45 @@ fn put_where_set(out: &mut Vec<u8>, flags: u32, flag: u32, text: &str) -> Result
     put_text(out, text)
 }
 
-fn put_flags(out: &mut Vec<u8>, flags: u32) -> Result<(), NoMemory>
-    ensures { OnOk result (out.new.items ≡ out.old.items ++ flag_names flags) }
+fn put_place(out: &mut Vec<u8>, text: &str, place: Option<&Path>) -> Result<(), NoMemory>
+    ensures { OnOk result (out.new.items ≡ out.old.items ++ place_text text.now (option_copied place.entry)) }
 {
-    put_where_set(out, flags, CONTENT, " CONTENT")?;
+    match place {
+        Some(path) => put_path(out, text, path),
+        None => Ok(()),
+    }
+}
+
+fn put_moved(out: &mut Vec<u8>, node: &DeltaNode) -> Result<(), NoMemory>
+    ensures { OnOk result (out.new.items ≡ out.old.items ++ moved_names node.now) }
+{
+    put_place(out, " MOVED_FROM=", node.moved_from.as_ref())?;
+    put_place(out, " MOVED_TO=", node.moved_to.as_ref())
+}
+
+fn put_middle_flags(out: &mut Vec<u8>, flags: u32) -> Result<(), NoMemory>
+    ensures { OnOk result (out.new.items ≡ out.old.items ++ middle_names flags) }
+{
     put_where_set(out, flags, OPEN, " OPEN")?;
+    put_where_set(out, flags, TYPE, " TYPE")?;
     put_where_set(out, flags, REPLACED, " REPLACED")
+}
+
+fn put_last_flags(out: &mut Vec<u8>, flags: u32) -> Result<(), NoMemory>
+    ensures { OnOk result (out.new.items ≡ out.old.items ++ last_names flags) }
+{
+    put_where_set(out, flags, DESCRIPTION, " DESCRIPTION")?;
+    put_where_set(out, flags, DERIVED_CHANGED, " DERIVED_CHANGED")
+}
+
+/// Appends the names of the flags that are set, in the order of their numbers.
+fn put_flags(out: &mut Vec<u8>, node: &DeltaNode) -> Result<(), NoMemory>
+    ensures { OnOk result (out.new.items ≡ out.old.items ++ flag_names node.now) }
+{
+    put_where_set(out, node.flags, CONTENT, " CONTENT")?;
+    put_moved(out, node)?;
+    put_middle_flags(out, node.flags)?;
+    put_last_flags(out, node.flags)
 }
 
 /// Appends the line of a node.
@@ -161,20 +197,20 @@ pub fn put_node(out: &mut Vec<u8>, node: &DeltaNode) -> Result<(), NoMemory>
 {
     put_path(out, "  ", &node.path)?;
     put_sign(out, node.kind)?;
-    put_flags(out, node.flags)?;
+    put_flags(out, node)?;
     put_text(out, "\n")
 }
 
 /// Appends the line of an entry.
-pub fn put_line(out: &mut Vec<u8>, alloc: Global, entry: &Entry) -> Result<(), NoMemory>
+pub fn put_line(out: &mut Vec<u8>, entry: &Entry) -> Result<(), NoMemory>
     ensures { OnOk result (out.new.items ≡ out.old.items ++ entry_line entry.now) }
 {
     put_text(out, "p")?;
-    put_number(out, alloc, entry.pass)?;
+    put_number(out, entry.pass)?;
     put_text(out, " ")?;
-    put_event(out, alloc, &entry.event)?;
+    put_event(out, &entry.event)?;
     put_text(out, " -> ")?;
-    put_answer(out, alloc, &entry.reply.answer)?;
+    put_answer(out, &entry.reply.answer)?;
     put_text(out, "\n")
 }
 
@@ -197,12 +233,12 @@ pub fn is_shown(event: &Event) -> bool
 }
 
 /// Appends the line of a script that no bytes spell.
-pub fn put_bad_line(out: &mut Vec<u8>, alloc: Global, line: u64) -> Result<(), NoMemory>
+pub fn put_bad_line(out: &mut Vec<u8>, line: u64) -> Result<(), NoMemory>
     ensures { OnOk result (out.new.items ≡ out.old.items ++ bad_line line) }
 {
     put_text(out, "status ")?;
-    put_number(out, alloc, 6)?;
+    put_number(out, 6)?;
     put_text(out, " line ")?;
-    put_number(out, alloc, line)?;
+    put_number(out, line)?;
     put_text(out, "\n")
 }

@@ -1,5 +1,8 @@
 //! Runs in memory, by examples worked by hand.
+use crate::report_text::put_node;
 use crate::{Outcome, top};
+use delta_kind::{CHANGED, DeltaNode};
+use res_path::Path;
 use std::alloc::Global;
 use std::test::Fail;
 use ws_outside::{MemSink, MemSource};
@@ -117,5 +120,57 @@ fn help_and_version_are_forms(rt: HostRuntime) -> Result<(), Fail> {
     let alloc = rt.alloc();
     assert_eq!(rt; status(alloc, &["--help"])?, 0);
     assert_eq!(rt; status(alloc, &["--version"])?, 0);
+    Ok(())
+}
+
+/// The line of a node at `/P/a` with these flags and places.
+fn line(alloc: Global, flags: u32, from: &str, to: &str) -> Result<String, Fail> {
+    let node = DeltaNode {
+        path: Path::parse(alloc, "/P/a")?,
+        kind: CHANGED,
+        flags,
+        moved_from: place(alloc, from)?,
+        moved_to: place(alloc, to)?,
+    };
+    let mut out = Vec::new(alloc);
+    put_node(&mut out, &node)?;
+    let mut text = String::new(alloc);
+    for byte in out {
+        text.push(char::from(byte))?;
+    }
+    Ok(text)
+}
+
+fn place(alloc: Global, text: &str) -> Result<Option<Path>, Fail> {
+    if text.is_empty() {
+        return Ok(None);
+    }
+    Ok(Some(Path::parse(alloc, text)?))
+}
+
+#[test]
+fn a_line_names_the_flags_in_the_order_of_their_numbers(rt: HostRuntime) -> Result<(), Fail> {
+    let alloc = rt.alloc();
+    for (flags, from, to, wanted) in [
+        (0, "", "", "  /P/a *\n"),
+        (0x100, "", "", "  /P/a * CONTENT\n"),
+        (0x4_8000, "", "", "  /P/a * TYPE REPLACED\n"),
+        (
+            0x4_3100,
+            "/P/b",
+            "/P/b",
+            "  /P/a * CONTENT MOVED_FROM=/P/b MOVED_TO=/P/b REPLACED\n",
+        ),
+        (0x40_0000, "", "", "  /P/a * DERIVED_CHANGED\n"),
+        (
+            0x4c_f100,
+            "/P/b",
+            "/c",
+            "  /P/a * CONTENT MOVED_FROM=/P/b MOVED_TO=/c OPEN TYPE REPLACED DESCRIPTION DERIVED_CHANGED\n",
+        ),
+    ] {
+        let shown = line(alloc, flags, from, to)?;
+        assert_eq!(rt; shown.as_str(), wanted);
+    }
     Ok(())
 }

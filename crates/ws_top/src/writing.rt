@@ -1,5 +1,5 @@
 //! Bytes are written to a sink, all of them.
-ghost use Rattle.std.specs.Prelude.{◌≡◌, ◌≢◌, ◌≤◌, [], length, take, drop, OnOk, OnErr};
+ghost use Rattle.std.specs.Prelude.{◌≡◌, [], OnOk, OnErr};
 ghost use Rattle.ws_outside.specs.Faults.{Rose};
 ghost use Rattle.ws_outside.specs.Streams.{Gains, GainsFront};
 

@@ -10,12 +10,12 @@ use Rattle.delta_kind.proofs.making.changed_rows.Goals as goal
 
 pub returns-clause-order : goal.returns-clause-order
 returns-clause-order c =
-    let all : map shown c.loop-row.rows.items ≡ rows_between c.args.before.now c.args.after.now =
+    let all : map shown c.loop-row.rows.items ≡ rows_between c.args.before.now.map c.args.after.now.map =
     sym (append-nil (map shown c.loop-row.rows.items)) ∙ ap (λ rows. map shown c.loop-row.rows.items ++ filter row_differs rows) (sym c.in-None.ensures.steps.0) ∙ c.loop-row.invariant in
-    subst (λ rows. InPathOrder (row_paths rows)) (sym all) (rises_sorted None _ (between_rises c.args.before.now c.args.after.now))
+    subst (λ rows. InPathOrder (row_paths rows)) (sym all) (rises_sorted None _ (between_rises c.args.before.now.map c.args.after.now.map))
 
 pub returns-clause-rows : goal.returns-clause-rows
 returns-clause-rows c p =
-    let all : map shown c.loop-row.rows.items ≡ rows_between c.args.before.now c.args.after.now =
+    let all : map shown c.loop-row.rows.items ≡ rows_between c.args.before.now.map c.args.after.now.map =
     sym (append-nil (map shown c.loop-row.rows.items)) ∙ ap (λ rows. map shown c.loop-row.rows.items ++ filter row_differs rows) (sym c.in-None.ensures.steps.0) ∙ c.loop-row.invariant in
-    ap (find path_cmp p) all ∙ between_found c.args.before.now c.args.after.now p
+    ap (find path_cmp p) all ∙ between_found c.args.before.now.map c.args.after.now.map p

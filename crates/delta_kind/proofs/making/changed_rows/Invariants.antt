@@ -7,4 +7,4 @@ use Rattle.delta_kind.proofs.making.changed_rows.Given as goal
 
 -- the rows so far, and those that differ of what is left
 abbrev pub invariant-loop-row : goal.invariant-loop-row
-invariant-loop-row l = map shown l.rows.items ++ filter row_differs (rows_left l.row-iterator) ≡ rows_between l.before l.after
+invariant-loop-row l = map shown l.rows.items ++ filter row_differs (rows_left l.row-iterator) ≡ rows_between l.before.map l.after.map

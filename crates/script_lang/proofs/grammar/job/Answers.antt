@@ -17,13 +17,13 @@ returns-in_err-commands-clause-bad c = λ number e.
 pub returns-in_err-keyword-2-clause-bad : goal.returns-in_err-keyword-2-clause-bad
 returns-in_err-keyword-2-clause-bad c = λ number e.
     let p = err_from_is_err_and c.from_residual-in_err-keyword-2.result c.from_residual-in_err-keyword-2.ensures.1 in
-    job_bad_end (lines_of c.args.reader.now.rest) (lines_of c.head.new.reader.rest) (lines_of c.keyword.new.reader.rest) (lines_of c.inner.new.reader.rest)
-    c.in_ok-name.name c.in_ok-name.priority c.in_ok-commands.commands.items c.in_ok-name.ensures.read c.in_ok-keyword.ensures.taken c.in_ok-commands.ensures.read
+    job_bad_end (lines_of c.args.reader.now.rest) (lines_of c.head.new.reader.rest) (lines_of c.keyword.new.reader.rest) (lines_of c.batch.new.reader.rest)
+    c.in_ok-name.name c.in_ok-name.priority c.in_ok-commands.ensures.read.inner c.in_ok-name.ensures.read c.in_ok-keyword.ensures.taken c.in_ok-commands.ensures.read.read
     (c.in_err-keyword-2.ensures.bad number (ap Err (sym p.2 ∙ err_same p.0 (BadLine number) (sym p.1 ∙ e))))
 
 pub returns-clause-read : goal.returns-clause-read
 returns-clause-read c =
-    job_read (lines_of c.args.reader.now.rest) (lines_of c.head.new.reader.rest) (lines_of c.keyword.new.reader.rest) (lines_of c.inner.new.reader.rest) (lines_of c.keyword-2.new.reader.rest)
-    c.in_ok-name.name c.in_ok-name.priority c.new.result c.in_ok-commands.commands.items c.in_ok-name.ensures.read c.in_ok-keyword.ensures.taken c.in_ok-commands.ensures.read
+    job_read (lines_of c.args.reader.now.rest) (lines_of c.head.new.reader.rest) (lines_of c.keyword.new.reader.rest) (lines_of c.batch.new.reader.rest) (lines_of c.keyword-2.new.reader.rest)
+    c.in_ok-name.name c.in_ok-name.priority c.new.result c.in_ok-commands.ensures.read.inner c.in_ok-name.ensures.read c.in_ok-keyword.ensures.taken c.in_ok-commands.ensures.read.read
     c.in_ok-keyword-2.ensures.taken
-    (c.new.ensures ∙ c.in_ok-push.ensures.items ∙ ap (λ items. items ++ EndBatch ∷ []) c.in_ok-insert.ensures.items)
+    (c.new.ensures ∙ c.in_ok-push.ensures.items ∙ ap (λ items. items ++ EndBatch ∷ []) c.in_ok-commands.ensures.read.commands_are)

@@ -1,7 +1,10 @@
 use Rattle.std.proofs.Common.{ap, sym, ◌∙◌}
 use Rattle.std.specs.FinMap as map
-use Rattle.ws_elem.proofs.Entries.{entries_is}
+use Rattle.ws_elem.specs.Slots.{filled}
+use Rattle.ws_elem.proofs.Filled.{entries-tree_of, filter_all}
 use Rattle.ws_elem.proofs.elem_map.ElemMap.iter.Goals as goal
 
 pub returns : goal.returns
-returns c = c.iter.ensures.rest ∙ sym (entries_is c.self.inside.elements.entries c.iter.ensures.ordered) ∙ ap map.entries c.self.view_is
+returns c =
+    c.of.ensures ∙ ap filled (c.range.ensures.between tt ∙ filter_all c.self.inside.slots.entries)
+    ∙ sym (entries-tree_of c.self.inside.slots.entries c.range.ensures.ordered) ∙ ap (λ m. map.entries m.map) c.self.view_is

@@ -1,0 +1,72 @@
+-- The rows of two trees tell where nodes were and went as the trees do.
+use Rattle.std.proofs.Common.{◌≡◌, ℕ, ◌+◌, Bool, true, false, cond, not, refl, sym, ap, ◌∙◌, arith}
+use Rattle.std.specs.Prelude.{Option, Some, None, ◌==◌}
+use Rattle.std.specs.FinMap.{get, entries, get-entries}
+use Rattle.std.proofs.lemmas.Bool.Decides.{nat_tests}
+use Rattle.res_path.specs.Paths.{Names}
+use Rattle.ws_elem.specs.declared.element.Element.{Element}
+use Rattle.ws_elem.specs.Trees.{Tree}
+use Rattle.delta_kind.specs.declared.row.Turn.TheVariants.{Lost, Gained}
+use Rattle.delta_kind.specs.declared.flags.TheConstants.{CONTENT, OPEN, TYPE, REPLACED, DESCRIPTION, DERIVED_CHANGED}
+use Rattle.delta_kind.specs.Flags.{has_content, has_open, has_type, has_description, has_derived_changed, flag_if, flags_of, differs}
+use Rattle.delta_kind.specs.Moves.{lost, is_number, place_of}
+use Rattle.delta_kind.specs.Rows.{Rows, Sides, row_paths, turned, place_in}
+use Rattle.delta_kind.proofs.Merged.{RowsOf}
+use Rattle.delta_kind.proofs.Rising.{Rises, keys_rise}
+use Rattle.delta_kind.proofs.Firsts.{passes, same_first}
+
+-- ---- where a path doesn't differ, its node stays
+
+pub no_flags : (a b : Element) → differs (Some a) (Some b) ≡ false → flags_of (Some a) (Some b) ≡ 0
+no_flags a b h = zero (flags_of (Some a) (Some b)) h
+  where
+    zero : (n : ℕ) → not (n == 0) ≡ false → n ≡ 0
+    zero n h = grind (arith, nat_tests)
+
+same_node : (a b : Element) → differs (Some a) (Some b) ≡ false → (a.node == b.node) ≡ true
+same_node a b h = by (flag_if CONTENT (has_content (Some a) (Some b))) (flag_if OPEN (has_open (Some a) (Some b))) (flag_if TYPE (has_type (Some a) (Some b)))
+    (flag_if DESCRIPTION (has_description (Some a) (Some b))) (flag_if DERIVED_CHANGED (has_derived_changed (Some a) (Some b))) (a.node == b.node) (no_flags a b h)
+  where
+    by : (c o t d v : ℕ) (s : Bool) → c + o + t + flag_if REPLACED (not s) + d + v ≡ 0 → s ≡ true
+    by c o t d v true h = refl
+    by c o t d v false h = absurd (omega arith)
+
+same_back : (m n : ℕ) → (m == n) ≡ true → (n == m) ≡ true
+same_back m n h = grind (arith, nat_tests)
+
+pub none_lost : (x y : Option Element) → differs x y ≡ false → lost x y ≡ None
+none_lost None y h = refl
+none_lost (Some a) None h = cc
+none_lost (Some a) (Some b) h = ap (λ s. cond s None (Some a.node)) (same_node a b h)
+
+pub none_gained : (x y : Option Element) → differs x y ≡ false → lost y x ≡ None
+none_gained x None h = refl
+none_gained None (Some b) h = cc
+none_gained (Some a) (Some b) h = ap (λ s. cond s None (Some b.node)) (same_back a.node b.node (same_node a b h))
+
+-- ---- the first path that loses a node, and the first that gains it
+
+module _ (a b : Tree) (rows : Rows) (h : RowsOf a b rows) (up : Rises None (row_paths rows)) (n : ℕ) where
+  pub losers_are : place_in Lost rows n ≡ place_of a b n
+  losers_are = same_first (λ row. is_number n (turned Lost row.1)) (λ e. is_number n (lost (Some e.1) (get b e.0))) rows (entries a) up (keys_rise a) (λ p.
+      ap (passes (λ row. is_number n (turned Lost row.1)) p) (h p) ∙ by p (get a p) (differs (get a p) (get b p)) refl
+      ∙ ap (passes (λ e. is_number n (lost (Some e.1) (get b e.0))) p) (get-entries a p))
+    where
+      by : (p : Names) (x : Option Element) (c : Bool) → differs x (get b p) ≡ c
+          → passes (λ (row : Names × Sides). is_number n (turned Lost row.1)) p (cond c (Some (x, get b p)) None) ≡ passes (λ (e : Names × Element). is_number n (lost (Some e.1) (get b e.0))) p x
+      by p None true e = refl
+      by p None false e = refl
+      by p (Some x) true e = refl
+      by p (Some x) false e = sym (ap (is_number n) (none_lost (Some x) (get b p) e))
+
+  pub gainers_are : place_in Gained rows n ≡ place_of b a n
+  gainers_are = same_first (λ row. is_number n (turned Gained row.1)) (λ e. is_number n (lost (Some e.1) (get a e.0))) rows (entries b) up (keys_rise b) (λ p.
+      ap (passes (λ row. is_number n (turned Gained row.1)) p) (h p) ∙ by p (get b p) (differs (get a p) (get b p)) refl
+      ∙ ap (passes (λ e. is_number n (lost (Some e.1) (get a e.0))) p) (get-entries b p))
+    where
+      by : (p : Names) (y : Option Element) (c : Bool) → differs (get a p) y ≡ c
+          → passes (λ (row : Names × Sides). is_number n (turned Gained row.1)) p (cond c (Some (get a p, y)) None) ≡ passes (λ (e : Names × Element). is_number n (lost (Some e.1) (get a e.0))) p y
+      by p None true e = refl
+      by p None false e = refl
+      by p (Some y) true e = refl
+      by p (Some y) false e = sym (ap (is_number n) (none_gained (get a p) (Some y) e))

@@ -1,0 +1,14 @@
+use Rattle.std.proofs.Common.{subst, not, List, ℕ}
+use Rattle.std.proofs.lemmas.Result.{err_from_is_err_and}
+use Rattle.res_path.specs.Names.{is_name}
+use Rattle.proj_desc.specs.declared.cause.DescCause.TheVariants.{BadName}
+use Rattle.proj_desc.specs.Described.{command_of}
+use Rattle.proj_desc.specs.Causes.{when, Tells}
+use Rattle.proj_desc.proofs.Told.{told_of_values}
+use Rattle.proj_desc.proofs.reading.check_builders.Goals as goal
+
+pub returns-in_err-name_of-clause-bad : goal.returns-in_err-name_of-clause-bad
+returns-in_err-name_of-clause-bad c =
+    let p = err_from_is_err_and c.from_residual.result c.from_residual.ensures.1 in
+    rw (p.1, p.2) (told_of_values (λ d. is_name d.builder) command_of BadName c.args.commands.now c.loop-command.command-index c.command-item.result c.in_err-name_of.field-0.0
+    c.loop-command-test.true c.command-item.is (subst (λ (t : List ℕ). Tells (when (not (is_name t)) BadName) c.in_err-name_of.field-0.0) c.text_at.ensures c.in_err-name_of.ensures.bad))

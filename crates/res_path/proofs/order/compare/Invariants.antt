@@ -1,7 +1,0 @@
-use Rattle.std.proofs.Common.{◌≡◌, drop}
-use Rattle.res_path.specs.Order.{text_cmp}
-use Rattle.res_path.proofs.order.compare.Given as goal
-
--- what is left decides
-abbrev pub invariant-loop-i : goal.invariant-loop-i
-invariant-loop-i l = text_cmp l.a l.b ≡ text_cmp (drop l.i l.a) (drop l.i l.b)

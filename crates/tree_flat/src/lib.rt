@@ -1,0 +1,10 @@
+//! A tree of elements over one ordered map.
+//!
+//! - `flat_tree`: a `FlatTree`, which keeps its newest state alone.
+#![tactic(auto)]
+
+mod flat_tree;
+#[cfg(test)]
+mod tests;
+
+pub use flat_tree::FlatTree;

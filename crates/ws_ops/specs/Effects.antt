@@ -1,0 +1,135 @@
+-- What an operation does that isn't refused.
+use Rattle.std.specs.Prelude.{ℕ, ◌+◌, Bool, true, false, if◌then◌else◌, List, [], ◌∷◌, length, Option, Some, None, unwrap_or, codes}
+use Rattle.std.specs.FinMap.{insert, get}
+use Rattle.std.specs.Option.{option_map}
+use Rattle.res_path.specs.Paths.{Names}
+use Rattle.ws_elem.specs.declared.element.Element.{Element}
+use Rattle.ws_elem.specs.declared.kind.Kind.TheVariants.{File, Folder, Project}
+use Rattle.ws_elem.specs.Elements.{bare}
+use Rattle.ws_elem.specs.Kinds.{is_file, is_project}
+use Rattle.ws_elem.specs.Trees.{Tree, without}
+use Rattle.proj_desc.specs.Canonical.{canonical_of}
+use Rattle.ws_ops.specs.declared.answer.OpAnswer.{OpAnswer}
+use Rattle.ws_ops.specs.declared.answer.OpAnswer.TheVariants.{Done, Seen}
+use Rattle.ws_ops.specs.declared.op.Op.{Op}
+use Rattle.ws_ops.specs.declared.op.Op.TheVariants.{CreateFile, CreateFolder, CreateProject, Delete, Write, Touch, Derived, Move, Copy, Open, Close, Describe, Read}
+use Rattle.ws_ops.specs.Resources.{Resources}
+use Rattle.ws_ops.specs.Places.{is_shut}
+use Rattle.ws_ops.specs.Entries.{Entries}
+use Rattle.ws_ops.specs.Members.{found_at, branch, members, without_members, put_all, carried}
+use Rattle.ws_ops.specs.Numbers.{stamps_of, stamps_of_all}
+
+-- the description of a project that nobody described
+abbrev pub empty_description : List ℕ
+empty_description = codes "{\"commands\":[],\"references\":[]}"
+
+-- a file with these contents, with the node and the stamp that it draws
+abbrev pub new_file : ℕ → ℕ → List ℕ → Element
+new_file node stamp bytes = record (bare File node) { stamp = stamp; bytes = bytes }
+
+-- a folder, with the node that it draws
+abbrev pub new_folder : ℕ → Element
+new_folder node = bare Folder node
+
+-- an open project with the empty description, with its node and its description's stamp
+abbrev pub new_project : ℕ → ℕ → Element
+new_project node stamp = record (bare Project node) { opened = true; desc_stamp = stamp; desc = empty_description }
+
+-- the element stands at p, and its numbers are drawn
+abbrev pub create : Resources → Names → Element → Resources
+create r p e = record r { tree = insert r.tree p e; next_node = r.next_node + 1; next_stamp = r.next_stamp + stamps_of e }
+
+-- the tree with this at p
+abbrev pub put_some : Tree → Names → Option Element → Tree
+put_some t p None = t
+put_some t p (Some e) = insert t p e
+
+-- the tree in which what is at p is changed so
+abbrev pub change_at : Tree → Names → (Element → Element) → Tree
+change_at t p change = put_some t p (option_map change (get t p))
+
+-- p and all below it are gone, and what the shelf has of it
+abbrev pub delete : Resources → Names → Resources
+delete r p = record r { tree = without r.tree p; shelf = without r.shelf p }
+
+-- new contents, with a fresh stamp
+abbrev pub write : Resources → Names → List ℕ → Resources
+write r p bytes = record r {
+  tree = change_at r.tree p (λ e. record e { stamp = r.next_stamp; bytes = bytes });
+  next_stamp = r.next_stamp + 1;
+}
+
+-- the same contents, with a fresh stamp
+abbrev pub touch : Resources → Names → Resources
+touch r p = record r { tree = change_at r.tree p (λ e. record e { stamp = r.next_stamp }); next_stamp = r.next_stamp + 1 }
+
+abbrev pub derive : Resources → Names → Bool → Resources
+derive r p on = record r { tree = change_at r.tree p (λ e. record e { derived = on }) }
+
+-- each element at or below `from` stands at its place below `to`, and nothing at or below `from`
+abbrev pub move : Resources → Names → Names → Resources
+move r from to = record r { tree = put_all (without r.tree from) (carried from to (branch r.tree from)) }
+
+-- an element with this node, and with this stamp for its contents or its description
+abbrev pub renumbered : ℕ → ℕ → Element → Element
+renumbered node stamp e = record e {
+  node = node;
+  stamp = if is_file e.kind then stamp else e.stamp;
+  desc_stamp = if is_project e.kind then stamp else e.desc_stamp;
+}
+
+-- the elements with fresh numbers, drawn in their order
+abbrev pub copies : ℕ → ℕ → Entries → Entries
+copies node stamp [] = []
+copies node stamp (e ∷ es) = (e.0, renumbered node stamp e.1) ∷ copies (node + 1) (stamp + stamps_of e.1) es
+
+-- a copy of each element at or below `from` stands at its place below `to`
+abbrev pub copy : Resources → Names → Names → Resources
+copy r from to =
+    let copied = branch r.tree from in
+    record r {
+      tree = put_all r.tree (carried from to (copies r.next_node r.next_stamp copied));
+      next_node = r.next_node + length copied;
+      next_stamp = r.next_stamp + stamps_of_all copied;
+    }
+
+-- the project is open or not
+abbrev pub set_open : Tree → Names → Bool → Tree
+set_open t p on = change_at t p (λ e. record e { opened = on })
+
+-- a closed project is open, and its members come from the shelf; an open one stays as it is
+abbrev pub open_project : Resources → Names → Resources
+open_project r p = if is_shut r.tree p then record r {
+  tree = put_all (set_open r.tree p true) (members r.shelf p);
+  shelf = without_members r.shelf p;
+} else r
+
+-- an open project is closed, and its members go to the shelf; a closed one stays as it is
+abbrev pub close_project : Resources → Names → Resources
+close_project r p = if is_shut r.tree p then r else record r {
+  tree = set_open (without_members r.tree p) p false;
+  shelf = put_all r.shelf (members r.tree p);
+}
+
+-- the text in its canonical form, with a fresh stamp
+abbrev pub describe : Resources → Names → List ℕ → Resources
+describe r p text = record r {
+  tree = change_at r.tree p (λ e. record e { desc = unwrap_or (canonical_of text) []; desc_stamp = r.next_stamp });
+  next_stamp = r.next_stamp + 1;
+}
+
+-- the resources after an operation, and its answer
+abbrev pub effect : Resources → Op → Resources × OpAnswer
+effect r (CreateFile p bytes) = (create r p (new_file r.next_node r.next_stamp bytes), Done)
+effect r (CreateFolder p) = (create r p (new_folder r.next_node), Done)
+effect r (CreateProject p) = (create r p (new_project r.next_node r.next_stamp), Done)
+effect r (Delete p) = (delete r p, Done)
+effect r (Write p bytes) = (write r p bytes, Done)
+effect r (Touch p) = (touch r p, Done)
+effect r (Derived p on) = (derive r p on, Done)
+effect r (Move from to) = (move r from to, Done)
+effect r (Copy from to) = (copy r from to, Done)
+effect r (Open p) = (open_project r p, Done)
+effect r (Close p) = (close_project r p, Done)
+effect r (Describe p text) = (describe r p text, Done)
+effect r (Read p want) = (r, Seen (found_at p (get r.tree p)))

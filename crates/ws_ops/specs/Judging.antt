@@ -1,0 +1,14 @@
+-- What is answered where an operation may be refused.
+use Rattle.std.specs.Prelude.{◌≡◌, Option, Some, None, Result, MatchResult}
+use Rattle.ws_ops.specs.declared.refusal.OpRefusal.{OpRefusal}
+use Rattle.ws_ops.specs.declared.refusal.OpError.{OpError}
+use Rattle.ws_ops.specs.declared.refusal.OpError.TheVariants.{Refused, Memory}
+
+-- a refusal with this fact, or want of memory
+abbrev pub IfRefused : (OpRefusal → Type 0) → OpError → Type 0
+IfRefused fact (Refused r) = fact r
+IfRefused fact Memory = Unit {0}
+
+-- Ok comes only where there is no such refusal, and a refusal is this one
+abbrev pub Judges : {A : Type 0} → Option OpRefusal → Result A OpError → Type 0
+Judges refusal r = MatchResult r (λ _. refusal ≡ None) (IfRefused (λ x. refusal ≡ Some x))

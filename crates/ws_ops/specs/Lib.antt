@@ -1,0 +1,14 @@
+pub mod Entries
+pub mod Resources
+pub mod Places
+pub mod Members
+pub mod Numbers
+pub mod Refusals
+pub mod Effects
+pub mod Changes
+pub mod Stamps
+pub mod Sound
+pub mod Walks
+pub mod Judging
+pub mod Plans
+pub mod Backs

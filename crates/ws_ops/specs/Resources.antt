@@ -1,0 +1,15 @@
+-- What operations see and change.
+use Rattle.std.specs.Prelude.{ℕ}
+use Rattle.ws_elem.specs.Trees.{Tree}
+use Rattle.ws_ops.specs.declared.side.Side.{Side}
+
+-- the resources of a workspace: those that are there, the members of closed projects, and the counters
+pub record Resources : Type 0 where
+  pub tree : Tree
+  pub shelf : Tree
+  pub next_node : ℕ
+  pub next_stamp : ℕ
+
+-- a tree, with what stands beside it
+abbrev pub resources : Tree → Side → Resources
+resources tree side = record { tree = tree; shelf = side.shelf.map; next_node = side.next_node; next_stamp = side.next_stamp }

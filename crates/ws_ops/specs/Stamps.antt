@@ -1,0 +1,30 @@
+-- Numbers that tell resources and contents apart.
+use Rattle.std.specs.Prelude.{◌≡◌, ℕ, ◌<◌, IfSome}
+use Rattle.std.specs.FinMap.{get}
+use Rattle.res_path.specs.Paths.{Names}
+use Rattle.ws_elem.specs.Trees.{Tree}
+use Rattle.ws_elem.specs.declared.element.Element.{Element}
+use Rattle.ws_elem.specs.declared.kind.Kind.TheVariants.{File}
+use Rattle.ws_ops.specs.Resources.{Resources}
+
+-- files of a and b with equal stamps have equal contents
+abbrev pub SameContents : Tree → Tree → Type 0
+SameContents a b = (p q : Names)
+    → IfSome (get a p) (λ e. IfSome (get b q) (λ f. e.kind ≡ File → f.kind ≡ File → e.stamp ≡ f.stamp → e.bytes ≡ f.bytes))
+
+-- the element's numbers are below the counters that they were drawn from
+pub record IsDrawn (nodes stamps : ℕ) (e : Element) : Type 0 where
+  pub node : e.node < nodes
+  pub stamp : e.stamp < stamps
+  pub desc_stamp : e.desc_stamp < stamps
+
+-- so are those of all elements
+abbrev pub AllDrawn : ℕ → ℕ → Tree → Type 0
+AllDrawn nodes stamps t = (p : Names) → IfSome (get t p) (IsDrawn nodes stamps)
+
+-- a tree of these resources, now or before: its numbers are drawn, and where its files and those that are there now
+-- have equal stamps they have equal contents
+pub record IsKnown (r : Resources) (t : Tree) : Type 0 where
+  pub drawn : AllDrawn r.next_node r.next_stamp t
+  pub tree : SameContents t r.tree
+  pub shelf : SameContents t r.shelf

@@ -1,0 +1,154 @@
+//! Doing an operation, and taking it back.
+ghost use Rattle.std.specs.Prelude.{◌≡◌, None, Some, IfOk, IfErr, OnOk, OnErr};
+ghost use Rattle.ws_elem.specs.Trees.{Tree};
+ghost use Rattle.ws_ops.specs.Backs.{HasWay, taken_back};
+ghost use Rattle.ws_ops.specs.Changes.{HasRooms};
+ghost use Rattle.ws_ops.specs.Effects.{effect};
+ghost use Rattle.ws_ops.specs.Judging.{IfRefused};
+ghost use Rattle.ws_ops.specs.Plans.{Plans, planned};
+ghost use Rattle.ws_ops.specs.Refusals.{refusal};
+ghost use Rattle.ws_ops.specs.Resources.{resources};
+ghost use Rattle.ws_ops.specs.Sound.{IsSound};
+ghost use Rattle.ws_ops.specs.Stamps.{IsKnown};
+
+use crate::changes::{Earlier, room_for};
+use crate::plan::Plan;
+use crate::{
+    NoMemory, Op, OpAnswer, OpError, Side, contents, creation, deletion, projects, reading,
+    transfer,
+};
+use std::alloc::Global;
+use std::marker::Model;
+use ws_elem::TreeRep;
+
+/// The way back before an operation: what stood at the paths that it changed, and the earlier counters.
+#[derive(Debug, Drop)]
+pub struct Back {
+    tree: Earlier,
+    shelf: Earlier,
+    next_node: u64,
+    next_stamp: u64,
+}
+
+impl Model for Back {
+    ghost use Rattle.std.specs.Coded.{coded×, coded_option, coded_list, coded_ℕ};
+    ghost use Rattle.ws_elem.specs.contracts.element.Element as element;
+    ghost use Rattle.ws_ops.specs.Backs.{Way, way_code};
+
+    ghost Value = { Way };
+
+    ghost coded = { way_code (coded_list (coded× (coded_list (coded_list coded_ℕ)) (coded_option element.the_row.coded))) };
+
+    ghost view = { λ b. record { tree = b.tree; shelf = b.shelf; next_node = b.next_node; next_stamp = b.next_stamp } };
+}
+
+/// What a done operation is answered, and the way back before it.
+#[derive(Debug, Drop)]
+pub struct Applied {
+    pub answer: OpAnswer,
+    pub back: Back,
+}
+
+/// Does the operation, or refuses it with the first cause in the order of its list. After a refusal, and where memory
+/// wants, tree, shelf and counters are as before.
+///
+/// Room is made for all paths that change, and all new elements are made, before the first change; the room is left for
+/// `take_back`, and the caller drops it. Costs a few look-ups, and some more for each element that changes: never a walk
+/// of the whole tree. Contents are shared, and never copied.
+pub fn apply<T: TreeRep>(
+    alloc: Global,
+    tree: &mut T,
+    side: &mut Side,
+    op: &Op,
+) -> Result<Applied, OpError>
+    requires { IsSound (resources (T.tree tree.old) side.old) }
+    // An operation that is done wasn't refused.
+    ensures allowed { OnOk result (refusal (resources (T.tree tree.old) side.old) op.now ≡ None) }
+    ensures resources { OnOk result (resources (T.tree tree.new) side.new ≡ (effect (resources (T.tree tree.old) side.old) op.now).0) }
+    ensures answer { IfOk result (λ done. done.answer ≡ (effect (resources (T.tree tree.old) side.old) op.now).1) }
+    ensures back { IfOk result (λ done. HasWay done.back (T.room tree.new) side.new.shelf.room
+        (resources (T.tree tree.new) side.new) (resources (T.tree tree.old) side.old)) }
+    ensures sound { IsSound (resources (T.tree tree.new) side.new) }
+    // A remembered tree still agrees with the contents that are there.
+    ensures known { (t : Tree) → IsKnown (resources (T.tree tree.old) side.old) t → IsKnown (resources (T.tree tree.new) side.new) t }
+    ensures refused { IfErr result (IfRefused (λ r. refusal (resources (T.tree tree.old) side.old) op.now ≡ Some r)) }
+    ensures same { OnErr result (resources (T.tree tree.new) side.new ≡ resources (T.tree tree.old) side.old) }
+{
+    let plan = plan(alloc, tree, side, op)?;
+    Ok(perform(alloc, tree, side, plan)?)
+}
+
+/// Takes an operation back, after which nothing has changed and no room was dropped: tree, shelf and counters are as
+/// before it. It takes no memory.
+pub fn take_back<T: TreeRep>(tree: &mut T, side: &mut Side, back: Back)
+    requires tree { HasRooms (T.room tree.old) back.tree }
+    requires shelf { HasRooms side.old.shelf.room back.shelf }
+    ensures resources { resources (T.tree tree.new) side.new ≡ taken_back (resources (T.tree tree.old) side.old) back }
+    ensures room { T.room tree.new ≡ T.room tree.old }
+    ensures shelf_room { side.new.shelf.room ≡ side.old.shelf.room }
+{
+    let Back {
+        tree: tree_entries,
+        shelf: shelf_entries,
+        next_node,
+        next_stamp,
+    } = back;
+    tree_entries.put_back(tree);
+    shelf_entries.put_back(&mut side.shelf);
+    side.next_node = next_node;
+    side.next_stamp = next_stamp;
+}
+
+/// What the operation is going to change, or why it is refused.
+fn plan<T: TreeRep>(alloc: Global, tree: &T, side: &Side, op: &Op) -> Result<Plan, OpError>
+    ensures { Plans (resources (T.tree tree.now) side.now) op.now result }
+{
+    match op {
+        Op::CreateFile(path, bytes) => creation::create_file(alloc, tree, side, path, bytes),
+        Op::CreateFolder(path) => creation::create_folder(alloc, tree, side, path),
+        Op::CreateProject(path) => creation::create_project(alloc, tree, side, path),
+        Op::Delete(path) => deletion::delete(alloc, tree, side, path),
+        Op::Write(path, bytes) => contents::write(alloc, tree, side, path, bytes),
+        Op::Touch(path) => contents::touch(alloc, tree, side, path),
+        Op::Derived(path, on) => contents::derive(alloc, tree, side, path, *on),
+        Op::Move(from, to) => transfer::move_to(alloc, tree, side, from, to),
+        Op::Copy(from, to) => transfer::copy_to(alloc, tree, side, from, to),
+        Op::Open(path) => projects::open(alloc, tree, side, path),
+        Op::Close(path) => projects::close(alloc, tree, side, path),
+        Op::Describe(path, text) => projects::describe(alloc, tree, side, path, text),
+        Op::Read(path, want) => reading::read(alloc, tree, side, path, *want),
+    }
+}
+
+/// Does what is planned. Where memory wants, nothing was done.
+fn perform<T: TreeRep>(
+    alloc: Global,
+    tree: &mut T,
+    side: &mut Side,
+    plan: Plan,
+) -> Result<Applied, NoMemory>
+    ensures resources { OnOk result (resources (T.tree tree.new) side.new ≡ (planned (resources (T.tree tree.old) side.old) plan).0) }
+    ensures answer { IfOk result (λ done. done.answer ≡ plan.answer) }
+    ensures back { IfOk result (λ done. HasWay done.back (T.room tree.new) side.new.shelf.room
+        (resources (T.tree tree.new) side.new) (resources (T.tree tree.old) side.old)) }
+    ensures same { OnErr result (resources (T.tree tree.new) side.new ≡ resources (T.tree tree.old) side.old) }
+{
+    let tree_space = room_for(alloc, plan.tree.len())?;
+    let shelf_space = room_for(alloc, plan.shelf.len())?;
+    plan.tree.make_room(tree)?;
+    plan.shelf.make_room(&mut side.shelf)?;
+    let tree_entries = plan.tree.make(tree, tree_space);
+    let shelf_entries = plan.shelf.make(&mut side.shelf, shelf_space);
+    let back = Back {
+        tree: tree_entries,
+        shelf: shelf_entries,
+        next_node: side.next_node,
+        next_stamp: side.next_stamp,
+    };
+    side.next_node = plan.next_node;
+    side.next_stamp = plan.next_stamp;
+    Ok(Applied {
+        answer: plan.answer,
+        back,
+    })
+}

@@ -1,0 +1,47 @@
+//! The operations that change a workspace's resources, over any tree.
+//!
+//! - `op`: an `Op`, what can be done to resources, and a `Want`, what can be read of them.
+//! - `refusal`: an `OpRefusal`, why an operation is refused, and an `OpError`.
+//! - `answer`: an `OpAnswer`, what an operation is answered.
+//! - `entries`: `Entries`, elements with their paths.
+//! - `side`: a `Side`, what stands beside the tree: the shelf and the counters.
+//! - `applying`: `apply`, which does an operation or refuses it, and `take_back`.
+//! - `plan`: a `Plan`, what an operation is going to change, made before anything changes.
+//! - `changes`: what is to stand at some paths, and what stood there.
+//! - `checks`: the causes for which operations are refused, one by one.
+//! - `walk`: a resource with all below it.
+//! - `creation`, `contents`, `deletion`, `transfer`, `projects`, `reading`: the plan of each operation.
+#![tactic(auto)]
+
+mod answer;
+mod applying;
+mod changes;
+mod checks;
+mod contents;
+mod creation;
+mod deletion;
+#[cfg(test)]
+mod effect_tests;
+mod entries;
+mod op;
+mod plan;
+mod projects;
+mod reading;
+mod refusal;
+mod side;
+#[cfg(test)]
+mod test_workspace;
+#[cfg(test)]
+mod tests;
+mod transfer;
+#[cfg(test)]
+mod transfer_tests;
+mod walk;
+
+pub use answer::OpAnswer;
+pub use applying::{Applied, Back, apply, take_back};
+pub use entries::Entries;
+pub use op::{Op, Want};
+pub use refusal::{OpError, OpRefusal};
+pub use res_path::NoMemory;
+pub use side::Side;

@@ -1,0 +1,51 @@
+//! What an operation is going to change.
+ghost use Rattle.std.specs.Prelude.{◌≡◌, ◌∷◌, ◌++◌, [], map, IfOk, OnOk, Some as some};
+ghost use Rattle.ws_ops.specs.Changes.{taken, put};
+
+use crate::changes::Changes;
+use crate::{Entries, NoMemory, OpAnswer, Side};
+use res_path::Path;
+use std::alloc::Global;
+use ws_elem::Element;
+
+/// What an operation is going to change, made before anything changes.
+#[derive(Debug, Drop)]
+pub struct Plan {
+    pub tree: Changes,
+    pub shelf: Changes,
+    pub next_node: u64,
+    pub next_stamp: u64,
+    pub answer: OpAnswer,
+}
+
+impl Plan {
+    /// The plan that changes nothing. It takes no memory.
+    pub fn nothing(alloc: Global, side: &Side) -> Plan
+        ensures tree { result.tree ≡ [] }
+        ensures shelf { result.shelf ≡ [] }
+        ensures node { result.next_node ≡ side.now.next_node }
+        ensures stamp { result.next_stamp ≡ side.now.next_stamp }
+        ensures answer { result.answer ≡ OpAnswer.Done }
+    {
+        Plan {
+            tree: Changes::none(alloc),
+            shelf: Changes::none(alloc),
+            next_node: side.next_node,
+            next_stamp: side.next_stamp,
+            answer: OpAnswer::Done,
+        }
+    }
+
+    /// The plan that puts the element at the path.
+    pub fn put(alloc: Global, side: &Side, path: &Path, element: Element) -> Result<Plan, NoMemory>
+        ensures tree { IfOk result (λ plan. plan.tree ≡ (path.now, some element) ∷ []) }
+        ensures shelf { IfOk result (λ plan. plan.shelf ≡ []) }
+        ensures node { IfOk result (λ plan. plan.next_node ≡ side.now.next_node) }
+        ensures stamp { IfOk result (λ plan. plan.next_stamp ≡ side.now.next_stamp) }
+        ensures answer { IfOk result (λ plan. plan.answer ≡ OpAnswer.Done) }
+    {
+        let mut plan = Plan::nothing(alloc, side);
+        plan.tree.put(path.copy()?, element)?;
+        Ok(plan)
+    }
+}
