@@ -7,7 +7,7 @@ use Rattle.script_lang.specs.declared.script.Command.{Command}
 use Rattle.script_lang.specs.declared.script.Command.TheVariants as commands
 use Rattle.script_lang.specs.declared.script.Phase.{Phase}
 use Rattle.ws_core.specs.declared.event.Event.{Event}
-use Rattle.ws_core.specs.declared.event.Event.TheVariants.{Enter, Leave, Schedule, Take, Finish, Batch, EndBatch, Checkpoint, CreateProject, CreateFile, Delete}
+use Rattle.ws_core.specs.declared.event.Event.TheVariants.{Enter, Leave, Schedule, Take, Finish, Batch, EndBatch, Checkpoint, Operation}
 use Rattle.ws_core.specs.declared.history.Entry.{Entry}
 use Rattle.ws_core.specs.declared.reply.Answer.{Answer}
 use Rattle.ws_core.specs.declared.reply.Refusal.{Refusal}
@@ -41,9 +41,7 @@ effect_stays s q Finish n p h = h
 effect_stays s q Batch n p h = h
 effect_stays s q EndBatch n p h = h
 effect_stays s q Checkpoint n p h = h
-effect_stays s q (CreateProject path) n p h = h
-effect_stays s q (CreateFile path bytes) n p h = h
-effect_stays s q (Delete path) n p h = h
+effect_stays s q (Operation op) n p h = h
 
 acted_stays : (r : Option Refusal) (s : State) (q : ℕ) (e : Event) → is_leave e ≡ false → Stay s (acted r s q e).0
 acted_stays None s q e n p h = effect_stays s q e n p h
@@ -135,9 +133,7 @@ pub command_stays : (e : Event) (c : Command) → e ≡ event_of c → is_leave 
 command_stays e c h = ap is_leave h ∙ by c
   where
     by : (d : Command) → is_leave (event_of d) ≡ false
-    by (commands.CreateProject p) = refl
-    by (commands.CreateFile p bytes) = refl
-    by (commands.Delete p) = refl
+    by (commands.Operation op) = refl
     by commands.Batch = refl
     by commands.EndBatch = refl
     by commands.Checkpoint = refl

@@ -3,11 +3,10 @@ use Rattle.std.specs.Prelude.{◌≡◌, ◌≢◌, ◌⊎◌, ◌↔◌, ℕ, L
 use Rattle.ws_outside.specs.Faults.{Rose}
 use Rattle.ws_outside.specs.Streams.{Gains, GainsFront}
 use Rattle.script_lang.specs.declared.script.Script.{Script}
-use Rattle.script_lang.specs.Scripts.{IsScript}
+use Rattle.script_lang.specs.Scripts.{IsScript, IsFirstBad}
 use Rattle.ws_core.specs.declared.history.Entry.{Entry}
 use Rattle.ws_top.specs.declared.words.Form.{Form}
 use Rattle.ws_top.specs.declared.words.Form.TheVariants.{Run, Help, Version}
-use Rattle.script_lang.specs.Lines.{lines_of, IsLineAhead}
 use Rattle.ws_core.specs.Histories.{fresh}
 use Rattle.ws_top.specs.Limits.{ReadsAll}
 use Rattle.ws_top.specs.Texts.{text, status_line, bad_line}
@@ -76,14 +75,13 @@ RanAll = Ran Shuffle
 abbrev pub RanSome : Option (List ℕ) → Option (List ℕ) → List Entry → Type 0
 RanSome = Ran CutShuffle
 
--- the source was read to its end, its bytes spell no script, and this is the text that says where the reading stopped:
--- at one of the lines or just past the last
+-- the source was read to its end, its bytes spell no script, and this is the text that names the first bad line
 pub record IsTextBad (old new : Option (List ℕ)) (written : List ℕ) : Type 0 where
   pub bytes : List ℕ
   pub line : ℕ
   pub read : ReadsAll old new bytes
   pub none : SpellsNone bytes
-  pub place : IsLineAhead 0 (lines_of bytes) line
+  pub place : IsFirstBad bytes line
   pub line_is : written ≡ bad_line line
 
 -- the text of a want of memory: of what was done and the status, or the status alone where nothing was opened

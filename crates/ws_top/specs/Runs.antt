@@ -6,7 +6,7 @@ use Rattle.script_lang.specs.declared.script.Command.TheVariants as commands
 use Rattle.script_lang.specs.declared.script.Job.{Job}
 use Rattle.script_lang.specs.declared.script.Phase.{Phase}
 use Rattle.ws_core.specs.declared.event.Event.{Event}
-use Rattle.ws_core.specs.declared.event.Event.TheVariants.{Enter, Leave, Schedule, Take, Finish, Batch, EndBatch, Checkpoint, CreateProject, CreateFile, Delete}
+use Rattle.ws_core.specs.declared.event.Event.TheVariants.{Enter, Leave, Schedule, Take, Finish, Batch, EndBatch, Checkpoint, Operation}
 use Rattle.ws_core.specs.declared.history.Entry.{Entry}
 use Rattle.ws_core.specs.declared.state.State.{State}
 use Rattle.ws_core.specs.Histories.{has_entered}
@@ -19,9 +19,7 @@ abbrev pub call_of : Entry → Call
 call_of x = (x.pass, x.event)
 
 abbrev pub event_of : Command → Event
-event_of (commands.CreateProject p) = CreateProject p
-event_of (commands.CreateFile p bytes) = CreateFile p bytes
-event_of (commands.Delete p) = Delete p
+event_of (commands.Operation op) = Operation op
 event_of commands.Batch = Batch
 event_of commands.EndBatch = EndBatch
 event_of commands.Checkpoint = Checkpoint
@@ -57,17 +55,8 @@ pub record AsksFront (old new : List Entry) (made : List Call) : Type 0 where
   pub front : map call_of new ++ others ≡ map call_of old ++ made
 
 abbrev pub is_leave : Event → Bool
-is_leave Enter = false
 is_leave Leave = true
-is_leave (Schedule name priority) = false
-is_leave Take = false
-is_leave Finish = false
-is_leave Batch = false
-is_leave EndBatch = false
-is_leave Checkpoint = false
-is_leave (CreateProject p) = false
-is_leave (CreateFile p bytes) = false
-is_leave (Delete p) = false
+is_leave event = false
 
 -- each pass that had entered is still there
 abbrev pub Stay : State → State → Type 0

@@ -1,52 +1,14 @@
 -- The text of a run.
-use Rattle.std.specs.Prelude.{ℕ, Bool, true, false, ◌==◌, if◌then◌else◌, List, [], ◌++◌, Option, Some, None, codes, decimal, bit_and}
+use Rattle.std.specs.Prelude.{ℕ, ◌==◌, if◌then◌else◌, List, [], ◌++◌, Option, Some, None, codes, decimal, bit_and}
 use Rattle.std.specs.List.{flat_map}
-use Rattle.res_path.specs.Paths.{Names, path_text}
+use Rattle.res_path.specs.Paths.{Names}
 use Rattle.delta_kind.specs.declared.node.DeltaNode.{DeltaNode}
 use Rattle.delta_kind.specs.declared.flags.TheConstants.{ADDED, REMOVED, CONTENT, OPEN, TYPE, REPLACED, DESCRIPTION, DERIVED_CHANGED}
 use Rattle.delta_kind.specs.Deltas.{delta}
-use Rattle.ws_core.specs.declared.event.Event.{Event}
-use Rattle.ws_core.specs.declared.event.Event.TheVariants.{Enter, Leave, Schedule, Take, Finish, Batch, EndBatch, Checkpoint, CreateProject, CreateFile, Delete}
-use Rattle.ws_core.specs.declared.reply.Refusal.{Refusal}
-use Rattle.ws_core.specs.declared.reply.Refusal.TheVariants.{NotFound, Exists, NotContainer, WrongKind, ProjectClosed, TreeFull, NumbersUsed, NoBatch}
-use Rattle.ws_core.specs.declared.reply.Answer.{Answer}
-use Rattle.ws_core.specs.declared.reply.Answer.TheVariants as answers
-use Rattle.ws_core.specs.declared.reply.Answer.TheVariants.{Done, Id, Job, Refused}
 use Rattle.ws_core.specs.declared.history.Entry.{Entry}
 use Rattle.ws_core.specs.declared.state.State.{State}
 use Rattle.ws_core.specs.Histories.{replay}
-
--- the command of a script that the event is, or what stands for it
-abbrev pub event_text : Event → List ℕ
-event_text Enter = codes "enter"
-event_text Leave = codes "leave"
-event_text (Schedule name priority) = codes "schedule " ++ name ++ codes " " ++ decimal priority ++ codes " path /"
-event_text Take = codes "take"
-event_text Finish = codes "finish"
-event_text Batch = codes "batch"
-event_text EndBatch = codes "endbatch"
-event_text Checkpoint = codes "checkpoint"
-event_text (CreateProject p) = codes "create " ++ codes "project " ++ path_text p
-event_text (CreateFile p bytes) = codes "create file " ++ path_text p ++ codes " " ++ bytes
-event_text (Delete p) = codes "delete " ++ path_text p
-
--- the refusal's number, and the path of one that names a path
-abbrev pub refusal_text : Refusal → List ℕ
-refusal_text (NotFound p) = codes "10 " ++ path_text p
-refusal_text (Exists p) = codes "11 " ++ path_text p
-refusal_text (NotContainer p) = codes "12 " ++ path_text p
-refusal_text (WrongKind p) = codes "13 " ++ path_text p
-refusal_text (ProjectClosed p) = codes "14 " ++ path_text p
-refusal_text TreeFull = codes "17"
-refusal_text NumbersUsed = codes "18"
-refusal_text NoBatch = codes "44"
-
-abbrev pub answer_text : Answer → List ℕ
-answer_text Done = codes "ok"
-answer_text (Id n) = codes "id " ++ decimal n
-answer_text answers.None = codes "none"
-answer_text (Job name) = name
-answer_text (Refused refusal) = codes "refused " ++ refusal_text refusal
+use Rattle.ws_top.specs.Replies.{path_word, entry_line, is_shown}
 
 abbrev pub sign : ℕ → List ℕ
 sign kind = if kind == ADDED then codes " +" else (if kind == REMOVED then codes " -" else codes " *")
@@ -58,7 +20,7 @@ where_set flags flag text = if bit_and flags flag == 0 then [] else text
 -- the text and the path, where there is a path
 abbrev pub place_text : List ℕ → Option Names → List ℕ
 place_text text None = []
-place_text text (Some p) = text ++ path_text p
+place_text text (Some p) = text ++ path_word p
 
 -- where what is there was, and where what was there is
 abbrev pub moved_names : DeltaNode → List ℕ
@@ -77,7 +39,7 @@ abbrev pub flag_names : DeltaNode → List ℕ
 flag_names n = where_set n.flags CONTENT (codes " CONTENT") ++ moved_names n ++ middle_names n.flags ++ last_names n.flags
 
 abbrev pub node_line : DeltaNode → List ℕ
-node_line n = codes "  " ++ path_text n.path ++ sign n.kind ++ flag_names n ++ codes "\n"
+node_line n = codes "  " ++ path_word n.path ++ sign n.kind ++ flag_names n ++ codes "\n"
 
 abbrev pub delta_lines : List DeltaNode → List ℕ
 delta_lines = flat_map node_line
@@ -86,16 +48,7 @@ abbrev pub notice_lines : Option (List DeltaNode) → List ℕ
 notice_lines None = []
 notice_lines (Some nodes) = codes "notice\n" ++ delta_lines nodes
 
--- the pass, what it asked, and what it was answered
-abbrev pub entry_line : Entry → List ℕ
-entry_line x = codes "p" ++ decimal x.pass ++ codes " " ++ event_text x.event ++ codes " -> " ++ answer_text x.reply.answer ++ codes "\n"
-
--- a pass's entering and leaving are not shown
-abbrev pub is_shown : Event → Bool
-is_shown Enter = false
-is_shown Leave = false
-is_shown e = true
-
+-- an entry's line and its notice
 abbrev pub entry_lines : Entry → List ℕ
 entry_lines x = if is_shown x.event then entry_line x ++ notice_lines x.reply.notice else []
 

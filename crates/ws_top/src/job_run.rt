@@ -14,9 +14,7 @@ fn event_of(command: &Command) -> Result<Event, NoMemory>
     ensures { IfOk result (λ event. event ≡ event_of command.now) }
 {
     match command {
-        Command::CreateProject(path) => Ok(Event::CreateProject(path.copy()?)),
-        Command::CreateFile(path, bytes) => Ok(Event::CreateFile(path.copy()?, bytes.clone()?)),
-        Command::Delete(path) => Ok(Event::Delete(path.copy()?)),
+        Command::Operation(op) => Ok(Event::Operation(op.copy()?)),
         Command::Batch => Ok(Event::Batch),
         Command::EndBatch => Ok(Event::EndBatch),
         Command::Checkpoint => Ok(Event::Checkpoint),

@@ -6,9 +6,12 @@ ghost use Rattle.ws_outside.specs.Streams.{Gains, GainsFront};
 ghost use Rattle.delta_kind.specs.Deltas.{delta};
 ghost use Rattle.ws_core.specs.Histories.{replay};
 ghost use Rattle.ws_top.specs.Printing.{Prints, PrintsSome};
-ghost use Rattle.ws_top.specs.Texts.{node_line, delta_lines, notice_lines, entry_line, entry_lines, history_lines, report_from};
+ghost use Rattle.ws_top.specs.Replies.{entry_line};
+ghost use Rattle.ws_top.specs.Texts.{node_line, delta_lines, notice_lines, entry_lines, history_lines, report_from};
 
-use crate::report_text::{is_shown, put_line, put_node, put_text};
+use crate::delta_text::put_node;
+use crate::gathering::put_text;
+use crate::report_text::{is_shown, put_line};
 use crate::writing::{Unwritten, write_waiting};
 use delta_kind::{Delta, DeltaNode};
 use std::alloc::Global;

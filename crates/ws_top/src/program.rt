@@ -3,8 +3,7 @@ ghost use Rattle.std.specs.Prelude.{◌≡◌, ◌≢◌, ◌↔◌, ◌⊎◌, 
 ghost use Rattle.ws_core.specs.Histories.{fresh, Legal, notices, told_of};
 ghost use Rattle.ws_outside.specs.Faults.{Rose};
 ghost use Rattle.ws_outside.specs.Streams.{IsAtEnd, Gains, GainsFront};
-ghost use Rattle.script_lang.specs.Lines.{lines_of, IsLineAhead};
-ghost use Rattle.script_lang.specs.Scripts.{IsScript};
+ghost use Rattle.script_lang.specs.Scripts.{IsScript, IsFirstBad};
 ghost use Rattle.script_lang.specs.declared.script.Script.{Script};
 ghost use Rattle.ws_top.specs.Forms.{form_of};
 ghost use Rattle.ws_top.specs.Limits.{longest, Reads, ReadsShort, ReadsLong};
@@ -135,7 +134,7 @@ fn respond<K: Sink>(alloc: Global, sink: &mut K, bytes: Vec<u8>) -> Outcome
     ensures text { result.status ≡ 0 → Gains (K.written sink.old) (text fresh result.history 0) (K.written sink.new) }
     ensures text_front { result.status ≡ 4 → GainsFront (K.written sink.old) (text fresh result.history 0) (K.written sink.new) }
     ensures text_cut { result.status ≡ 8 → WritesCut (K.written sink.old) (K.written sink.new) result.history }
-    ensures text_bad { result.status ≡ 6 → (line : ℕ) × IsLineAhead 0 (lines_of bytes.items) line × Writes (K.written sink.old) (K.written sink.new) (K.faults sink.old) (K.faults sink.new) (bad_line line) }
+    ensures text_bad { result.status ≡ 6 → (line : ℕ) × IsFirstBad bytes.items line × Writes (K.written sink.old) (K.written sink.new) (K.faults sink.old) (K.faults sink.new) (bad_line line) }
 {
     let Ok(text) = Bytes::from_vec(bytes) else {
         return say(alloc, sink, 8, b"status 8\n");

@@ -1,73 +1,26 @@
-//! The lines of a run's text.
-ghost use Rattle.std.specs.Prelude.{◌≡◌, ◌++◌, [], codes, decimal, OnOk, if◌then◌else◌};
-ghost use Rattle.std.specs.Option.{option_copied};
-ghost use Rattle.res_path.specs.Paths.{path_text};
-ghost use Rattle.ws_top.specs.Texts.{event_text, refusal_text, answer_text, sign, where_set, place_text, moved_names, middle_names, last_names, flag_names, node_line, entry_line, is_shown, bad_line};
+//! The lines of a history's entries.
+ghost use Rattle.std.specs.Prelude.{◌≡◌, ◌++◌, codes, decimal, length, OnOk};
+ghost use Rattle.std.specs.List.{flat_map};
+ghost use Rattle.proj_desc.specs.Words.{cause_words};
+ghost use Rattle.script_lang.specs.Words.{word_text};
+ghost use Rattle.ws_top.specs.Replies.{event_text, cause_text, operation_refusal_text, refusal_text, switch, contents_text, state_text, seen_text, want_of, answer_text, entry_line, is_shown};
+ghost use Rattle.ws_top.specs.Texts.{bad_line};
 
 use crate::NoMemory;
-use delta_kind::{
-    ADDED, CONTENT, DERIVED_CHANGED, DESCRIPTION, DeltaNode, OPEN, REMOVED, REPLACED, TYPE,
-};
-use itoa::Buffer;
-use res_path::Path;
-use ws_core::{Answer, Entry, Event, Refusal, Reply};
-
-/// Appends the bytes.
-pub fn put(out: &mut Vec<u8>, bytes: &[u8]) -> Result<(), NoMemory>
-    ensures { OnOk result (out.new.items ≡ out.old.items ++ bytes.now) }
-{
-    match out.extend_from_slice(bytes) {
-        Ok(_) => Ok(()),
-        Err(error) => Err(error),
-    }
-}
-
-/// Appends the text.
-pub fn put_text(out: &mut Vec<u8>, text: &str) -> Result<(), NoMemory>
-    ensures { OnOk result (out.new.items ≡ out.old.items ++ text.now) }
-{
-    put(out, text.as_bytes())
-}
-
-/// Appends the number in decimal.
-pub fn put_number(out: &mut Vec<u8>, number: u64) -> Result<(), NoMemory>
-    ensures { OnOk result (out.new.items ≡ out.old.items ++ decimal number) }
-{
-    let mut buffer = Buffer::new();
-    put_text(out, buffer.format(number))
-}
-
-/// Appends a text and a path.
-fn put_path(out: &mut Vec<u8>, before: &str, path: &Path) -> Result<(), NoMemory>
-    ensures { OnOk result (out.new.items ≡ out.old.items ++ before.now ++ path_text path.now) }
-{
-    put_text(out, before)?;
-    put_text(out, path.as_str())
-}
+use crate::gathering::{put_counted, put_named, put_path, put_text};
+use proj_desc::DescCause;
+use script_lang::{put_operation, put_word};
+use std::fmt::Write;
+use ws_core::{Answer, Entry, Event, Refusal};
+use ws_elem::Element;
+use ws_ops::{Entries, Op, OpRefusal, Want};
 
 fn put_schedule(out: &mut Vec<u8>, name: &str, priority: u8) -> Result<(), NoMemory>
-    ensures { OnOk result (out.new.items ≡ out.old.items ++ codes "schedule " ++ name.now ++ codes " " ++ decimal priority ++ codes " path /") }
+    ensures { OnOk result (out.new.items ≡ out.old.items ++ codes "schedule " ++ word_text name.now ++ codes " " ++ decimal priority ++ codes " path /") }
 {
-    put_text(out, "schedule ")?;
-    put_text(out, name)?;
-    put_text(out, " ")?;
-    put_number(out, u64::from(priority))?;
+    put_named(out, "schedule ", name.as_bytes())?;
+    put_counted(out, " ", u64::from(priority))?;
     put_text(out, " path /")
-}
-
-fn put_create_file(out: &mut Vec<u8>, path: &Path, contents: &[u8]) -> Result<(), NoMemory>
-    ensures { OnOk result (out.new.items ≡ out.old.items ++ codes "create file " ++ path_text path.now ++ codes " " ++ contents.now) }
-{
-    put_path(out, "create file ", path)?;
-    put_text(out, " ")?;
-    put(out, contents)
-}
-
-fn put_create_project(out: &mut Vec<u8>, path: &Path) -> Result<(), NoMemory>
-    ensures { OnOk result (out.new.items ≡ out.old.items ++ codes "create " ++ codes "project " ++ path_text path.now) }
-{
-    put_text(out, "create ")?;
-    put_path(out, "project ", path)
 }
 
 fn put_event(out: &mut Vec<u8>, event: &Event) -> Result<(), NoMemory>
@@ -82,9 +35,60 @@ fn put_event(out: &mut Vec<u8>, event: &Event) -> Result<(), NoMemory>
         Event::Batch => put_text(out, "batch"),
         Event::EndBatch => put_text(out, "endbatch"),
         Event::Checkpoint => put_text(out, "checkpoint"),
-        Event::CreateProject(path) => put_create_project(out, path),
-        Event::CreateFile(path, contents) => put_create_file(out, path, contents.as_slice()),
-        Event::Delete(path) => put_path(out, "delete ", path),
+        Event::Operation(op) => put_operation(out, op),
+    }
+}
+
+/// Appends a cause that names nothing.
+fn put_plain_cause(out: &mut Vec<u8>, cause: &DescCause) -> Result<(), NoMemory>
+    ensures { OnOk result (out.new.items ≡ out.old.items ++ cause_words cause.now) }
+{
+    let mut text = String::new(*out.allocator());
+    write!(text, "{cause}")?;
+    put_text(out, text.as_str())
+}
+
+fn put_cause(out: &mut Vec<u8>, cause: &DescCause) -> Result<(), NoMemory>
+    ensures { OnOk result (out.new.items ≡ out.old.items ++ cause_text cause.now) }
+{
+    match cause {
+        DescCause::Member(name) => put_named(out, "member ", name.as_bytes()),
+        DescCause::Double(name) => put_named(out, "double ", name.text().as_bytes()),
+        DescCause::NotJson
+        | DescCause::NotObject
+        | DescCause::Wrong(_)
+        | DescCause::Many
+        | DescCause::BadName
+        | DescCause::BadPath
+        | DescCause::SelfReference
+        | DescCause::Foreign(_)
+        | DescCause::Outputs(_, _)
+        | DescCause::Inputs(_, _) => put_plain_cause(out, cause),
+    }
+}
+
+fn put_description_refusal(out: &mut Vec<u8>, cause: &DescCause) -> Result<(), NoMemory>
+    ensures { OnOk result (out.new.items ≡ out.old.items ++ codes "25 " ++ cause_text cause.now) }
+{
+    put_text(out, "25 ")?;
+    put_cause(out, cause)
+}
+
+fn put_operation_refusal(out: &mut Vec<u8>, refusal: &OpRefusal) -> Result<(), NoMemory>
+    ensures { OnOk result (out.new.items ≡ out.old.items ++ operation_refusal_text refusal.now) }
+{
+    match refusal {
+        OpRefusal::TooDeep => put_text(out, "2"),
+        OpRefusal::TooLong => put_text(out, "3"),
+        OpRefusal::NotFound(path) => put_path(out, "10 ", path),
+        OpRefusal::Exists(path) => put_path(out, "11 ", path),
+        OpRefusal::NotContainer(path) => put_path(out, "12 ", path),
+        OpRefusal::WrongKind(path) => put_path(out, "13 ", path),
+        OpRefusal::ProjectClosed(path) => put_path(out, "14 ", path),
+        OpRefusal::TreeFull => put_text(out, "17"),
+        OpRefusal::NumbersUsed => put_text(out, "18"),
+        OpRefusal::IntoItself => put_text(out, "24"),
+        OpRefusal::BadDescription(cause) => put_description_refusal(out, cause),
     }
 }
 
@@ -92,22 +96,10 @@ fn put_refusal(out: &mut Vec<u8>, refusal: &Refusal) -> Result<(), NoMemory>
     ensures { OnOk result (out.new.items ≡ out.old.items ++ refusal_text refusal.now) }
 {
     match refusal {
-        Refusal::NotFound(path) => put_path(out, "10 ", path),
-        Refusal::Exists(path) => put_path(out, "11 ", path),
-        Refusal::NotContainer(path) => put_path(out, "12 ", path),
-        Refusal::WrongKind(path) => put_path(out, "13 ", path),
-        Refusal::ProjectClosed(path) => put_path(out, "14 ", path),
-        Refusal::TreeFull => put_text(out, "17"),
+        Refusal::Operation(refusal) => put_operation_refusal(out, refusal),
         Refusal::NumbersUsed => put_text(out, "18"),
         Refusal::NoBatch => put_text(out, "44"),
     }
-}
-
-fn put_id(out: &mut Vec<u8>, id: u64) -> Result<(), NoMemory>
-    ensures { OnOk result (out.new.items ≡ out.old.items ++ codes "id " ++ decimal id) }
-{
-    put_text(out, "id ")?;
-    put_number(out, id)
 }
 
 fn put_refused(out: &mut Vec<u8>, refusal: &Refusal) -> Result<(), NoMemory>
@@ -117,100 +109,87 @@ fn put_refused(out: &mut Vec<u8>, refusal: &Refusal) -> Result<(), NoMemory>
     put_refusal(out, refusal)
 }
 
-fn put_answer(out: &mut Vec<u8>, answer: &Answer) -> Result<(), NoMemory>
-    ensures { OnOk result (out.new.items ≡ out.old.items ++ answer_text answer.now) }
+/// Appends a text, and whether it holds.
+fn put_switch(out: &mut Vec<u8>, before: &str, on: bool) -> Result<(), NoMemory>
+    ensures { OnOk result (out.new.items ≡ out.old.items ++ before.now ++ switch on) }
+{
+    put_text(out, before)?;
+    put_text(out, if on { "on" } else { "off" })
+}
+
+fn put_contents(out: &mut Vec<u8>, element: &Element) -> Result<(), NoMemory>
+    ensures { OnOk result (out.new.items ≡ out.old.items ++ contents_text element.now) }
+{
+    put_text(out, element.kind.word())?;
+    put_counted(out, " node ", element.node)?;
+    put_counted(out, " stamp ", element.stamp)?;
+    put_counted(out, " len ", element.bytes.len() as u64)
+}
+
+fn put_state(out: &mut Vec<u8>, element: &Element) -> Result<(), NoMemory>
+    ensures { OnOk result (out.new.items ≡ out.old.items ++ state_text element.now) }
+{
+    put_switch(out, " derived ", element.derived)?;
+    put_switch(out, " open ", element.opened)?;
+    put_counted(out, " desc ", element.desc_stamp)?;
+    put_text(out, " marks 0 syncs 0")
+}
+
+/// Appends what was asked of an element.
+fn put_seen(out: &mut Vec<u8>, want: Want, element: &Element) -> Result<(), NoMemory>
+    ensures { OnOk result (out.new.items ≡ out.old.items ++ seen_text want element.now) }
+{
+    match want {
+        Want::Show => {
+            put_contents(out, element)?;
+            put_state(out, element)
+        }
+        Want::Cat => put_word(out, element.bytes.as_slice()),
+    }
+}
+
+/// Appends what was asked of elements.
+fn put_all_seen(out: &mut Vec<u8>, want: Want, entries: &Entries) -> Result<(), NoMemory>
+    ensures { OnOk result (out.new.items ≡ out.old.items ++ flat_map (λ e. seen_text want e.1) entries.now) }
+{
+    for (_, element) in entries.as_slice() {
+        put_seen(out, want, element)?;
+    }
+    Ok(())
+}
+
+/// What a reading asks.
+fn want_of(event: &Event) -> Want
+    ensures { result ≡ want_of event.now }
+{
+    match event {
+        Event::Operation(Op::Read(_, want)) => *want,
+        _ => Want::Show,
+    }
+}
+
+fn put_answer(out: &mut Vec<u8>, want: Want, answer: &Answer) -> Result<(), NoMemory>
+    ensures { OnOk result (out.new.items ≡ out.old.items ++ answer_text want answer.now) }
 {
     match answer {
         Answer::Done => put_text(out, "ok"),
-        Answer::Id(id) => put_id(out, *id),
+        Answer::Id(id) => put_counted(out, "id ", *id),
         Answer::None => put_text(out, "none"),
-        Answer::Job(name) => put_text(out, name.text()),
+        Answer::Job(name) => put_word(out, name.text().as_bytes()),
+        Answer::Seen(entries) => put_all_seen(out, want, entries),
         Answer::Refused(refusal) => put_refused(out, refusal),
     }
-}
-
-fn put_sign(out: &mut Vec<u8>, kind: u8) -> Result<(), NoMemory>
-    ensures { OnOk result (out.new.items ≡ out.old.items ++ sign kind) }
-{
-    if kind == ADDED {
-        put_text(out, " +")
-    } else if kind == REMOVED {
-        put_text(out, " -")
-    } else {
-        put_text(out, " *")
-    }
-}
-
-fn put_where_set(out: &mut Vec<u8>, flags: u32, flag: u32, text: &str) -> Result<(), NoMemory>
-    ensures { OnOk result (out.new.items ≡ out.old.items ++ where_set flags flag text.now) }
-{
-    if flags & flag == 0 {
-        return Ok(());
-    }
-    put_text(out, text)
-}
-
-fn put_place(out: &mut Vec<u8>, text: &str, place: Option<&Path>) -> Result<(), NoMemory>
-    ensures { OnOk result (out.new.items ≡ out.old.items ++ place_text text.now (option_copied place.entry)) }
-{
-    match place {
-        Some(path) => put_path(out, text, path),
-        None => Ok(()),
-    }
-}
-
-fn put_moved(out: &mut Vec<u8>, node: &DeltaNode) -> Result<(), NoMemory>
-    ensures { OnOk result (out.new.items ≡ out.old.items ++ moved_names node.now) }
-{
-    put_place(out, " MOVED_FROM=", node.moved_from.as_ref())?;
-    put_place(out, " MOVED_TO=", node.moved_to.as_ref())
-}
-
-fn put_middle_flags(out: &mut Vec<u8>, flags: u32) -> Result<(), NoMemory>
-    ensures { OnOk result (out.new.items ≡ out.old.items ++ middle_names flags) }
-{
-    put_where_set(out, flags, OPEN, " OPEN")?;
-    put_where_set(out, flags, TYPE, " TYPE")?;
-    put_where_set(out, flags, REPLACED, " REPLACED")
-}
-
-fn put_last_flags(out: &mut Vec<u8>, flags: u32) -> Result<(), NoMemory>
-    ensures { OnOk result (out.new.items ≡ out.old.items ++ last_names flags) }
-{
-    put_where_set(out, flags, DESCRIPTION, " DESCRIPTION")?;
-    put_where_set(out, flags, DERIVED_CHANGED, " DERIVED_CHANGED")
-}
-
-/// Appends the names of the flags that are set, in the order of their numbers.
-fn put_flags(out: &mut Vec<u8>, node: &DeltaNode) -> Result<(), NoMemory>
-    ensures { OnOk result (out.new.items ≡ out.old.items ++ flag_names node.now) }
-{
-    put_where_set(out, node.flags, CONTENT, " CONTENT")?;
-    put_moved(out, node)?;
-    put_middle_flags(out, node.flags)?;
-    put_last_flags(out, node.flags)
-}
-
-/// Appends the line of a node.
-pub fn put_node(out: &mut Vec<u8>, node: &DeltaNode) -> Result<(), NoMemory>
-    ensures { OnOk result (out.new.items ≡ out.old.items ++ node_line node.now) }
-{
-    put_path(out, "  ", &node.path)?;
-    put_sign(out, node.kind)?;
-    put_flags(out, node)?;
-    put_text(out, "\n")
 }
 
 /// Appends the line of an entry.
 pub fn put_line(out: &mut Vec<u8>, entry: &Entry) -> Result<(), NoMemory>
     ensures { OnOk result (out.new.items ≡ out.old.items ++ entry_line entry.now) }
 {
-    put_text(out, "p")?;
-    put_number(out, entry.pass)?;
+    put_counted(out, "p", entry.pass)?;
     put_text(out, " ")?;
     put_event(out, &entry.event)?;
     put_text(out, " -> ")?;
-    put_answer(out, &entry.reply.answer)?;
+    put_answer(out, want_of(&entry.event), &entry.reply.answer)?;
     put_text(out, "\n")
 }
 
@@ -226,9 +205,7 @@ pub fn is_shown(event: &Event) -> bool
         | Event::Batch
         | Event::EndBatch
         | Event::Checkpoint
-        | Event::CreateProject(_)
-        | Event::CreateFile(_, _)
-        | Event::Delete(_) => true,
+        | Event::Operation(_) => true,
     }
 }
 
@@ -236,9 +213,7 @@ pub fn is_shown(event: &Event) -> bool
 pub fn put_bad_line(out: &mut Vec<u8>, line: u64) -> Result<(), NoMemory>
     ensures { OnOk result (out.new.items ≡ out.old.items ++ bad_line line) }
 {
-    put_text(out, "status ")?;
-    put_number(out, 6)?;
-    put_text(out, " line ")?;
-    put_number(out, line)?;
+    put_counted(out, "status ", 6)?;
+    put_counted(out, " line ", line)?;
     put_text(out, "\n")
 }

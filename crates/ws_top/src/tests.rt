@@ -1,5 +1,5 @@
 //! Runs in memory, by examples worked by hand.
-use crate::report_text::put_node;
+use crate::delta_text::put_node;
 use crate::{Outcome, top};
 use delta_kind::{CHANGED, DeltaNode};
 use res_path::Path;
