@@ -1,0 +1,208 @@
+//! One step of a state.
+ghost use Rattle.std.specs.Prelude.{◌≡◌, IfOk, OnOk, OnErr, true, false, None as nothing};
+ghost use Rattle.ws_core.specs.declared.event.Event.TheVariants.{Operation};
+ghost use Rattle.ws_core.specs.Events.{change_of};
+ghost use Rattle.ws_core.specs.Operations.{operated};
+ghost use Rattle.ws_core.specs.Sessions.{IsSound};
+ghost use Rattle.ws_core.specs.States.{resources_of, with_resources, told_tree};
+ghost use Rattle.ws_core.specs.Steps.{act, step, tells, told, notice};
+
+use crate::arranging::is_spent;
+use crate::operating::{operate, operate_and_tell};
+use crate::telling::notice_between;
+use crate::{Answer, Event, NoMemory, Refusal, Reply, State};
+use delta_kind::Delta;
+use std::alloc::Global;
+use tree_flat::FlatTree;
+use ws_elem::ElemMap;
+use ws_ops::Op;
+
+impl State {
+    /// Does the event of the pass, or refuses it with the first cause in the order of its list, and tells what changed
+    /// where it is a telling place: each checkpoint, and each other event that leaves no batch open. A refused event
+    /// changes nothing but that it may be such a place. Where memory wants, the state stays as it was.
+    ///
+    /// Within a batch an operation costs what `ws_ops::apply` does; the first one after a telling place that may change
+    /// resources copies the tree as well. At a telling place the told tree and the tree are walked, where such an
+    /// operation came since the one before or is the event. Contents are shared, and never copied.
+    pub fn step(&mut self, alloc: Global, pass: u64, event: &Event) -> Result<Reply, NoMemory>
+        requires { IsSound self.old }
+        ensures state { OnOk result (self.new ≡ (step self.old pass event.now).0) }
+        ensures reply { IfOk result (λ reply. reply ≡ (step self.old pass event.now).1) }
+        ensures sound { IsSound self.new }
+        ensures err { OnErr result (self.new ≡ self.old) }
+    {
+        if !self.will_tell(pass, event) {
+            return self.act_untold(alloc, pass, event);
+        }
+        match event.change() {
+            None => self.tell_and_act(alloc, pass, event),
+            Some(op) => self.change_and_tell(alloc, op),
+        }
+    }
+
+    /// Whether the event is a telling place.
+    fn will_tell(&self, pass: u64, event: &Event) -> bool
+        ensures { result ≡ tells event.now (act self.now pass event.now).0 }
+    {
+        match event {
+            Event::Checkpoint => true,
+            Event::Batch => false,
+            Event::Finish => self.batches.has_no_other(pass),
+            Event::EndBatch if self.batches.contains(pass) => self.batches.len() == 1,
+            Event::EndBatch
+            | Event::Enter
+            | Event::Leave
+            | Event::Schedule(_, _)
+            | Event::Take
+            | Event::Operation(_) => self.batches.is_empty(),
+        }
+    }
+
+    /// Does an event that is no telling place, or refuses it.
+    fn act_untold(&mut self, alloc: Global, pass: u64, event: &Event) -> Result<Reply, NoMemory>
+        requires sound { IsSound self.old }
+        requires untold { tells event.now (act self.old pass event.now).0 ≡ false }
+        ensures state { OnOk result (self.new ≡ (step self.old pass event.now).0) }
+        ensures reply { IfOk result (λ reply. reply ≡ (step self.old pass event.now).1) }
+        ensures err { OnErr result (self.new ≡ self.old) }
+    {
+        let answer = self.act(alloc, pass, event)?;
+        Ok(Reply {
+            answer,
+            notice: None,
+        })
+    }
+
+    /// Does the event, or refuses it, and tells nothing.
+    fn act(&mut self, alloc: Global, pass: u64, event: &Event) -> Result<Answer, NoMemory>
+        requires { IsSound self.old }
+        ensures state { OnOk result (self.new ≡ (act self.old pass event.now).0) }
+        ensures answer { IfOk result (λ answer. answer ≡ (act self.old pass event.now).1) }
+        ensures err { OnErr result (self.new ≡ self.old) }
+    {
+        match event.change() {
+            None => self.act_quietly(alloc, pass, event),
+            Some(op) => self.change(alloc, op),
+        }
+    }
+
+    /// Does an event that changes no resources, or refuses it, and tells nothing.
+    fn act_quietly(
+        &mut self,
+        alloc: Global,
+        pass: u64,
+        event: &Event,
+    ) -> Result<Answer, NoMemory>
+        requires sound { IsSound self.old }
+        requires quiet { change_of event.now ≡ nothing }
+        ensures state { OnOk result (self.new ≡ (act self.old pass event.now).0) }
+        ensures answer { IfOk result (λ answer. answer ≡ (act self.old pass event.now).1) }
+        ensures err { OnErr result (self.new ≡ self.old) }
+    {
+        match event {
+            Event::Enter if is_spent(self.next_pass) => {
+                return Ok(Answer::Refused(Refusal::NumbersUsed));
+            }
+            Event::Enter => return self.enter(),
+            Event::Leave => self.passes.remove_all(pass),
+            Event::Schedule(name, _) => self.schedule(name)?,
+            Event::Take => return Ok(self.take_job()),
+            Event::Finish => self.batches.remove_all(pass),
+            Event::Batch => self.batches.push(pass)?,
+            Event::EndBatch if !self.batches.contains(pass) => {
+                return Ok(Answer::Refused(Refusal::NoBatch));
+            }
+            Event::EndBatch => self.batches.remove_newest(pass),
+            Event::Checkpoint => {}
+            Event::Operation(op) => return self.look(alloc, op),
+        }
+        Ok(Answer::Done)
+    }
+
+    /// Does an operation that only reads, or refuses it. No tree is copied.
+    fn look(&mut self, alloc: Global, op: &Op) -> Result<Answer, NoMemory>
+        requires sound { IsSound self.old }
+        requires quiet { change_of (Operation op.now) ≡ nothing }
+        ensures state { OnOk result (self.new ≡ with_resources self.old (operated (resources_of self.old) op.now).0) }
+        ensures answer { IfOk result (λ answer. answer ≡ (operated (resources_of self.old) op.now).1) }
+        ensures err { OnErr result (self.new ≡ self.old) }
+    {
+        operate(alloc, &mut self.tree, &mut self.side, op)
+    }
+
+    /// Does an operation, or refuses it, and tells nothing. The first one after a telling place keeps the told tree.
+    fn change(&mut self, alloc: Global, op: &Op) -> Result<Answer, NoMemory>
+        requires { IsSound self.old }
+        ensures state { OnOk result (self.new ≡ with_resources self.old (operated (resources_of self.old) op.now).0) }
+        ensures answer { IfOk result (λ answer. answer ≡ (operated (resources_of self.old) op.now).1) }
+        ensures err { OnErr result (self.new ≡ self.old) }
+    {
+        keep_told(&mut self.told, &self.tree, self.unchanged)?;
+        self.unchanged = false;
+        operate(alloc, &mut self.tree, &mut self.side, op)
+    }
+
+    /// Does an operation that is a telling place, or refuses it, and tells.
+    fn change_and_tell(&mut self, alloc: Global, op: &Op) -> Result<Reply, NoMemory>
+        requires { IsSound self.old }
+        ensures state { OnOk result (self.new ≡ (told true (with_resources self.old (operated (resources_of self.old) op.now).0) (operated (resources_of self.old) op.now).1).0) }
+        ensures reply { IfOk result (λ reply. reply ≡ (told true (with_resources self.old (operated (resources_of self.old) op.now).0) (operated (resources_of self.old) op.now).1).1) }
+        ensures err { OnErr result (self.new ≡ self.old) }
+    {
+        keep_told(&mut self.told, &self.tree, self.unchanged)?;
+        self.unchanged = false;
+        let reply = operate_and_tell(alloc, &mut self.tree, &mut self.side, &self.told, op)?;
+        self.settle(alloc);
+        Ok(reply)
+    }
+
+    /// Does an event that is a telling place and changes no resources, or refuses it. What it tells is made before.
+    fn tell_and_act(
+        &mut self,
+        alloc: Global,
+        pass: u64,
+        event: &Event,
+    ) -> Result<Reply, NoMemory>
+        requires sound { IsSound self.old }
+        requires tells { tells event.now (act self.old pass event.now).0 ≡ true }
+        requires quiet { change_of event.now ≡ nothing }
+        ensures state { OnOk result (self.new ≡ (step self.old pass event.now).0) }
+        ensures reply { IfOk result (λ reply. reply ≡ (step self.old pass event.now).1) }
+        ensures err { OnErr result (self.new ≡ self.old) }
+    {
+        let notice = self.notice(alloc)?;
+        let answer = self.act_quietly(alloc, pass, event)?;
+        self.settle(alloc);
+        Ok(Reply { answer, notice })
+    }
+
+    /// What changed since the tree was last told, where anything did.
+    fn notice(&self, alloc: Global) -> Result<Option<Delta>, NoMemory>
+        ensures { IfOk result (λ n. n ≡ notice self.now) }
+    {
+        if self.unchanged {
+            return Ok(None);
+        }
+        notice_between(alloc, &self.told, self.tree.map())
+    }
+
+    /// The tree is told as it is.
+    fn settle(&mut self, alloc: Global)
+        ensures { self.new ≡ record self.old { told = self.old.tree } }
+    {
+        self.told = ElemMap::empty(alloc);
+        self.unchanged = true;
+    }
+}
+
+/// Keeps the told tree, where it is the tree, by a copy that shares all texts.
+fn keep_told(told: &mut ElemMap, tree: &FlatTree, unchanged: bool) -> Result<(), NoMemory>
+    ensures ok { OnOk result (told.new.map ≡ told_tree unchanged tree.now.map told.old.map) }
+    ensures err { OnErr result (told.new ≡ told.old) }
+{
+    if unchanged {
+        *told = tree.map().copy()?;
+    }
+    Ok(())
+}
