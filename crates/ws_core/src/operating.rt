@@ -3,6 +3,7 @@ ghost use Rattle.std.specs.Prelude.{◌≡◌, IfOk, OnOk, OnErr};
 ghost use Rattle.delta_kind.specs.Deltas.{delta};
 ghost use Rattle.ws_ops.specs.Backs.{taken_back};
 ghost use Rattle.ws_ops.specs.Changes.{HasRooms};
+ghost use Rattle.ws_ops.specs.Refusals.{refusal};
 ghost use Rattle.ws_ops.specs.Resources.{resources};
 ghost use Rattle.ws_ops.specs.Sound.{IsSound};
 ghost use Rattle.ws_core.specs.Operations.{answered, operated};
@@ -13,7 +14,35 @@ use crate::{Answer, NoMemory, Reply};
 use std::alloc::{AllocError, Global};
 use tree_flat::FlatTree;
 use ws_elem::{ElemMap, TreeRep};
-use ws_ops::{Applied, Op, OpError, Side, apply, take_back};
+use ws_ops::{Applied, Op, OpError, OpRefusal, Side, apply, take_back};
+
+/// Why the operation is refused, if it is. It is tried, and taken back: nothing has changed.
+pub fn refusal_of(
+    alloc: Global,
+    tree: &mut FlatTree,
+    side: &mut Side,
+    op: &Op,
+) -> Result<Option<OpRefusal>, NoMemory>
+    requires { IsSound (resources tree.old.map side.old) }
+    ensures refusal { IfOk result (λ r. r ≡ refusal (resources tree.old.map side.old) op.now) }
+    ensures same { resources tree.new.map side.new ≡ resources tree.old.map side.old }
+{
+    match apply(alloc, tree, side, op) {
+        Ok(Applied { answer: _, back }) => {
+            take_back(tree, side, back);
+            drop_room(tree, side);
+            Ok(None)
+        }
+        Err(OpError::Refused(refusal)) => {
+            drop_room(tree, side);
+            Ok(Some(refusal))
+        }
+        Err(OpError::Memory) => {
+            drop_room(tree, side);
+            Err(AllocError)
+        }
+    }
+}
 
 /// Does the operation, or refuses it. Where memory wants, nothing has changed.
 pub fn operate(

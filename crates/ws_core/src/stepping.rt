@@ -1,30 +1,33 @@
 //! One step of a state.
-ghost use Rattle.std.specs.Prelude.{◌≡◌, IfOk, OnOk, OnErr, true, false, None as nothing};
+ghost use Rattle.std.specs.Prelude.{◌≡◌, IfOk, IfSome, OnOk, OnErr, Some, true, false, None as nothing};
+ghost use Rattle.std.specs.Option.{option_map};
+ghost use Rattle.ws_ops.specs.Refusals as ops;
 ghost use Rattle.ws_core.specs.declared.event.Event.TheVariants.{Operation};
 ghost use Rattle.ws_core.specs.Events.{change_of};
 ghost use Rattle.ws_core.specs.Operations.{operated};
+ghost use Rattle.ws_core.specs.Refusals.{refusal};
 ghost use Rattle.ws_core.specs.Sessions.{IsSound};
 ghost use Rattle.ws_core.specs.States.{resources_of, with_resources, told_tree};
 ghost use Rattle.ws_core.specs.Steps.{act, step, tells, told, notice};
 
 use crate::arranging::is_spent;
-use crate::operating::{operate, operate_and_tell};
+use crate::operating::{operate, operate_and_tell, refusal_of};
 use crate::telling::notice_between;
 use crate::{Answer, Event, NoMemory, Refusal, Reply, State};
 use delta_kind::Delta;
 use std::alloc::Global;
 use tree_flat::FlatTree;
 use ws_elem::ElemMap;
-use ws_ops::Op;
+use ws_ops::{Op, OpRefusal};
 
 impl State {
     /// Does the event of the pass, or refuses it with the first cause in the order of its list, and tells what changed
     /// where it is a telling place: each checkpoint, and each other event that leaves no batch open. A refused event
     /// changes nothing but that it may be such a place. Where memory wants, the state stays as it was.
     ///
-    /// Within a batch an operation costs what `ws_ops::apply` does; the first one after a telling place that may change
-    /// resources copies the tree as well. At a telling place the told tree and the tree are walked, where such an
-    /// operation came since the one before or is the event. Contents are shared, and never copied.
+    /// Within a batch an operation costs what `ws_ops::apply` does. The first one after a telling place that is done, and
+    /// does not only read, costs that twice, and a copy of the tree, which shares all contents. At a telling place the
+    /// told tree and the tree are walked, where such an operation came since the one before, or is the event.
     pub fn step(&mut self, alloc: Global, pass: u64, event: &Event) -> Result<Reply, NoMemory>
         requires { IsSound self.old }
         ensures state { OnOk result (self.new ≡ (step self.old pass event.now).0) }
@@ -39,6 +42,42 @@ impl State {
             None => self.tell_and_act(alloc, pass, event),
             Some(op) => self.change_and_tell(alloc, op),
         }
+    }
+
+    /// Why the event of the pass is refused, if it is. An operation is tried, and taken back.
+    pub fn refusal(
+        &mut self,
+        alloc: Global,
+        pass: u64,
+        event: &Event,
+    ) -> Result<Option<Refusal>, NoMemory>
+        requires { IsSound self.old }
+        ensures refusal { IfOk result (λ r. r ≡ refusal self.old pass event.now) }
+        ensures same { self.new ≡ self.old }
+    {
+        match event {
+            Event::Operation(op) => self.operation_refusal(alloc, op),
+            Event::Enter if is_spent(self.next_pass) => Ok(Some(Refusal::NumbersUsed)),
+            Event::EndBatch if !self.batches.contains(pass) => Ok(Some(Refusal::NoBatch)),
+            Event::Enter
+            | Event::Leave
+            | Event::Schedule(_, _)
+            | Event::Take
+            | Event::Finish
+            | Event::Batch
+            | Event::EndBatch
+            | Event::Checkpoint => Ok(None),
+        }
+    }
+
+    /// Why the operation is refused, if it is.
+    fn operation_refusal(&mut self, alloc: Global, op: &Op) -> Result<Option<Refusal>, NoMemory>
+        requires { IsSound self.old }
+        ensures refusal { IfOk result (λ r. r ≡ option_map Refusal.Operation (ops.refusal (resources_of self.old) op.now)) }
+        ensures same { self.new ≡ self.old }
+    {
+        let refusal = refusal_of(alloc, &mut self.tree, &mut self.side, op)?;
+        Ok(refusal.map(Refusal::Operation))
     }
 
     /// Whether the event is a telling place.
@@ -131,8 +170,21 @@ impl State {
         operate(alloc, &mut self.tree, &mut self.side, op)
     }
 
-    /// Does an operation, or refuses it, and tells nothing. The first one after a telling place keeps the told tree.
+    /// Does an operation, or refuses it, and tells nothing.
     fn change(&mut self, alloc: Global, op: &Op) -> Result<Answer, NoMemory>
+        requires { IsSound self.old }
+        ensures state { OnOk result (self.new ≡ with_resources self.old (operated (resources_of self.old) op.now).0) }
+        ensures answer { IfOk result (λ answer. answer ≡ (operated (resources_of self.old) op.now).1) }
+        ensures err { OnErr result (self.new ≡ self.old) }
+    {
+        match self.first_refusal(alloc, op)? {
+            Some(refusal) => Ok(Answer::refused(refusal)),
+            None => self.change_kept(alloc, op),
+        }
+    }
+
+    /// The same. The first one after a telling place keeps the told tree.
+    fn change_kept(&mut self, alloc: Global, op: &Op) -> Result<Answer, NoMemory>
         requires { IsSound self.old }
         ensures state { OnOk result (self.new ≡ with_resources self.old (operated (resources_of self.old) op.now).0) }
         ensures answer { IfOk result (λ answer. answer ≡ (operated (resources_of self.old) op.now).1) }
@@ -143,8 +195,34 @@ impl State {
         operate(alloc, &mut self.tree, &mut self.side, op)
     }
 
+    /// Why the operation is refused, where nothing changed since the tree was told: such a refusal needs no copy of
+    /// the tree.
+    fn first_refusal(&mut self, alloc: Global, op: &Op) -> Result<Option<OpRefusal>, NoMemory>
+        requires { IsSound self.old }
+        ensures refusal { IfOk result (λ r. IfSome r (λ x. ops.refusal (resources_of self.old) op.now ≡ Some x)) }
+        ensures same { self.new ≡ self.old }
+    {
+        if !self.unchanged {
+            return Ok(None);
+        }
+        refusal_of(alloc, &mut self.tree, &mut self.side, op)
+    }
+
     /// Does an operation that is a telling place, or refuses it, and tells.
     fn change_and_tell(&mut self, alloc: Global, op: &Op) -> Result<Reply, NoMemory>
+        requires { IsSound self.old }
+        ensures state { OnOk result (self.new ≡ (told true (with_resources self.old (operated (resources_of self.old) op.now).0) (operated (resources_of self.old) op.now).1).0) }
+        ensures reply { IfOk result (λ reply. reply ≡ (told true (with_resources self.old (operated (resources_of self.old) op.now).0) (operated (resources_of self.old) op.now).1).1) }
+        ensures err { OnErr result (self.new ≡ self.old) }
+    {
+        match self.first_refusal(alloc, op)? {
+            Some(refusal) => self.tell(alloc, Answer::refused(refusal)),
+            None => self.change_kept_and_tell(alloc, op),
+        }
+    }
+
+    /// The same. The first one after a telling place keeps the told tree.
+    fn change_kept_and_tell(&mut self, alloc: Global, op: &Op) -> Result<Reply, NoMemory>
         requires { IsSound self.old }
         ensures state { OnOk result (self.new ≡ (told true (with_resources self.old (operated (resources_of self.old) op.now).0) (operated (resources_of self.old) op.now).1).0) }
         ensures reply { IfOk result (λ reply. reply ≡ (told true (with_resources self.old (operated (resources_of self.old) op.now).0) (operated (resources_of self.old) op.now).1).1) }
@@ -173,6 +251,17 @@ impl State {
     {
         let notice = self.notice(alloc)?;
         let answer = self.act_quietly(alloc, pass, event)?;
+        self.settle(alloc);
+        Ok(Reply { answer, notice })
+    }
+
+    /// Tells what changed, with the answer to an event that changes nothing.
+    fn tell(&mut self, alloc: Global, answer: Answer) -> Result<Reply, NoMemory>
+        ensures state { OnOk result (self.new ≡ (told true self.old answer).0) }
+        ensures reply { IfOk result (λ reply. reply ≡ (told true self.old answer).1) }
+        ensures err { OnErr result (self.new ≡ self.old) }
+    {
+        let notice = self.notice(alloc)?;
         self.settle(alloc);
         Ok(Reply { answer, notice })
     }
