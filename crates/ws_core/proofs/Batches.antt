@@ -11,9 +11,11 @@ use Rattle.ws_core.specs.declared.event.Event.TheVariants.{EndBatch}
 use Rattle.ws_core.specs.declared.reply.Refusal.TheVariants.{NoBatch}
 use Rattle.ws_core.specs.declared.state.State.{State}
 use Rattle.ws_core.specs.Numbers.{has_number, without_number, without_place, without_newest}
-use Rattle.ws_core.specs.Refusals.{when, first_cause}
+use Rattle.ws_core.specs.Refusals.{when}
 use Rattle.ws_core.specs.Steps.{acted, act, tells}
-use Rattle.ws_core.proofs.Cases.{never}
+
+never : true ≡ false → ⊥
+never h = cc
 
 -- where no other number is there, none is left without this one
 pub none_other : (k : ℕ) (ns : List ℕ) → list_all (λ n. n == k) ns ≡ (length (without_number k ns) == 0)
@@ -63,6 +65,6 @@ end_tells s k h = by (has_number k s.batches) refl
     less : length (without_newest k s.batches) + 1 ≡ length s.batches
     less = newest_less k s.batches h
 
-    by : (b : Bool) → has_number k s.batches ≡ b → (length s.batches == 1) ≡ tells EndBatch (acted (first_cause (when (not b) NoBatch ∷ [])) s k EndBatch).0
+    by : (b : Bool) → has_number k s.batches ≡ b → (length s.batches == 1) ≡ tells EndBatch (acted (when (not b) NoBatch) s k EndBatch).0
     by true g = let e : length (without_newest k s.batches) + 1 ≡ length s.batches = less in grind (arith, nat_tests)
     by false g = absurd (never (sym h ∙ g))

@@ -1,11 +1,7 @@
-pub mod Places
-pub mod Cases
-pub mod WholeKept
 pub mod Told
 pub mod Seen
-pub mod Made
 pub mod Batches
 pub mod Grown
-pub mod StampsKept
+pub mod Operated
 pub mod SoundKept
 pub mod SessionsKept

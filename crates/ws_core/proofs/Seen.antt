@@ -3,8 +3,7 @@ use Rattle.std.proofs.Common.{◌≡◌, true, refl, sym, ap}
 use Rattle.std.specs.Prelude.{None}
 use Rattle.delta_kind.proofs.Same.{tells_no_change}
 use Rattle.ws_core.specs.declared.state.State.{State}
-use Rattle.ws_core.specs.States.{seen}
 use Rattle.ws_core.specs.Steps.{some_nodes, notice}
 
-pub unchanged_tells : (s : State) → None ≡ notice (seen true s)
-unchanged_tells s = ap some_nodes (sym (tells_no_change s.tree s.tree refl))
+pub unchanged_tells : (s : State) → s.told ≡ s.tree → None ≡ notice s
+unchanged_tells s h = ap some_nodes (sym (tells_no_change s.told s.tree h))

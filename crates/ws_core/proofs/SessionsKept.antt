@@ -1,63 +1,26 @@
 -- An open workspace stays one.
-use Rattle.std.proofs.Common.{◌≡◌, ℕ, true, List, [], ◌∷◌, ◌++◌, refl, sym, ap, ◌∙◌, subst, lit<}
-use Rattle.std.specs.Prelude.{Option, Some, None, IfSome}
-use Rattle.std.specs.FinMap.{get}
-use Rattle.res_path.specs.Paths.{Names}
+use Rattle.std.proofs.Common.{◌≡◌, ℕ, true, List, [], ◌∷◌, ◌++◌, refl, sym, ap, ◌∙◌, subst}
 use Rattle.ws_elem.specs.Trees.{Tree, fresh_tree}
-use Rattle.ws_elem.specs.declared.element.Element.{Element}
-use Rattle.ws_elem.proofs.Fresh.{get-fresh_tree, whole-fresh_tree}
-use Rattle.ws_elem.specs.Elements.{bare}
-use Rattle.ws_elem.specs.declared.kind.Kind.TheVariants.{Root}
 use Rattle.ws_core.specs.declared.event.Event.{Event}
 use Rattle.ws_core.specs.declared.history.Entry.{Entry}
 use Rattle.ws_core.specs.declared.state.State.{State}
 use Rattle.ws_core.specs.Steps.{step}
 use Rattle.ws_core.specs.Histories.{fresh, has_entered, notices, told_of}
-use Rattle.ws_core.specs.Stamps.{SameContents, IsDrawn, AllDrawn}
 use Rattle.ws_core.specs.Sessions.{Session, IsSession}
 use Rattle.ws_core.proofs.Told.{told_notices}
 use Rattle.ws_core.proofs.Grown.{legal_more, replay_more}
-use Rattle.ws_core.proofs.StampsKept.{Same}
-use Rattle.ws_core.proofs.SoundKept.{step_sound}
+use Rattle.ws_core.proofs.SoundKept.{fresh_sound, step_sound}
 
 -- the replies tell the notices
 pub session_told : (x : Session) → IsSession x → told_of x.history ≡ notices x.opened x.history
 session_told x is = told_notices x.opened x.history is.opened is.legal
-
-abbrev root_alone : Names → Option Element
-root_alone [] = Some (bare Root 1)
-root_alone (name ∷ p) = None
-
-get_fresh : (p : Names) → get fresh_tree p ≡ root_alone p
-get_fresh [] = get-fresh_tree []
-get_fresh (name ∷ p) = get-fresh_tree (name ∷ p)
-
-alone_drawn : (p : Names) → IfSome (root_alone p) (IsDrawn 2 1)
-alone_drawn [] = record { node = lit< tt; stamp = lit< tt; desc_stamp = lit< tt }
-alone_drawn (name ∷ p) = tt
-
-fresh_drawn : AllDrawn 2 1 fresh_tree
-fresh_drawn p = subst (λ x. IfSome x (IsDrawn 2 1)) (sym (get_fresh p)) (alone_drawn p)
-
-alone_same : (p q : Names) → IfSome (root_alone p) (λ e. IfSome (root_alone q) (λ f. Same e f))
-alone_same [] [] = λ _ _ _. refl
-alone_same [] (name ∷ q) = tt
-alone_same (name ∷ p) q = tt
-
-fresh_same : SameContents fresh_tree fresh_tree
-fresh_same p q = subst (λ x. IfSome x (λ e. IfSome (get fresh_tree q) (λ f. Same e f))) (sym (get_fresh p))
-    (subst (λ y. IfSome (root_alone p) (λ e. IfSome y (λ f. Same e f))) (sym (get_fresh q)) (alone_same p q))
 
 fresh_session : IsSession (record { opened = fresh; history = []; state = fresh })
 fresh_session = record {
   opened = refl;
   legal = record { replies = refl; entered = refl };
   state = refl;
-  sound = record {
-    tree = whole-fresh_tree;
-    told = whole-fresh_tree;
-    stamps = record { tree = fresh_same; told = fresh_same; both = fresh_same; tree_drawn = fresh_drawn; told_drawn = fresh_drawn };
-  };
+  sound = fresh_sound;
 }
 
 -- the fresh workspace is one

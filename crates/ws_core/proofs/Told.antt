@@ -5,7 +5,7 @@ use Rattle.std.specs.Option.{option_to_list}
 use Rattle.ws_elem.specs.Trees.{Tree}
 use Rattle.delta_kind.specs.Deltas.{delta}
 use Rattle.ws_core.specs.declared.event.Event.{Event}
-use Rattle.ws_core.specs.declared.event.Event.TheVariants.{Enter, Leave, Schedule, Take, Finish, Batch, EndBatch, Checkpoint, CreateProject, CreateFile, Delete}
+use Rattle.ws_core.specs.declared.event.Event.TheVariants.{Enter, Leave, Schedule, Take, Finish, Batch, EndBatch, Checkpoint, Operation}
 use Rattle.ws_core.specs.declared.history.Entry.{Entry}
 use Rattle.ws_core.specs.declared.reply.Answer.{Answer}
 use Rattle.ws_core.specs.declared.reply.Refusal.{Refusal}
@@ -26,9 +26,7 @@ effect_told s k Finish = refl
 effect_told s k Batch = refl
 effect_told s k EndBatch = refl
 effect_told s k Checkpoint = refl
-effect_told s k (CreateProject p) = refl
-effect_told s k (CreateFile p bytes) = refl
-effect_told s k (Delete p) = refl
+effect_told s k (Operation op) = refl
 
 acted_told : (r : Option Refusal) (s : State) (k : ℕ) (e : Event) → (acted r s k e).0.told ≡ s.told
 acted_told None s k e = effect_told s k e

@@ -1,19 +1,16 @@
 -- What an event does that isn't refused.
-use Rattle.std.specs.Prelude.{ℕ, ◌+◌, true, List, [], ◌∷◌, ◌++◌, Option, Some, codes}
+use Rattle.std.specs.Prelude.{ℕ, ◌+◌, List, [], ◌∷◌, ◌++◌, Option, Some}
 use Rattle.std.specs.Prelude.{None as nothing}
-use Rattle.std.specs.FinMap.{insert}
-use Rattle.res_path.specs.Paths.{Names}
-use Rattle.ws_elem.specs.Elements.{bare}
-use Rattle.ws_elem.specs.Trees.{without}
-use Rattle.ws_elem.specs.declared.element.Element.{Element}
-use Rattle.ws_elem.specs.declared.kind.Kind.TheVariants.{File, Project}
+use Rattle.ws_ops.specs.declared.op.Op.{Op}
+use Rattle.ws_ops.specs.Effects as ops
 use Rattle.ws_core.specs.declared.event.Event.{Event}
-use Rattle.ws_core.specs.declared.event.Event.TheVariants.{Enter, Leave, Schedule, Take, Finish, Batch, EndBatch, Checkpoint, CreateProject, CreateFile, Delete}
+use Rattle.ws_core.specs.declared.event.Event.TheVariants.{Enter, Leave, Schedule, Take, Finish, Batch, EndBatch, Checkpoint, Operation}
 use Rattle.ws_core.specs.declared.reply.Answer.{Answer}
-use Rattle.ws_core.specs.declared.reply.Answer.TheVariants.{Done, Id, None, Job, Refused}
-use Rattle.ws_core.specs.declared.reply.Refusal.{Refusal}
+use Rattle.ws_core.specs.declared.reply.Answer.TheVariants.{Done, Id, None, Job}
 use Rattle.ws_core.specs.declared.state.State.{State}
+use Rattle.ws_core.specs.States.{resources_of, with_resources}
 use Rattle.ws_core.specs.Numbers.{without_number, without_newest}
+use Rattle.ws_core.specs.Operations.{answered}
 
 -- a new pass with the next number
 abbrev pub enter : State → State
@@ -48,30 +45,9 @@ open_batch s pass = record s { batches = s.batches ++ pass ∷ [] }
 abbrev pub close_batch : State → ℕ → State
 close_batch s pass = record s { batches = without_newest pass s.batches }
 
--- the description of a project that nobody described
-abbrev pub empty_description : List ℕ
-empty_description = codes "{\"commands\":[],\"references\":[]}"
-
--- an open project with the empty description; it draws its node and its description's stamp
-abbrev pub new_project : State → Element
-new_project s = record (bare Project s.next_node) { opened = true; desc_stamp = s.next_stamp; desc = empty_description }
-
--- a file with these contents; it draws its node and its stamp
-abbrev pub new_file : State → List ℕ → Element
-new_file s bytes = record (bare File s.next_node) { stamp = s.next_stamp; bytes = bytes }
-
--- the element stands at p, and its numbers are drawn
-abbrev pub create : State → Names → Element → State
-create s p e = record s { tree = insert s.tree p e; next_node = s.next_node + 1; next_stamp = s.next_stamp + 1 }
-
--- the element stands at p, or why it does not
-abbrev pub created : Option Refusal → State → Names → Element → State × Answer
-created nothing s p e = (create s p e, Done)
-created (Some r) s p e = (s, Refused r)
-
--- p and all below it are gone
-abbrev pub delete : State → Names → State
-delete s p = record s { tree = without s.tree p }
+-- the operation is done
+abbrev pub operate : State → Op → State × Answer
+operate s op = (with_resources s (ops.effect (resources_of s) op).0, answered (ops.effect (resources_of s) op).1)
 
 -- the state after the event, and its answer
 abbrev pub effect : State → ℕ → Event → State × Answer
@@ -83,6 +59,4 @@ effect s pass Finish = (finish s pass, Done)
 effect s pass Batch = (open_batch s pass, Done)
 effect s pass EndBatch = (close_batch s pass, Done)
 effect s pass Checkpoint = (s, Done)
-effect s pass (CreateProject p) = (create s p (new_project s), Done)
-effect s pass (CreateFile p bytes) = (create s p (new_file s bytes), Done)
-effect s pass (Delete p) = (delete s p, Done)
+effect s pass (Operation op) = operate s op

@@ -1,6 +1,7 @@
 -- What was done, entry by entry.
 use Rattle.std.specs.Prelude.{◌≡◌, ℕ, Bool, true, ◌&&◌, List, [], ◌∷◌, ◌++◌, map, None, if◌then◌else◌}
 use Rattle.std.specs.Option.{option_to_list}
+use Rattle.std.specs.FinMap.{empty}
 use Rattle.ws_elem.specs.Trees.{Tree, fresh_tree}
 use Rattle.delta_kind.specs.Deltas.{delta}
 use Rattle.delta_kind.specs.declared.node.DeltaNode.{DeltaNode}
@@ -14,6 +15,7 @@ use Rattle.ws_core.specs.Steps.{step, tells, some_nodes}
 abbrev pub fresh : State
 fresh = record {
   tree = fresh_tree;
+  shelf = empty;
   told = fresh_tree;
   next_node = 2;
   next_stamp = 1;

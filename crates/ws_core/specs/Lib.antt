@@ -1,9 +1,9 @@
 pub mod States
 pub mod Numbers
-pub mod Places
+pub mod Events
 pub mod Refusals
+pub mod Operations
 pub mod Effects
 pub mod Steps
 pub mod Histories
-pub mod Stamps
 pub mod Sessions

@@ -1,10 +1,12 @@
 -- A workspace while it is open.
 use Rattle.std.specs.Prelude.{◌≡◌, List}
 use Rattle.ws_elem.specs.Trees.{Whole}
+use Rattle.ws_ops.specs.Sound as ops
+use Rattle.ws_ops.specs.Stamps.{IsKnown}
 use Rattle.ws_core.specs.declared.history.Entry.{Entry}
 use Rattle.ws_core.specs.declared.state.State.{State}
 use Rattle.ws_core.specs.Histories.{Legal, replay}
-use Rattle.ws_core.specs.Stamps.{Stamped}
+use Rattle.ws_core.specs.States.{resources_of}
 
 -- the state that a workspace was opened with, what was done since, and the state now
 pub record Session : Type 0 where
@@ -14,9 +16,11 @@ pub record Session : Type 0 where
 
 -- what holds of a state at every moment
 pub record IsSound (s : State) : Type 0 where
-  pub tree : Whole s.tree
+  -- its resources are sound
+  pub resources : ops.IsSound (resources_of s)
+  -- the told tree is whole, and agrees by its stamps with what is there
   pub told : Whole s.told
-  pub stamps : Stamped s
+  pub told_known : IsKnown (resources_of s) s.told
 
 -- what holds of an open workspace at every moment
 pub record IsSession (x : Session) : Type 0 where

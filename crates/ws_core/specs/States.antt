@@ -1,8 +1,77 @@
 -- What contracts see of a state.
-use Rattle.std.specs.Prelude.{Bool, true, false}
-use Rattle.ws_core.specs.declared.kept.Kept.{Kept}
+use Rattle.std.specs.Prelude.{ℕ, Bool, if◌then◌else◌, List, Option, refl}
+use Rattle.std.specs.Coded.{Coded, code_by, coded×, coded_ℕ, coded_list, coded_option}
+use Rattle.std.specs.FinMap as map
+use Rattle.ws_elem.specs.declared.element.Element.{Element}
+use Rattle.ws_elem.specs.RoomyTrees.{names_code}
+use Rattle.ws_elem.specs.Trees.{Tree}
+use Rattle.ws_ops.specs.Resources.{Resources}
 
--- what is kept, where the told tree is the tree as long as nothing changed since it was told
-abbrev pub seen : Bool → Kept → Kept
-seen true k = record k { told = k.tree }
-seen false k = k
+-- a workspace at one moment
+pub record Workspace : Type 0 where
+  -- what is at each path, the members of closed projects, and the tree as it was last told
+  pub tree : Tree
+  pub shelf : Tree
+  pub told : Tree
+  -- the numbers that the next new resource, the next new contents or description, and the next new pass get
+  pub next_node : ℕ
+  pub next_stamp : ℕ
+  pub next_pass : ℕ
+  -- the passes that have entered and haven't left
+  pub passes : List ℕ
+  -- the pass of each open batch, the newest last
+  pub batches : List ℕ
+  -- the job that waits to be run
+  pub waiting : Option (List ℕ)
+
+-- what operations see and change of it
+abbrev pub resources_of : Workspace → Resources
+resources_of s = record { tree = s.tree; shelf = s.shelf; next_node = s.next_node; next_stamp = s.next_stamp }
+
+-- the workspace with these resources
+abbrev pub with_resources : Workspace → Resources → Workspace
+with_resources s r = record s { tree = r.tree; shelf = r.shelf; next_node = r.next_node; next_stamp = r.next_stamp }
+
+-- the tree as it was last told: the tree itself, as long as it is unchanged since
+abbrev pub told_tree : Bool → Tree → Tree → Tree
+told_tree unchanged tree kept = if unchanged then tree else kept
+
+-- what is kept of a workspace
+abbrev pub seen : Bool → Tree → Resources → ℕ → List ℕ → List ℕ → Option (List ℕ) → Workspace
+seen unchanged kept r next_pass passes batches waiting = record {
+  tree = r.tree;
+  shelf = r.shelf;
+  told = told_tree unchanged r.tree kept;
+  next_node = r.next_node;
+  next_stamp = r.next_stamp;
+  next_pass = next_pass;
+  passes = passes;
+  batches = batches;
+  waiting = waiting;
+}
+
+abbrev Fields : Type 0
+Fields = Tree × (Tree × (Tree × (ℕ × (ℕ × (ℕ × (List ℕ × (List ℕ × Option (List ℕ))))))))
+
+abbrev pub tree_code : Coded Element → Coded Tree
+tree_code e = map.code names_code e
+
+-- a workspace is stored as the tuple of its fields
+abbrev pub workspace_code : Coded Element → Coded Workspace
+workspace_code e = code_by
+    Fields
+    (coded× (tree_code e) (coded× (tree_code e) (coded× (tree_code e) (coded× coded_ℕ (coded× coded_ℕ (coded× coded_ℕ
+    (coded× (coded_list coded_ℕ) (coded× (coded_list coded_ℕ) (coded_option (coded_list coded_ℕ))))))))))
+    (λ s. (s.tree, (s.shelf, (s.told, (s.next_node, (s.next_stamp, (s.next_pass, (s.passes, (s.batches, s.waiting)))))))))
+    (λ p. record {
+      tree = p.0;
+      shelf = p.1.0;
+      told = p.1.1.0;
+      next_node = p.1.1.1.0;
+      next_stamp = p.1.1.1.1.0;
+      next_pass = p.1.1.1.1.1.0;
+      passes = p.1.1.1.1.1.1.0;
+      batches = p.1.1.1.1.1.1.1.0;
+      waiting = p.1.1.1.1.1.1.1.1;
+    })
+    (λ _. refl)

@@ -3,12 +3,12 @@ use Rattle.std.specs.Prelude.{ℕ, Bool, true, false, ◌||◌, ◌==◌, List, 
 use Rattle.delta_kind.specs.Deltas.{delta}
 use Rattle.delta_kind.specs.declared.node.DeltaNode.{DeltaNode}
 use Rattle.ws_core.specs.declared.event.Event.{Event}
-use Rattle.ws_core.specs.declared.event.Event.TheVariants.{Enter, Leave, Schedule, Take, Finish, Batch, EndBatch, Checkpoint, CreateProject, CreateFile, Delete}
 use Rattle.ws_core.specs.declared.reply.Answer.{Answer}
 use Rattle.ws_core.specs.declared.reply.Answer.TheVariants.{Refused}
 use Rattle.ws_core.specs.declared.reply.Refusal.{Refusal}
 use Rattle.ws_core.specs.declared.reply.Reply.{Reply}
 use Rattle.ws_core.specs.declared.state.State.{State}
+use Rattle.ws_core.specs.Events.{is_checkpoint}
 use Rattle.ws_core.specs.Effects.{effect}
 use Rattle.ws_core.specs.Refusals.{refusal}
 
@@ -20,33 +20,6 @@ acted (Some r) s pass event = (s, Refused r)
 -- the state after an event, before anything is told, and the event's answer
 abbrev pub act : State → ℕ → Event → State × Answer
 act s pass event = acted (refusal s pass event) s pass event
-
-abbrev pub is_checkpoint : Event → Bool
-is_checkpoint Enter = false
-is_checkpoint Leave = false
-is_checkpoint (Schedule name priority) = false
-is_checkpoint Take = false
-is_checkpoint Finish = false
-is_checkpoint Batch = false
-is_checkpoint EndBatch = false
-is_checkpoint Checkpoint = true
-is_checkpoint (CreateProject p) = false
-is_checkpoint (CreateFile p bytes) = false
-is_checkpoint (Delete p) = false
-
--- whether the event may change the tree
-abbrev pub is_operation : Event → Bool
-is_operation Enter = false
-is_operation Leave = false
-is_operation (Schedule name priority) = false
-is_operation Take = false
-is_operation Finish = false
-is_operation Batch = false
-is_operation EndBatch = false
-is_operation Checkpoint = false
-is_operation (CreateProject p) = true
-is_operation (CreateFile p bytes) = true
-is_operation (Delete p) = true
 
 -- whether the event is a telling place: each Checkpoint, and each other event that leaves no batch open
 abbrev pub tells : Event → State → Bool

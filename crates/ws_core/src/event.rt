@@ -1,9 +1,10 @@
 //! What a pass may ask.
 ghost use Rattle.std.specs.Prelude.{◌≡◌, IfOk};
-ghost use Rattle.ws_core.specs.Steps.{is_operation};
+ghost use Rattle.std.specs.Option.{option_copied};
+ghost use Rattle.ws_core.specs.Events.{class_of, change_of, is_read};
 
-use bytes::Bytes;
-use res_path::{Name, NoMemory, Path};
+use res_path::{Name, NoMemory};
+use ws_ops::Op;
 
 /// What a pass may ask of the core.
 #[derive(Clone, Debug, PartialEq, Eq, Drop)]
@@ -24,21 +25,47 @@ pub enum Event {
     EndBatch,
     /// What changed is to be told (`IWorkspace.checkpoint`).
     Checkpoint,
-    /// An open project with the empty description is made (`IProject.create`, then `open`).
-    CreateProject(Path),
-    /// A file with these contents is made (`IFile.create`).
-    CreateFile(Path, Bytes),
-    /// The resource and all below it are removed (`IResource.delete`).
-    Delete(Path),
+    /// This is to be done to resources, or to be read of them.
+    Operation(Op),
+}
+
+/// What an event concerns.
+#[derive(Clone, Copy, Debug, PartialEq, Eq)]
+pub enum EventClass {
+    /// Resources: they are changed or read.
+    Operation,
+    /// What is told.
+    Checkpoint,
+    /// A pass that goes.
+    Leave,
+    /// A pass that comes, jobs or batches.
+    Other,
 }
 
 impl Event {
-    /// Whether it may change the tree.
-    pub fn is_operation(&self) -> bool
-        ensures { result ≡ is_operation self.now }
+    /// What the event concerns.
+    pub fn class(&self) -> EventClass
+        ensures { result ≡ class_of self.now }
     {
         match self {
-            Event::CreateProject(_) | Event::CreateFile(_, _) | Event::Delete(_) => true,
+            Event::Operation(_) => EventClass::Operation,
+            Event::Checkpoint => EventClass::Checkpoint,
+            Event::Leave => EventClass::Leave,
+            Event::Enter
+            | Event::Schedule(_, _)
+            | Event::Take
+            | Event::Finish
+            | Event::Batch
+            | Event::EndBatch => EventClass::Other,
+        }
+    }
+
+    /// The operation by which the event may change resources, if there is one. What only reads is none.
+    pub fn change(&self) -> Option<&Op>
+        ensures { option_copied result ≡ change_of self.now }
+    {
+        match self {
+            Event::Operation(op) => change(op),
             Event::Enter
             | Event::Leave
             | Event::Schedule(_, _)
@@ -46,7 +73,7 @@ impl Event {
             | Event::Finish
             | Event::Batch
             | Event::EndBatch
-            | Event::Checkpoint => false,
+            | Event::Checkpoint => None,
         }
     }
 
@@ -55,5 +82,33 @@ impl Event {
         ensures { IfOk result (λ copy. copy ≡ self.now) }
     {
         self.clone()
+    }
+}
+
+/// The operation, unless it only reads.
+fn change(op: &Op) -> Option<&Op>
+    ensures { option_copied result ≡ change_of (Event.Operation op.now) }
+{
+    if is_read(op) { None } else { Some(op) }
+}
+
+/// Whether the operation only reads.
+fn is_read(op: &Op) -> bool
+    ensures { result ≡ is_read op.now }
+{
+    match op {
+        Op::Read(_, _) => true,
+        Op::CreateFile(_, _)
+        | Op::CreateFolder(_)
+        | Op::CreateProject(_)
+        | Op::Delete(_)
+        | Op::Write(_, _)
+        | Op::Touch(_)
+        | Op::Derived(_, _)
+        | Op::Move(_, _)
+        | Op::Copy(_, _)
+        | Op::Open(_)
+        | Op::Close(_)
+        | Op::Describe(_, _) => false,
     }
 }

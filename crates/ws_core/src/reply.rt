@@ -1,44 +1,30 @@
 //! What an event is answered.
 ghost use Rattle.std.specs.Prelude.{◌≡◌};
 ghost use Rattle.ws_core.specs.Refusals.{refusal_number};
+ghost use Rattle.ws_core.specs.Operations.{answered};
 
 use delta_kind::Delta;
-use res_path::{Name, Path};
+use res_path::Name;
+use ws_ops::{Entries, OpAnswer, OpRefusal};
 
 /// Why an event is refused. A refused event changes nothing.
 #[derive(Clone, Debug, PartialEq, Eq, Drop)]
 pub enum Refusal {
-    /// Nothing is at this path.
-    NotFound(Path),
-    /// Something is at this path already.
-    Exists(Path),
-    /// A file is at this path, and holds nothing.
-    NotContainer(Path),
-    /// No resource of the kind that the event speaks of can be at this path.
-    WrongKind(Path),
-    /// The path is a closed project's, or of a member of one.
-    ProjectClosed(Path),
-    /// The workspace has 1,048,576 elements already.
-    TreeFull,
-    /// A number would pass 2^63 - 1.
+    /// The operation is refused.
+    Operation(OpRefusal),
+    /// A new pass's number would pass 2^63 - 1.
     NumbersUsed,
     /// The pass has no open batch.
     NoBatch,
 }
 
 impl Refusal {
-    /// The refusal's number: 10 to 14 in the order of the first five, 17 for a full tree, 18 for used numbers, 44 for
-    /// no batch.
+    /// The refusal's number: that of the operation's refusal, 18 for used numbers, 44 for no batch.
     pub fn number(&self) -> u8
         ensures { result ≡ refusal_number self.now }
     {
         match self {
-            Refusal::NotFound(_) => 10,
-            Refusal::Exists(_) => 11,
-            Refusal::NotContainer(_) => 12,
-            Refusal::WrongKind(_) => 13,
-            Refusal::ProjectClosed(_) => 14,
-            Refusal::TreeFull => 17,
+            Refusal::Operation(refusal) => refusal.number(),
             Refusal::NumbersUsed => 18,
             Refusal::NoBatch => 44,
         }
@@ -46,7 +32,7 @@ impl Refusal {
 }
 
 /// What an event is answered.
-#[derive(Clone, Debug, PartialEq, Eq, Drop)]
+#[derive(Clone, Debug, Drop)]
 pub enum Answer {
     Done,
     /// The new pass's number.
@@ -55,7 +41,28 @@ pub enum Answer {
     None,
     /// The job that is to be run.
     Job(Name),
+    /// What was read: elements with their paths.
+    Seen(Entries),
     Refused(Refusal),
+}
+
+impl Answer {
+    /// The answer to an operation that is done.
+    pub(crate) fn of(answer: OpAnswer) -> Answer
+        ensures { result ≡ answered answer }
+    {
+        match answer {
+            OpAnswer::Done => Answer::Done,
+            OpAnswer::Seen(entries) => Answer::Seen(entries),
+        }
+    }
+
+    /// The answer to an operation that is refused.
+    pub(crate) fn refused(refusal: OpRefusal) -> Answer
+        ensures { result ≡ Answer.Refused (Refusal.Operation refusal) }
+    {
+        Answer::Refused(Refusal::Operation(refusal))
+    }
 }
 
 /// What an event is answered, and what it tells: what changed in the tree since it was last told, where anything did.

@@ -5,12 +5,12 @@ ghost use Rattle.ws_core.specs.Steps.{step};
 ghost use Rattle.ws_core.specs.Histories.{fresh, has_entered, Legal, notices, replay, told_of};
 ghost use Rattle.ws_core.specs.Sessions.{IsSound};
 
-use crate::plain_tree::PlainTree;
 use crate::{Entry, Event, History, NoMemory, State};
 use delta_kind::{Delta, compare};
 use std::alloc::Global;
 use std::marker::Model;
 use std::snapshot::Snapshot;
+use ws_elem::ElemMap;
 
 /// An open workspace: its state, with the history of what was done since it was opened. A contract sees the opened
 /// state, the history and the state.
@@ -21,7 +21,7 @@ use std::snapshot::Snapshot;
 pub struct Core {
     state: State,
     // the tree as it was when the workspace was opened
-    start: PlainTree,
+    start: ElemMap,
     entries: Vec<Entry>,
     opened: Snapshot<State>,
 }
@@ -46,7 +46,7 @@ impl Model for Core {
 
     ghost view = { λ c. record { opened = c.opened.value; history = c.entries.items; state = c.state } };
 
-    ghost invariant = { λ c. (c.start ≡ c.opened.value.tree)
+    ghost invariant = { λ c. (c.start.map ≡ c.opened.value.tree)
         × IsSession (record { opened = c.opened.value; history = c.entries.items; state = c.state }) };
 }
 
@@ -58,7 +58,7 @@ impl Core {
         ensures state { IfOk result (λ core. core.state ≡ fresh) }
     {
         let state = State::fresh(alloc)?;
-        let start = PlainTree::fresh(alloc)?;
+        let start = ElemMap::fresh(alloc)?;
         let opened = Snapshot::of(&state);
         Ok(Core {
             state,
@@ -122,7 +122,7 @@ impl Core {
         ensures changed { IfOk result (λ d. d ≡ delta self.now.opened.tree self.now.state.tree) }
         ensures replayed { IfOk result (λ d. d ≡ delta self.now.opened.tree (replay self.now.opened self.now.history).tree) }
     {
-        compare(alloc, self.start.as_map(), self.state.tree())
+        compare(alloc, &self.start, self.state.tree())
     }
 
     /// Whether the pass has entered and hasn't left.

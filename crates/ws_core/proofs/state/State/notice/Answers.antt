@@ -1,10 +1,10 @@
-use Rattle.std.proofs.Common.{ap, sym, ◌∙◌}
-use Rattle.ws_core.specs.Steps.{notice}
-use Rattle.ws_core.specs.States.{seen}
+use Rattle.std.proofs.Common.{◌≡◌, ap, subst}
+use Rattle.ws_core.specs.declared.state.State.{State}
+use Rattle.ws_core.specs.States.{told_tree}
 use Rattle.ws_core.proofs.Seen.{unchanged_tells}
 use Rattle.ws_core.proofs.state.State.notice.Goals as goal
 
 pub returns-then-self : goal.returns-then-self
 returns-then-self c =
     let i = c.self.inside in
-    unchanged_tells i.kept ∙ ap (λ b. notice (seen b i.kept)) (sym c.if-self.true) ∙ ap notice c.self.view_is
+    unchanged_tells c.args.self.now (subst (λ (s : State). s.told ≡ s.tree) c.self.view_is (ap (λ b. told_tree b i.tree.map i.told.map) c.if-self.true))

@@ -1,0 +1,26 @@
+use Rattle.std.proofs.Common.{◌≡◌, true, [], ◌∷◌, ◌++◌, sym, ap, ◌∙◌, subst}
+use Rattle.std.specs.Prelude.{None}
+use Rattle.ws_elem.specs.Trees.{Tree, fresh_tree}
+use Rattle.ws_elem.specs.RoomyTrees.{RoomyTree}
+use Rattle.ws_core.specs.declared.state.State.{State}
+use Rattle.ws_core.specs.Histories.{fresh}
+use Rattle.ws_core.specs.Sessions.{IsSound}
+use Rattle.ws_core.proofs.SoundKept.{fresh_sound}
+use Rattle.ws_core.proofs.state.State.fresh.Goals as goal
+
+pub returns-clause-sound : goal.returns-clause-sound
+returns-clause-sound c =
+    let tree : c.of.result.map ≡ fresh_tree = ap (λ (t : RoomyTree). t.map) c.of.ensures ∙ c.in_ok-tree.ensures.tree in
+    let passes : c.push.new.self ≡ 0 ∷ [] = c.in_ok-push.ensures.ok ∙ ap (λ ns. ns ++ 0 ∷ []) c.empty-passes.ensures in
+    let is : fresh ≡ _ = λ i. record {
+      tree = sym tree i;
+      shelf = sym c.fresh-2.ensures.shelf i;
+      told = sym tree i;
+      next_node = sym c.fresh-2.ensures.node i;
+      next_stamp = sym c.fresh-2.ensures.stamp i;
+      next_pass = 1;
+      passes = sym passes i;
+      batches = sym c.empty-2.ensures i;
+      waiting = None;
+    } in
+    subst IsSound is fresh_sound

@@ -1,0 +1,26 @@
+-- What an operation is answered and does, refused or not.
+use Rattle.std.specs.Prelude.{Option, Some, None}
+use Rattle.ws_ops.specs.declared.answer.OpAnswer.{OpAnswer}
+use Rattle.ws_ops.specs.declared.answer.OpAnswer.TheVariants as op_answers
+use Rattle.ws_ops.specs.declared.op.Op.{Op}
+use Rattle.ws_ops.specs.declared.refusal.OpRefusal.{OpRefusal}
+use Rattle.ws_ops.specs.Resources.{Resources}
+use Rattle.ws_ops.specs.Refusals.{refusal}
+use Rattle.ws_ops.specs.Effects.{effect}
+use Rattle.ws_core.specs.declared.reply.Answer.{Answer}
+use Rattle.ws_core.specs.declared.reply.Answer.TheVariants as answers
+use Rattle.ws_core.specs.declared.reply.Refusal.TheVariants as refusals
+
+-- the answer to an operation that is done
+abbrev pub answered : OpAnswer → Answer
+answered op_answers.Done = answers.Done
+answered (op_answers.Seen entries) = answers.Seen entries
+
+-- a refused operation changes nothing
+abbrev pub operated_by : Option OpRefusal → Resources → Op → Resources × Answer
+operated_by None r op = ((effect r op).0, answered (effect r op).1)
+operated_by (Some x) r op = (r, answers.Refused (refusals.Operation x))
+
+-- the resources after an operation, and its answer
+abbrev pub operated : Resources → Op → Resources × Answer
+operated r op = operated_by (refusal r op) r op
