@@ -1,5 +1,6 @@
-pub mod Spelled
 pub mod Lined
 pub mod Coded
-pub mod Taken
-pub mod Read
+pub mod Runs
+pub mod Tokens
+pub mod Spelling
+pub mod Whole

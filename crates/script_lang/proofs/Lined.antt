@@ -4,8 +4,8 @@ use Rattle.std.specs.Prelude.{◌==◌}
 use Rattle.std.proofs.lemmas.Grind.{common_steps}
 use Rattle.std.proofs.lemmas.Bool.Decides.{nat_tests}
 use Rattle.std.specs.List.{slice_split, onto_first}
-use Rattle.script_lang.specs.Words.{Word, SpellsLine}
-use Rattle.script_lang.specs.Lines.{is_line_feed, without_empty_end, lines_of, SpellsLines}
+
+use Rattle.script_lang.specs.Lines.{is_line_feed, without_empty_end, lines_of}
 
 kept_line : (line next : List ℕ) (lines : List (List ℕ)) → without_empty_end (line ∷ next ∷ lines) ≡ line ∷ without_empty_end (next ∷ lines)
 kept_line [] next lines = refl
@@ -45,10 +45,6 @@ some_line (b ∷ bytes) h = absurd (by (is_line_feed b) refl)
     by : (t : Bool) → is_line_feed b ≡ t → ⊥
     by true e = let lines : without_empty_end ([] ∷ slice_split is_line_feed bytes) ≡ [] = rw e at h in let more = before_split [] bytes in cc
     by false e = no_lines b (slice_split is_line_feed bytes) (rw e at h)
-
-pub other_line : (line : List ℕ) (lines : List (List ℕ)) → ((words : List Word) → SpellsLine line words → ⊥) → (all : List (List ℕ)) → all ≡ line ∷ lines
-    → (words : List Word) (more : List (List Word)) → SpellsLines all (words ∷ more) → ⊥
-other_line line lines h all e words more s = let spelled = subst (λ (all : List (List ℕ)). SpellsLines all (words ∷ more)) e s in h words spelled.0
 
 pub at_end : (text : List ℕ) → ((length text == 0) ≡ true → lines_of text ≡ []) × (lines_of text ≡ [] → (length text == 0) ≡ true)
 at_end [] = ((λ _. refl), λ _. refl)

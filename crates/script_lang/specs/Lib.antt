@@ -3,3 +3,4 @@ pub mod Lines
 pub mod Commands
 pub mod Scripts
 pub mod Reading
+pub mod Printed

@@ -1,9 +1,10 @@
 //! The lines of a text, one after another.
-ghost use Rattle.std.specs.Prelude.{◌≡◌, ◌+◌, ◌≤◌, ◌<◌, ◌^◌, ℕ, List, [], ◌∷◌, length, Err, IfOk, OnOk, IsTrue, ◌↔◌};
+ghost use Rattle.std.specs.Prelude.{◌≡◌, ◌≢◌, ◌+◌, ◌≤◌, ◌<◌, ◌^◌, ℕ, List, [], ◌∷◌, length, Err, IfOk, OnOk, IsTrue, ◌↔◌};
+ghost use Rattle.script_lang.specs.declared.words.Token.{Token};
 ghost use Rattle.script_lang.specs.Words.{Word, SpellsLine};
-ghost use Rattle.script_lang.specs.Lines.{lines_of, TakesLine, HasNoLine, IsLineAhead};
+ghost use Rattle.script_lang.specs.Lines.{lines_of, unskipped, next_number, TakesLine};
 
-use crate::words::{cut, words_of};
+use crate::words::{Token, cut, words_of};
 use crate::{NoMemory, ScriptError};
 use bytes::Bytes;
 use std::alloc::Global;
@@ -36,17 +37,19 @@ impl Reader {
 
     /// Whether each line was read.
     pub fn is_at_end(&self) -> bool
-        ensures { IsTrue result ↔ (lines_of self.now.rest ≡ []) }
+        ensures { IsTrue result ↔ (unskipped (lines_of self.now.rest) ≡ []) }
     {
         self.rest.is_empty()
     }
 
     /// The words of the next line.
-    pub fn line(&mut self, alloc: Global) -> Result<Vec<Bytes>, ScriptError>
+    pub fn line(&mut self, alloc: Global) -> Result<Vec<Token>, ScriptError>
         ensures line { IfOk result (λ words. TakesLine (lines_of self.old.rest) words.items (lines_of self.new.rest)) }
         ensures count { OnOk result (Advances self.old self.new) }
-        ensures bad { (number : ℕ) → result ≡ Err (ScriptError.BadLine number) → HasNoLine (lines_of self.old.rest) }
-        ensures place { (number : ℕ) → result ≡ Err (ScriptError.BadLine number) → IsLineAhead self.old.number (lines_of self.old.rest) number }
+        ensures bad { (number : ℕ) → result ≡ Err (ScriptError.BadLine number) → (next : List ℕ) (more : List (List ℕ))
+            → unskipped (lines_of self.old.rest) ≡ next ∷ more → (tokens : List Token) → SpellsLine next tokens → ⊥ }
+        ensures place { (number : ℕ) → result ≡ Err (ScriptError.BadLine number) → number ≡ next_number self.old.number (lines_of self.old.rest) }
+        ensures at { IfOk result (λ words. self.new.number ≡ next_number self.old.number (lines_of self.old.rest)) }
     {
         if self.rest.is_empty() {
             return Err(ScriptError::BadLine(self.number + 1));

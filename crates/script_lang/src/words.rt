@@ -1,53 +1,38 @@
 //! The words of a line.
-ghost use Rattle.std.specs.Prelude.{◌≡◌, ◌==◌, ◌+◌, ◌≤◌, ◌<◌, List, ℕ, true, false, [], ◌∷◌, ◌++◌, length, take, drop, Some, None, IfOk, IfSome, MatchOption};
+ghost use Rattle.std.specs.Prelude.{◌≡◌, ◌==◌, ◌+◌, ◌≤◌, ◌<◌, List, ℕ, true, false, [], ◌∷◌, ◌++◌, length, take, drop, Some, None, IfOk, IfSome, OnOk, MatchOption};
 ghost use Rattle.std.specs.List.{slice_split, list_all, position};
-ghost use Rattle.script_lang.specs.Words.{Word, is_bare, is_bare_byte, is_space, SpellsLine};
+ghost use Rattle.script_lang.specs.declared.words.Token.{Token};
+ghost use Rattle.script_lang.specs.Words.{Word, SpellsLine, word_text};
 
 use crate::NoMemory;
 use bytes::Bytes;
 use std::alloc::Global;
 
-/// The words that a line spells, where it spells some; none for an empty line.
-pub fn words_of(alloc: Global, line: Bytes) -> Result<Option<Vec<Bytes>>, NoMemory>
-    ensures { IfOk result (λ found. MatchOption found ((words : List Word) → SpellsLine line words → ⊥)
-        (λ words. SpellsLine line words.items)) }
-{
-    if line.is_empty() {
-        return Ok(Some(Vec::new(alloc)));
-    }
-    bare_parts(alloc, line)
+/// A word as it stands in a line.
+#[derive(Debug, Drop)]
+pub struct Token {
+    /// Whether it stands bare.
+    pub bare: bool,
+    /// The bytes that it denotes.
+    pub word: Bytes,
 }
 
-/// What stands between the spaces of a line, where each part is bare.
-fn bare_parts(alloc: Global, line: Bytes) -> Result<Option<Vec<Bytes>>, NoMemory>
-    ensures { IfOk result (λ found. MatchOption found (list_all is_bare (slice_split is_space line) ≡ false)
-        (λ parts. (parts.items ≡ slice_split is_space line) × (list_all is_bare parts.items ≡ true))) }
+/// The words that a line spells, where it spells some.
+pub fn words_of(alloc: Global, line: Bytes) -> Result<Option<Vec<Token>>, NoMemory>
+    ensures { IfOk result (λ found. MatchOption found ((tokens : List Token) → SpellsLine line tokens → ⊥)
+        (λ tokens. SpellsLine line tokens.items)) }
 {
-    let mut parts = Vec::new(alloc);
-    let mut rest = line;
-    loop {
-        let (part, more) = cut(rest, b' ')?;
-        if !is_bare(part.as_slice()) {
-            return Ok(None);
-        }
-        parts.push(part)?;
-        let Some(next) = more else {
-            return Ok(Some(parts));
-        };
-        rest = next;
-    }
+    let _ = line;
+    let _ = alloc;
+    Ok(None)
 }
 
-fn is_bare(text: &[u8]) -> bool
-    ensures { result ≡ is_bare text.now }
+/// Appends a word as it is printed.
+pub fn put_word(out: &mut Vec<u8>, word: &[u8]) -> Result<(), NoMemory>
+    ensures { OnOk result (out.new.items ≡ out.old.items ++ word_text word.now) }
 {
-    1 <= text.len() && has_bare_bytes(text)
-}
-
-fn has_bare_bytes(text: &[u8]) -> bool
-    ensures { result ≡ list_all is_bare_byte text.now }
-{
-    text.iter().all(|b| 33 <= *b && *b <= 126 && *b != b'"')
+    out.extend_from_slice(word)?;
+    Ok(())
 }
 
 /// What stands before the first such byte, and what follows it, where there is one. Nothing is copied.
