@@ -1,5 +1,7 @@
-pub mod Spelled
-pub mod Lined
+pub mod Items
+pub mod Tokens
+pub mod BareSpelled
+pub mod BareLined
 pub mod Coded
 pub mod Taken
 pub mod Read

@@ -1,7 +1,7 @@
 -- What reading leaves of a reader.
 use Rattle.std.proofs.Common.{◌≡◌, Result, Err, ℕ, arith}
-use Rattle.script_lang.specs.declared.reader.Reader.{Reader}
-use Rattle.script_lang.specs.Lines.{lines_of, IsLineAhead}
+use Rattle.script_lang.specs.declared.bare_reader.Reader.{Reader}
+use Rattle.script_lang.specs.BareLines.{lines_of, IsLineAhead}
 use Rattle.script_lang.specs.Reading.{Advances}
 
 pub advances_on : (a b c : Reader) → Advances a b → Advances b c → Advances a c

@@ -5,11 +5,11 @@ use Rattle.res_path.specs.Names.{IsName}
 use Rattle.script_lang.specs.declared.script.Job.{Job}
 use Rattle.std.specs.List.{flat_map, AllByRecursion}
 use Rattle.res_path.specs.Paths.{Names, path_text}
-use Rattle.res_path.proofs.Spelled.{same_text}
+use Rattle.res_path.proofs.BareSpelled.{same_text}
 use Rattle.script_lang.specs.declared.script.Command.{Command}
 use Rattle.script_lang.specs.declared.script.Command.TheVariants.{CreateProject, CreateFile, Delete, Batch, EndBatch, Checkpoint}
-use Rattle.script_lang.specs.Words.{Word, SpellsLine}
-use Rattle.script_lang.specs.Lines.{lines_of, SpellsLines, TakesLine, TakesLines}
+use Rattle.script_lang.specs.BareWords.{Word, SpellsLine}
+use Rattle.script_lang.specs.BareLines.{lines_of, SpellsLines, TakesLine, TakesLines}
 use Rattle.script_lang.specs.Commands.{command_words, IsInner, IsPathOf, IsCommandOf}
 use Rattle.script_lang.specs.declared.script.Phase.{Phase}
 use Rattle.script_lang.specs.declared.script.Script.{Script}
@@ -18,7 +18,7 @@ use Rattle.script_lang.specs.declared.error.ScriptError.TheVariants.{BadLine, Me
 use Rattle.script_lang.specs.Scripts.{IsForm, IsScript, HasOneJob, phase_lines, IsJob, is_priority, head_words, job_lines}
 use Rattle.script_lang.specs.Reading.{ReadsInner, HasNoInner, ReadsHead, HasNoHead, IsHeadOf, ReadsJob, HasNoJob, ReadsPhase, HasNoPhase}
 use Rattle.script_lang.proofs.Coded.{same_priority}
-use Rattle.script_lang.proofs.Spelled.{same_words}
+use Rattle.script_lang.proofs.BareSpelled.{same_words}
 
 -- a line that was taken spells no other words
 pub took : (lines rest : List (List ℕ)) (words others : List Word) (more : List (List Word)) → TakesLine lines words rest → SpellsLines lines (others ∷ more) → (words ≡ others) × SpellsLines rest more

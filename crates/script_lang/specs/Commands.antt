@@ -3,7 +3,7 @@ use Rattle.std.specs.Prelude.{◌≡◌, ℕ, List, [], ◌∷◌, length, Optio
 use Rattle.res_path.specs.Paths.{Names, IsPath, path_text}
 use Rattle.script_lang.specs.declared.script.Command.{Command}
 use Rattle.script_lang.specs.declared.script.Command.TheVariants.{CreateProject, CreateFile, Delete, Batch, EndBatch, Checkpoint}
-use Rattle.script_lang.specs.Words.{Word}
+use Rattle.script_lang.specs.BareWords.{Word}
 
 -- the words of a command's line
 abbrev pub command_words : Command → List Word

@@ -1,4 +1,8 @@
+pub mod BareWords
+pub mod BareLines
 pub mod Words
+pub mod Quoted
+pub mod Tokens
 pub mod Lines
 pub mod Commands
 pub mod Scripts

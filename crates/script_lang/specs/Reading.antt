@@ -1,14 +1,14 @@
 -- What reading a part of a script leaves.
 use Rattle.std.specs.Prelude.{◌≡◌, ℕ, ◌+◌, ◌≤◌, List, [], ◌∷◌, ◌++◌, map, length, Option, Some, None, codes, decimal, IsTrue}
 use Rattle.std.specs.List.{AllByRecursion}
-use Rattle.script_lang.specs.declared.reader.Reader.{Reader}
+use Rattle.script_lang.specs.declared.bare_reader.Reader.{Reader}
 use Rattle.res_path.specs.Names.{IsName}
 use Rattle.script_lang.specs.declared.script.Command.{Command}
 use Rattle.script_lang.specs.declared.script.Command.TheVariants.{Batch}
 use Rattle.script_lang.specs.declared.script.Job.{Job}
 use Rattle.script_lang.specs.declared.script.Phase.{Phase}
-use Rattle.script_lang.specs.Words.{Word}
-use Rattle.script_lang.specs.Lines.{lines_of, SpellsLines, TakesLine, TakesLines}
+use Rattle.script_lang.specs.BareWords.{Word}
+use Rattle.script_lang.specs.BareLines.{lines_of, SpellsLines, TakesLine, TakesLines}
 use Rattle.script_lang.specs.Commands.{command_words, IsInner}
 use Rattle.script_lang.specs.Scripts.{IsJob, HasOneJob, phase_lines, is_priority, head_words, job_lines}
 

@@ -7,8 +7,8 @@ use Rattle.script_lang.specs.declared.script.Command.TheVariants.{Batch, EndBatc
 use Rattle.script_lang.specs.declared.script.Job.{Job}
 use Rattle.script_lang.specs.declared.script.Phase.{Phase}
 use Rattle.script_lang.specs.declared.script.Script.{Script}
-use Rattle.script_lang.specs.Words.{Word}
-use Rattle.script_lang.specs.Lines.{lines_of, SpellsLines}
+use Rattle.script_lang.specs.BareWords.{Word}
+use Rattle.script_lang.specs.BareLines.{lines_of, SpellsLines}
 use Rattle.script_lang.specs.Commands.{command_words, IsInner}
 
 -- ---- the words of a script, line by line

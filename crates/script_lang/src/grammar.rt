@@ -2,8 +2,8 @@
 ghost use Rattle.std.specs.Prelude.{◌≡◌, ◌+◌, ◌≤◌, ℕ, List, [], ◌∷◌, ◌++◌, length, decimal, IsTrue, ◌↔◌, Err, IfOk, OnOk, MatchResult, MatchOption};
 ghost use Rattle.std.specs.List.{AllByRecursion};
 ghost use Rattle.res_path.specs.Names.{IsName};
-ghost use Rattle.script_lang.specs.Words.{Word};
-ghost use Rattle.script_lang.specs.Lines.{lines_of, SpellsLines, TakesLine, TakesLines, IsLineAhead};
+ghost use Rattle.script_lang.specs.BareWords.{Word};
+ghost use Rattle.script_lang.specs.BareLines.{lines_of, SpellsLines, TakesLine, TakesLines, IsLineAhead};
 ghost use Rattle.script_lang.specs.Commands.{command_words, IsInner};
 ghost use Rattle.script_lang.specs.Scripts.{is_priority, IsScript};
 ghost use Rattle.script_lang.specs.Reading.{Advances, ReadsBatch, HasNoInner, ReadsHead, HasNoHead, ReadsJob, HasNoJob, ReadsPhase, HasNoPhase, IsHeadOf, IsPriorityOf};
@@ -11,7 +11,7 @@ ghost use Rattle.script_lang.specs.declared.script.Command.{Command};
 ghost use Rattle.script_lang.specs.declared.script.Script.{Script};
 
 use crate::command::{command_of, is};
-use crate::reader::Reader;
+use crate::bare_reader::Reader;
 use crate::script::{Command, Commands, Job, Jobs, Phase, Phases, Script};
 use crate::{NoMemory, ScriptError};
 use bytes::{ByteStr, Bytes};

@@ -8,10 +8,12 @@
 //! - `error`: why a text is no script.
 #![tactic(auto)]
 
+mod bare_reader;
+mod bare_words;
 mod command;
 mod error;
 mod grammar;
-mod reader;
+mod quoted;
 mod script;
 #[cfg(test)]
 mod tests;

@@ -1,7 +1,7 @@
 use Rattle.std.proofs.Common.{◌≡◌, Err, ap, sym, ◌∙◌, ◌∷◌, ◌++◌, [], subst, true, false, None}
 use Rattle.std.specs.Prelude.{codes}
 use Rattle.std.proofs.lemmas.Result.{err_from_is_err_and}
-use Rattle.script_lang.specs.Lines.{lines_of}
+use Rattle.script_lang.specs.BareLines.{lines_of}
 use Rattle.script_lang.specs.Commands.{IsCommandOf}
 use Rattle.script_lang.proofs.Taken.{ahead_all, ahead_more, ahead_bad, ahead_ends, retake}
 use Rattle.script_lang.specs.declared.error.ScriptError.TheVariants.{BadLine}

@@ -1,5 +1,5 @@
 use Rattle.std.proofs.Common.{None, subst}
-use Rattle.script_lang.specs.Lines.{lines_of}
+use Rattle.script_lang.specs.BareLines.{lines_of}
 use Rattle.script_lang.specs.Reading.{IsHeadOf}
 use Rattle.script_lang.proofs.Taken.{no_head}
 use Rattle.script_lang.proofs.grammar.head.Goals as goal

@@ -1,6 +1,6 @@
 use Rattle.std.proofs.Common.{Err, sym, ◌∙◌, ap, ◌∷◌, ◌++◌, []}
 use Rattle.std.proofs.lemmas.Result.{err_from_is_err_and}
-use Rattle.script_lang.specs.Lines.{lines_of}
+use Rattle.script_lang.specs.BareLines.{lines_of}
 use Rattle.script_lang.specs.declared.error.ScriptError.TheVariants.{BadLine}
 use Rattle.script_lang.specs.declared.script.Command.TheVariants.{EndBatch}
 use Rattle.script_lang.proofs.Taken.{job_bad_inner, job_bad_end, job_read}

@@ -1,5 +1,5 @@
 use Rattle.std.proofs.Common.{◌≡◌, sym, ◌∙◌, true, false, ◌∷◌, []}
-use Rattle.script_lang.specs.Lines.{lines_of}
+use Rattle.script_lang.specs.BareLines.{lines_of}
 use Rattle.script_lang.proofs.Taken.{took}
 use Rattle.script_lang.proofs.grammar.keyword.Goals as goal
 

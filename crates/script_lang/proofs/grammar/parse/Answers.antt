@@ -1,6 +1,6 @@
 use Rattle.std.proofs.Common.{◌≡◌, true, false, Err, sym, ◌∙◌, ap, subst, ◌∷◌, ◌++◌, []}
 use Rattle.std.proofs.lemmas.Result.{err_from_is_err_and}
-use Rattle.script_lang.specs.Lines.{lines_of}
+use Rattle.script_lang.specs.BareLines.{lines_of}
 use Rattle.script_lang.specs.Scripts.{IsScript}
 use Rattle.script_lang.proofs.Taken.{script_refused, script_bad_end, script_is}
 use Rattle.script_lang.proofs.grammar.parse.Goals as goal

@@ -1,9 +1,9 @@
 //! The lines of a text, one after another.
 ghost use Rattle.std.specs.Prelude.{◌≡◌, ◌+◌, ◌≤◌, ◌<◌, ◌^◌, ℕ, List, [], ◌∷◌, length, Err, IfOk, OnOk, IsTrue, ◌↔◌};
-ghost use Rattle.script_lang.specs.Words.{Word, SpellsLine};
-ghost use Rattle.script_lang.specs.Lines.{lines_of, TakesLine, HasNoLine, IsLineAhead};
+ghost use Rattle.script_lang.specs.BareWords.{Word, SpellsLine};
+ghost use Rattle.script_lang.specs.BareLines.{lines_of, TakesLine, HasNoLine, IsLineAhead};
 
-use crate::words::{cut, words_of};
+use crate::bare_words::{cut, words_of};
 use crate::{NoMemory, ScriptError};
 use bytes::Bytes;
 use std::alloc::Global;

@@ -1,8 +1,8 @@
 use Rattle.std.proofs.Common.{sym, ◌∙◌, ap}
 use Rattle.std.specs.List.{slice_split}
-use Rattle.script_lang.specs.Lines.{is_line_feed}
-use Rattle.script_lang.proofs.Lined.{first_line}
-use Rattle.script_lang.proofs.reader.take_line.Goals as goal
+use Rattle.script_lang.specs.BareLines.{is_line_feed}
+use Rattle.script_lang.proofs.BareLined.{first_line}
+use Rattle.script_lang.proofs.bare_reader.take_line.Goals as goal
 
 pub returns-in-Some-clause-line : goal.returns-in-Some-clause-line
 returns-in-Some-clause-line c =

@@ -4,8 +4,8 @@ use Rattle.std.specs.Prelude.{◌==◌}
 use Rattle.std.proofs.lemmas.Grind.{common_steps}
 use Rattle.std.proofs.lemmas.Bool.Decides.{nat_tests}
 use Rattle.std.specs.List.{slice_split, onto_first}
-use Rattle.script_lang.specs.Words.{Word, SpellsLine}
-use Rattle.script_lang.specs.Lines.{is_line_feed, without_empty_end, lines_of, SpellsLines}
+use Rattle.script_lang.specs.BareWords.{Word, SpellsLine}
+use Rattle.script_lang.specs.BareLines.{is_line_feed, without_empty_end, lines_of, SpellsLines}
 
 kept_line : (line next : List ℕ) (lines : List (List ℕ)) → without_empty_end (line ∷ next ∷ lines) ≡ line ∷ without_empty_end (next ∷ lines)
 kept_line [] next lines = refl

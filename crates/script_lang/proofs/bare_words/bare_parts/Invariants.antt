@@ -1,7 +1,7 @@
 use Rattle.std.proofs.Common.{◌≡◌, ◌++◌, true, length}
 use Rattle.std.specs.List.{slice_split, list_all}
-use Rattle.script_lang.specs.Words.{is_bare, is_space}
-use Rattle.script_lang.proofs.words.bare_parts.Given as goal
+use Rattle.script_lang.specs.BareWords.{is_bare, is_space}
+use Rattle.script_lang.proofs.bare_words.bare_parts.Given as goal
 
 abbrev pub invariant-loop-parts : goal.invariant-loop-parts
 invariant-loop-parts l = record {

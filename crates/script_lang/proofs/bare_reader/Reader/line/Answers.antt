@@ -1,6 +1,6 @@
-use Rattle.script_lang.specs.Lines.{lines_of}
-use Rattle.script_lang.proofs.Lined.{other_line}
-use Rattle.script_lang.proofs.reader.Reader.line.Goals as goal
+use Rattle.script_lang.specs.BareLines.{lines_of}
+use Rattle.script_lang.proofs.BareLined.{other_line}
+use Rattle.script_lang.proofs.bare_reader.Reader.line.Goals as goal
 
 pub returns-in-None-clause-bad : goal.returns-in-None-clause-bad
 returns-in-None-clause-bad c = λ number e.

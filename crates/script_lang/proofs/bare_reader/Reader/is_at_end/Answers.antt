@@ -1,6 +1,6 @@
 use Rattle.std.proofs.Common.{sym, ◌∙◌}
-use Rattle.script_lang.proofs.Lined.{at_end}
-use Rattle.script_lang.proofs.reader.Reader.is_at_end.Goals as goal
+use Rattle.script_lang.proofs.BareLined.{at_end}
+use Rattle.script_lang.proofs.bare_reader.Reader.is_at_end.Goals as goal
 
 pub returns : goal.returns
 returns c =
