@@ -5,7 +5,7 @@ use Rattle.std.specs.List.{slice_split, onto_first, list_all, join_with_byte}
 use Rattle.std.proofs.lemmas.Grind.{common_steps}
 use Rattle.std.proofs.lemmas.Bool.Decides.{nat_tests}
 use Rattle.std.proofs.lemmas.List.Splits.{slice_split-cons_no, join_with_byte-slice_split}
-use Rattle.res_path.proofs.BareSpelled.{both}
+use Rattle.res_path.proofs.Spelled.{both}
 use Rattle.script_lang.specs.BareWords.{Word, is_bare_byte, is_space, is_bare, SpellsWords, SpellsLine}
 
 no_space : (b : ℕ) → is_bare_byte b ≡ true → is_space b ≡ false

@@ -1,5 +1,6 @@
 pub mod Items
 pub mod Tokens
+pub mod Lined
 pub mod BareSpelled
 pub mod BareLined
 pub mod Coded

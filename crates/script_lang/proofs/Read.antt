@@ -1,8 +1,8 @@
 -- What reading leaves of a reader.
 use Rattle.std.proofs.Common.{◌≡◌, Result, Err, ℕ, arith}
 use Rattle.script_lang.specs.declared.bare_reader.Reader.{Reader}
+use Rattle.script_lang.specs.BareReading.{Advances}
 use Rattle.script_lang.specs.BareLines.{lines_of, IsLineAhead}
-use Rattle.script_lang.specs.Reading.{Advances}
 
 pub advances_on : (a b c : Reader) → Advances a b → Advances b c → Advances a c
 advances_on a b c h g = record { later = omega (arith, h.later, g.later); same = omega (arith, h.same, g.same) }

@@ -5,7 +5,7 @@ use Rattle.res_path.specs.Names.{IsName}
 use Rattle.script_lang.specs.declared.script.Job.{Job}
 use Rattle.std.specs.List.{flat_map, AllByRecursion}
 use Rattle.res_path.specs.Paths.{Names, path_text}
-use Rattle.res_path.proofs.BareSpelled.{same_text}
+use Rattle.res_path.proofs.Spelled.{same_text}
 use Rattle.script_lang.specs.declared.script.Command.{Command}
 use Rattle.script_lang.specs.declared.script.Command.TheVariants.{CreateProject, CreateFile, Delete, Batch, EndBatch, Checkpoint}
 use Rattle.script_lang.specs.BareWords.{Word, SpellsLine}

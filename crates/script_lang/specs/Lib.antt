@@ -1,5 +1,6 @@
 pub mod BareWords
 pub mod BareLines
+pub mod BareReading
 pub mod Words
 pub mod Quoted
 pub mod Tokens

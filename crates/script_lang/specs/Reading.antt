@@ -1,7 +1,7 @@
 -- What reading a part of a script leaves.
 use Rattle.std.specs.Prelude.{◌≡◌, ℕ, ◌+◌, ◌≤◌, List, [], ◌∷◌, ◌++◌, map, length, Option, Some, None, codes, decimal, IsTrue}
 use Rattle.std.specs.List.{AllByRecursion}
-use Rattle.script_lang.specs.declared.bare_reader.Reader.{Reader}
+use Rattle.script_lang.specs.declared.reader.Reader.{Reader}
 use Rattle.res_path.specs.Names.{IsName}
 use Rattle.script_lang.specs.declared.script.Command.{Command}
 use Rattle.script_lang.specs.declared.script.Command.TheVariants.{Batch}

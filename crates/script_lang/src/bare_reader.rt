@@ -20,7 +20,7 @@ pub struct Reader {
 }
 
 impl Reader {
-    ghost use Rattle.script_lang.specs.Reading.{Advances};
+    ghost use Rattle.script_lang.specs.BareReading.{Advances};
 
     /// The lines of this text. It takes no memory.
     pub fn new(text: Bytes) -> Reader

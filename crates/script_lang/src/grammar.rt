@@ -3,10 +3,11 @@ ghost use Rattle.std.specs.Prelude.{◌≡◌, ◌+◌, ◌≤◌, ℕ, List, []
 ghost use Rattle.std.specs.List.{AllByRecursion};
 ghost use Rattle.res_path.specs.Names.{IsName};
 ghost use Rattle.script_lang.specs.BareWords.{Word};
+ghost use Rattle.script_lang.specs.BareReading.{Advances};
 ghost use Rattle.script_lang.specs.BareLines.{lines_of, SpellsLines, TakesLine, TakesLines, IsLineAhead};
 ghost use Rattle.script_lang.specs.Commands.{command_words, IsInner};
 ghost use Rattle.script_lang.specs.Scripts.{is_priority, IsScript};
-ghost use Rattle.script_lang.specs.Reading.{Advances, ReadsBatch, HasNoInner, ReadsHead, HasNoHead, ReadsJob, HasNoJob, ReadsPhase, HasNoPhase, IsHeadOf, IsPriorityOf};
+ghost use Rattle.script_lang.specs.Reading.{ReadsBatch, HasNoInner, ReadsHead, HasNoHead, ReadsJob, HasNoJob, ReadsPhase, HasNoPhase, IsHeadOf, IsPriorityOf};
 ghost use Rattle.script_lang.specs.declared.script.Command.{Command};
 ghost use Rattle.script_lang.specs.declared.script.Script.{Script};
 

@@ -14,14 +14,17 @@ mod command;
 mod error;
 mod grammar;
 mod quoted;
+mod reader;
 mod script;
 #[cfg(test)]
 mod tests;
+mod word_text;
 mod words;
 
 pub use error::ScriptError;
 pub use grammar::parse;
 pub use script::{Command, Commands, Job, Jobs, Phase, Phases, Script};
+pub use word_text::put_word;
 use std::alloc::AllocError;
 
 /// Want of memory, as std tells it.

@@ -128,7 +128,8 @@ fn starts_with_space(text: &[u8]) -> bool
     }
 }
 
-fn is_bare(text: &[u8]) -> bool
+/// Whether the text can stand as a bare word.
+pub fn is_bare(text: &[u8]) -> bool
     ensures { result ≡ is_bare text.now }
 {
     1 <= text.len() && has_bare_bytes(text)
@@ -157,7 +158,7 @@ pub fn cut(text: Bytes, mark: u8) -> Result<(Bytes, Option<Bytes>), NoMemory>
     }
 }
 
-fn place_of(text: &[u8], mark: u8) -> Option<usize>
+pub fn place_of(text: &[u8], mark: u8) -> Option<usize>
     ensures place { result ≡ position (λ b. b == mark) text.now }
     ensures bound { IfSome result (λ at. at < length text.now) }
 {

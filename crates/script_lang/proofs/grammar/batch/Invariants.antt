@@ -1,6 +1,6 @@
 use Rattle.std.proofs.Common.{length}
+use Rattle.script_lang.specs.BareReading.{Advances}
 use Rattle.script_lang.specs.BareLines.{lines_of}
-use Rattle.script_lang.specs.Reading.{Advances}
 use Rattle.script_lang.proofs.Taken.{AheadBatch}
 use Rattle.script_lang.proofs.grammar.batch.Given as goal
 

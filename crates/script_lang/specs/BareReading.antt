@@ -1,0 +1,9 @@
+-- What reading lines of bare words leaves of a reader.
+use Rattle.std.specs.Prelude.{◌≡◌, ℕ, ◌+◌, ◌≤◌, length}
+use Rattle.script_lang.specs.declared.bare_reader.Reader.{Reader}
+use Rattle.script_lang.specs.BareLines.{lines_of}
+
+-- lines were read, and none was lost
+pub record Advances (old new : Reader) : Type 0 where
+  pub later : old.number ≤ new.number
+  pub same : new.number + length (lines_of new.rest) ≡ old.number + length (lines_of old.rest)
