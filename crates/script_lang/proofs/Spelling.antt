@@ -19,7 +19,8 @@ use Rattle.script_lang.specs.Commands.{Part, keyword, a_name, a_path, a_word, Fi
 use Rattle.script_lang.specs.Scripts.{FitsLines, part_word, line_text}
 use Rattle.script_lang.specs.Printed.{IsPart, AreParts, AreLines}
 use Rattle.script_lang.proofs.Coded.{same_line}
-use Rattle.script_lang.proofs.Tokens.{spells_once, line_spells}
+use Rattle.script_lang.proofs.Tokens.{spells_once}
+use Rattle.script_lang.proofs.Written.{line_spells}
 
 -- ---- in front, and what is left
 

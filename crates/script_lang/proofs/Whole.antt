@@ -15,7 +15,7 @@ use Rattle.script_lang.specs.declared.progress.Place.{Place}
 use Rattle.script_lang.specs.declared.progress.Place.TheVariants.{Outside, BeforeJob, WithinJob, AfterJob}
 use Rattle.script_lang.specs.declared.progress.Progress.{Progress}
 use Rattle.script_lang.specs.Words.{Token, SpellsLine}
-use Rattle.script_lang.specs.Lines.{lines_of, is_skipped, unskipped, SpellsEach, SpellsLines, TakesLine, next_number}
+use Rattle.script_lang.specs.Lines.{lines_of, is_skipped, unskipped, SpellsEach, SpellsLines, TakesLine, next_number, Skips}
 use Rattle.script_lang.specs.Commands.{FitsParts, line_parts}
 use Rattle.script_lang.specs.Scripts.{FitsLines, HasOneJob, phase_lines, script_lines, IsScriptOf, IsScript, IsBeginning, IsFirstBad, line_text}
 use Rattle.script_lang.specs.Reading.{goes, place_lines, read_lines, SaysNext, Steps, IsStuck, IsWhole}
@@ -43,6 +43,24 @@ read_none lines number phases place n e f =
     let at : begun ≡ record { phases = phases; place = place } = λ i. record { phases = sym e i; place = sym f i } in
     subst (λ (progress : Progress). HasRead lines lines number progress) at
     (record { front = []; lines_are = refl; number_is = n; tokens = []; spelled = tt; fitting = tt; jobs = tt })
+
+nothing_left : (rest : List (List ℕ)) → unskipped rest ≡ [] → SpellsLines rest []
+nothing_left rest e = subst (λ (lines : List (List ℕ)). SpellsEach lines []) (sym e) tt
+
+-- skipped lines were passed
+pub read_skips : (lines : List (List ℕ)) (old new : List ℕ) (m n : ℕ) (progress : Progress) → HasRead lines (lines_of old) m progress → Skips old new
+    → n + length (lines_of new) ≡ m + length (lines_of old) → HasRead lines (lines_of new) n progress
+read_skips lines old new m n progress h s e =
+    let joined = ap length s.lines_are ∙ length-append s.passed (lines_of new) in
+    let fronts = length-append h.front s.passed in record {
+      front = h.front ++ s.passed;
+      lines_are = h.lines_are ∙ ap (λ (rest : List (List ℕ)). h.front ++ rest) s.lines_are ∙ sym (append_assoc h.front s.passed (lines_of new));
+      number_is = omega (arith, h.number_is, joined, fronts, e);
+      tokens = h.tokens ++ [];
+      spelled = lines_append h.front s.passed h.tokens [] h.spelled (nothing_left s.passed s.skipped);
+      fitting = subst (λ (tokens : List (List Token)). FitsLines tokens (read_lines progress)) (sym (append-nil h.tokens)) h.fitting;
+      jobs = h.jobs;
+    }
 
 not_true : (b : Bool) → (b ≡ true → ⊥) → b ≡ false
 not_true true h = absurd (h refl)
@@ -74,9 +92,6 @@ read_step lines old new m n before after h s e =
 
 whole_lines : (progress : Progress) → progress.place ≡ Outside → read_lines progress ≡ flat_map phase_lines progress.phases
 whole_lines progress e = ap (λ (place : Place). flat_map phase_lines progress.phases ++ place_lines place) e ∙ append-nil (flat_map phase_lines progress.phases)
-
-nothing_left : (rest : List (List ℕ)) → unskipped rest ≡ [] → SpellsLines rest []
-nothing_left rest e = subst (λ (lines : List (List ℕ)). SpellsEach lines []) (sym e) tt
 
 pub whole_script : (lines rest : List (List ℕ)) (number : ℕ) (progress : Progress) → HasRead lines rest number progress → IsWhole rest progress
     → IsScriptOf lines (record { phases = progress.phases })

@@ -1,4 +1,6 @@
 pub mod Words
+pub mod Quoted
+pub mod Tokens
 pub mod Lines
 pub mod Commands
 pub mod Scripts

@@ -1,5 +1,5 @@
 -- The lines of a text.
-use Rattle.std.specs.Prelude.{◌≡◌, ◌≢◌, ℕ, ◌+◌, ◌<◌, ◌≤◌, Bool, true, not, ◌==◌, if◌then◌else◌, List, [], ◌∷◌, ◌++◌, length}
+use Rattle.std.specs.Prelude.{◌≡◌, ◌≢◌, ℕ, ◌+◌, ◌<◌, ◌≤◌, Bool, true, false, not, ◌||◌, ◌==◌, if◌then◌else◌, List, [], ◌∷◌, ◌++◌, length}
 use Rattle.std.specs.List.{slice_split, filter}
 use Rattle.script_lang.specs.Words.{Token, SpellsLine}
 
@@ -51,9 +51,9 @@ pub record TakesLine (lines : List (List ℕ)) (tokens : List Token) (rest : Lis
   pub kept : is_skipped line ≢ true
   pub spelled : SpellsLine line tokens
 
--- no line is left that isn't skipped, or the first one spells no tokens
+-- the first line that isn't skipped, where there is one, spells no tokens
 abbrev pub HasNoLine : List (List ℕ) → Type 0
-HasNoLine lines = (tokens : List Token) (more : List (List Token)) → SpellsLines lines (tokens ∷ more) → ⊥
+HasNoLine lines = (line : List ℕ) (more : List (List ℕ)) → unskipped lines ≡ line ∷ more → (tokens : List Token) → SpellsLine line tokens → ⊥
 
 -- the number of a line that is left, or of one past the last, where so many lines were read
 pub record IsLineAhead (read : ℕ) (lines : List (List ℕ)) (number : ℕ) : Type 0 where
@@ -64,3 +64,19 @@ pub record IsLineAhead (read : ℕ) (lines : List (List ℕ)) (number : ℕ) : T
 abbrev pub next_number : ℕ → List (List ℕ) → ℕ
 next_number read [] = read + 1
 next_number read (line ∷ lines) = if is_skipped line then next_number (read + 1) lines else read + 1
+
+-- the first line is skipped
+abbrev pub starts_skipped : List ℕ → Bool
+starts_skipped [] = false
+starts_skipped (b ∷ bytes) = b == 10 || b == 35
+
+-- the first line was passed
+pub record PassesLine (old new : List ℕ) : Type 0 where
+  pub line : List ℕ
+  pub lines_are : lines_of old ≡ line ∷ lines_of new
+
+-- skipped lines in front were passed, so that the first line that is left isn't skipped
+pub record Skips (old new : List ℕ) : Type 0 where
+  pub passed : List (List ℕ)
+  pub lines_are : lines_of old ≡ passed ++ lines_of new
+  pub skipped : unskipped passed ≡ []

@@ -106,13 +106,17 @@ byte_text b = if b == 34 || b == 92 then 92 ∷ b ∷ []
     else (if b == 13 then 92 ∷ 114 ∷ []
     else (if nat_lt b 32 || b == 127 then hex_text b else b ∷ []))))
 
--- bytes between quotes, of which at most so many are no part of UTF-8: the longest front that is UTF-8, the digits of the
--- byte after it, and so on
+-- the longest front that is UTF-8, then the byte after it by its digits, and then more
+abbrev pub quoted_front : (Word → List ℕ) → Word → List ℕ
+quoted_front more word = let valid = utf8_valid_len word in
+    flat_map byte_text (take valid word) ++ (if valid == length word then [] else hex_text (slice_index word valid) ++ more (drop (valid + 1) word))
+
+-- bytes between quotes, of which at most so many are no part of UTF-8
 abbrev pub quoted_within : ℕ → Word → List ℕ
 quoted_within zero word = flat_map byte_text word
-quoted_within (suc k) word = let valid = utf8_valid_len word in
-    flat_map byte_text (take valid word) ++ (if valid == length word then [] else hex_text (slice_index word valid) ++ quoted_within k (drop (valid + 1) word))
+quoted_within (suc k) word = quoted_front (quoted_within k) word
 
+-- bytes between quotes
 abbrev pub quoted_text : Word → List ℕ
 quoted_text word = quoted_within (length word) word
 

@@ -3,7 +3,7 @@ ghost use Rattle.std.specs.Prelude.{◌≡◌, ℕ, List, length, Err, IfOk, OnO
 ghost use Rattle.script_lang.specs.declared.error.ScriptError.TheVariants.{BadLine, Memory};
 ghost use Rattle.script_lang.specs.declared.script.Script.{Script};
 ghost use Rattle.script_lang.specs.declared.progress.Progress.{Progress};
-ghost use Rattle.script_lang.specs.Lines.{lines_of, next_number};
+ghost use Rattle.script_lang.specs.Lines.{lines_of, next_number, Skips};
 ghost use Rattle.script_lang.specs.Scripts.{IsScript, IsFirstBad};
 ghost use Rattle.script_lang.specs.Reading.{Advances, SaysNext, Steps, IsStuck, IsWhole};
 
@@ -27,7 +27,7 @@ pub fn parse(alloc: Global, text: Bytes) -> Result<Script, ScriptError>
 {
     let mut reader = Reader::new(text);
     let mut progress = Progress::new(alloc);
-    while !is_whole(&reader, &progress) {
+    while !is_whole(&mut reader, &progress) {
         progress = step(&mut reader, alloc, progress)?;
     }
     Ok(Script {
@@ -35,11 +35,14 @@ pub fn parse(alloc: Global, text: Bytes) -> Result<Script, ScriptError>
     })
 }
 
-/// Whether nothing is left to read, and no phase is open.
-fn is_whole(reader: &Reader, progress: &Progress) -> bool
-    ensures { IsTrue result ↔ IsWhole (lines_of reader.now.rest) progress.now }
+/// Whether nothing is left to read but skipped lines, and no phase is open. Passes skipped lines.
+fn is_whole(reader: &mut Reader, progress: &Progress) -> bool
+    ensures whole { IsTrue result ↔ IsWhole (lines_of reader.new.rest) progress.now }
+    ensures rest { Skips reader.old.rest reader.new.rest }
+    ensures count { Advances reader.old reader.new }
 {
-    progress.is_outside() && reader.is_at_end()
+    let at_end = reader.is_at_end();
+    at_end && progress.is_outside()
 }
 
 /// Reads one more line that isn't skipped.

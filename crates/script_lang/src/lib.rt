@@ -2,6 +2,8 @@
 //!
 //! - `script`: a `Script`: phases of jobs of commands.
 //! - `words`: the words of a line.
+//! - `quoted`: what stands between the quotes of a word.
+//! - `word_text`: how words are printed.
 //! - `reader`: the lines of a text, one after another.
 //! - `line`: what one line of a script says.
 //! - `command`: which line the words of a line are.
@@ -17,14 +19,17 @@ mod grammar;
 mod line;
 mod printing;
 mod progress;
+mod quoted;
 mod reader;
 mod script;
+mod word_text;
 mod words;
 
 pub use error::ScriptError;
 pub use grammar::parse;
 pub use printing::{print, put_operation};
 pub use script::{Command, Commands, Job, Jobs, Phase, Phases, Priority, Script};
+pub use word_text::put_word;
 use std::alloc::AllocError;
 
 /// Want of memory, as std tells it.

@@ -11,7 +11,7 @@ ghost use Rattle.script_lang.specs.Printed.{ended, IsPart, AreParts, AreLines};
 
 use crate::NoMemory;
 use crate::script::{Command, Job, Phase, Priority, Script};
-use crate::words::put_word;
+use crate::word_text::put_word;
 use res_path::Path;
 use std::alloc::Global;
 use ws_ops::{Op, Want};

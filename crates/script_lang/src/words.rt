@@ -1,10 +1,14 @@
 //! The words of a line.
-ghost use Rattle.std.specs.Prelude.{◌≡◌, ◌==◌, ◌+◌, ◌≤◌, ◌<◌, List, ℕ, true, false, [], ◌∷◌, ◌++◌, length, take, drop, Some, None, IfOk, IfSome, OnOk, MatchOption};
+ghost use Rattle.std.specs.Prelude.{◌≡◌, ◌==◌, ◌+◌, ◌<◌, List, ℕ, true, false, [], ◌∷◌, ◌++◌, length, drop, Option, Some, None, IfOk, IfSome, MatchOption};
+ghost use Rattle.std.specs.Bool.{MatchBool};
 ghost use Rattle.std.specs.List.{slice_split, list_all, position};
 ghost use Rattle.script_lang.specs.declared.words.Token.{Token};
-ghost use Rattle.script_lang.specs.Words.{Word, SpellsLine, word_text};
+ghost use Rattle.script_lang.specs.Words.{is_bare, is_bare_byte, SpellsLine};
+ghost use Rattle.script_lang.specs.Quoted.{quote_from};
+ghost use Rattle.script_lang.specs.Tokens.{starts_quoted, after_token, StartsWith, StartsWithNone};
 
 use crate::NoMemory;
+use crate::quoted::{denoted, quote_place};
 use bytes::Bytes;
 use std::alloc::Global;
 
@@ -17,22 +21,124 @@ pub struct Token {
     pub word: Bytes,
 }
 
-/// The words that a line spells, where it spells some.
+/// The tokens that a line spells, where it spells some. A bare word, and a quoted one without an escape, shares the
+/// line's bytes. Costs one pass over the line.
 pub fn words_of(alloc: Global, line: Bytes) -> Result<Option<Vec<Token>>, NoMemory>
     ensures { IfOk result (λ found. MatchOption found ((tokens : List Token) → SpellsLine line tokens → ⊥)
         (λ tokens. SpellsLine line tokens.items)) }
 {
-    let _ = line;
-    let _ = alloc;
-    Ok(None)
+    let mut tokens = Vec::new(alloc);
+    let mut rest = line;
+    loop {
+        let Some((token, more)) = first_token(alloc, rest)? else {
+            return Ok(None);
+        };
+        tokens.push(token)?;
+        let Some(next) = more else {
+            return Ok(Some(tokens));
+        };
+        rest = next;
+    }
 }
 
-/// Appends a word as it is printed.
-pub fn put_word(out: &mut Vec<u8>, word: &[u8]) -> Result<(), NoMemory>
-    ensures { OnOk result (out.new.items ≡ out.old.items ++ word_text word.now) }
+/// The token in front of a line, and what is left after the space that follows it.
+fn first_token(alloc: Global, line: Bytes) -> Result<Option<(Token, Option<Bytes>)>, NoMemory>
+    ensures { IfOk result (λ found. MatchOption found (StartsWithNone line) (λ first. StartsWith line first.0 first.1)) }
 {
-    out.extend_from_slice(word)?;
-    Ok(())
+    if starts_quoted(line.as_slice()) {
+        quoted_token(alloc, line)
+    } else {
+        bare_token(line)
+    }
+}
+
+fn starts_quoted(line: &[u8]) -> bool
+    ensures { result ≡ starts_quoted line.now }
+{
+    match line {
+        [first, ..] => *first == b'"',
+        [] => false,
+    }
+}
+
+fn bare_token(line: Bytes) -> Result<Option<(Token, Option<Bytes>)>, NoMemory>
+    requires { starts_quoted line ≡ false }
+    ensures { IfOk result (λ found. MatchOption found (StartsWithNone line) (λ first. StartsWith line first.0 first.1)) }
+{
+    let (word, more) = cut(line, b' ')?;
+    if !is_bare(word.as_slice()) {
+        return Ok(None);
+    }
+    Ok(Some((Token { bare: true, word }, more)))
+}
+
+fn quoted_token(alloc: Global, line: Bytes) -> Result<Option<(Token, Option<Bytes>)>, NoMemory>
+    requires { starts_quoted line ≡ true }
+    ensures { IfOk result (λ found. MatchOption found (StartsWithNone line) (λ first. StartsWith line first.0 first.1)) }
+{
+    let Some((inner, rest)) = between_quotes(line)? else {
+        return Ok(None);
+    };
+    let Some(more) = after_token(rest) else {
+        return Ok(None);
+    };
+    match denoted(alloc, inner)? {
+        None => Ok(None),
+        Some(word) => Ok(Some((Token { bare: false, word }, more))),
+    }
+}
+
+/// What stands between the first quote and the one that closes it, and what follows that one.
+fn between_quotes(line: Bytes) -> Result<Option<(Bytes, Bytes)>, NoMemory>
+    requires { starts_quoted line ≡ true }
+    ensures { IfOk result (λ found. MatchOption found (quote_from false 0 (drop 1 line) ≡ None)
+        (λ parts. (quote_from false 0 (drop 1 line) ≡ Some (length parts.0)) × (line ≡ 34 ∷ (parts.0 ++ 34 ∷ parts.1)))) }
+{
+    let mut rest = line;
+    rest.advance(1);
+    let Some(at) = quote_place(rest.as_slice()) else {
+        return Ok(None);
+    };
+    let inner = rest.split_to(at)?;
+    rest.advance(1);
+    Ok(Some((inner, rest)))
+}
+
+/// What is left after the space that follows a token, where nothing or a space follows it.
+fn after_token(rest: Bytes) -> Option<Option<Bytes>>
+    ensures { MatchOption result ((more : Option (List ℕ)) → rest ≡ after_token more → ⊥) (λ more. rest ≡ after_token more) }
+{
+    let mut more = rest;
+    if more.is_empty() {
+        return Some(None);
+    }
+    if !starts_with_space(more.as_slice()) {
+        return None;
+    }
+    more.advance(1);
+    Some(Some(more))
+}
+
+fn starts_with_space(text: &[u8]) -> bool
+    ensures { MatchBool result (text.now ≡ 32 ∷ drop 1 text.now) ((more : List ℕ) → text.now ≡ 32 ∷ more → ⊥) }
+{
+    match text {
+        [first, ..] => *first == b' ',
+        [] => false,
+    }
+}
+
+/// Whether the text can stand as a bare word.
+pub fn is_bare(text: &[u8]) -> bool
+    ensures { result ≡ is_bare text.now }
+{
+    1 <= text.len() && has_bare_bytes(text)
+}
+
+fn has_bare_bytes(text: &[u8]) -> bool
+    ensures { result ≡ list_all is_bare_byte text.now }
+{
+    text.iter().all(|b| 33 <= *b && *b <= 126 && *b != b'"')
 }
 
 /// What stands before the first such byte, and what follows it, where there is one. Nothing is copied.
@@ -52,7 +158,7 @@ pub fn cut(text: Bytes, mark: u8) -> Result<(Bytes, Option<Bytes>), NoMemory>
     }
 }
 
-fn place_of(text: &[u8], mark: u8) -> Option<usize>
+pub fn place_of(text: &[u8], mark: u8) -> Option<usize>
     ensures place { result ≡ position (λ b. b == mark) text.now }
     ensures bound { IfSome result (λ at. at < length text.now) }
 {
