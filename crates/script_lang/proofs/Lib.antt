@@ -1,5 +1,8 @@
-pub mod Spelled
+pub mod Items
+pub mod Tokens
+pub mod Written
 pub mod Lined
 pub mod Coded
-pub mod Taken
-pub mod Read
+pub mod Runs
+pub mod Spelling
+pub mod Whole

@@ -1,75 +1,97 @@
--- What reading a part of a script leaves.
-use Rattle.std.specs.Prelude.{◌≡◌, ℕ, ◌+◌, ◌≤◌, List, [], ◌∷◌, ◌++◌, map, length, Option, Some, None, codes, decimal, IsTrue}
-use Rattle.std.specs.List.{AllByRecursion}
-use Rattle.script_lang.specs.declared.reader.Reader.{Reader}
+-- How a script is read, line by line.
+use Rattle.std.specs.Prelude.{◌≡◌, ◌≢◌, ℕ, ◌+◌, ◌≤◌, Bool, List, [], ◌∷◌, ◌++◌, map, length, Option, Some, None, codes}
+use Rattle.std.specs.List.{flat_map, AllByRecursion}
 use Rattle.res_path.specs.Names.{IsName}
-use Rattle.script_lang.specs.declared.script.Command.{Command}
-use Rattle.script_lang.specs.declared.script.Command.TheVariants.{Batch}
+use Rattle.res_path.specs.Paths.{Names, IsPath, path_text}
 use Rattle.script_lang.specs.declared.script.Job.{Job}
 use Rattle.script_lang.specs.declared.script.Phase.{Phase}
-use Rattle.script_lang.specs.Words.{Word}
-use Rattle.script_lang.specs.Lines.{lines_of, SpellsLines, TakesLine, TakesLines}
-use Rattle.script_lang.specs.Commands.{command_words, IsInner}
-use Rattle.script_lang.specs.Scripts.{IsJob, HasOneJob, phase_lines, is_priority, head_words, job_lines}
+use Rattle.script_lang.specs.declared.script.Priority.{Priority}
+use Rattle.script_lang.specs.declared.line.Line.{Line}
+use Rattle.script_lang.specs.declared.line.Line.TheVariants.{BeginPhase, BeginJob, InJob, EndJob, EndPhase}
+use Rattle.script_lang.specs.declared.progress.Place.{Place}
+use Rattle.script_lang.specs.declared.progress.Place.TheVariants.{Outside, BeforeJob, WithinJob, AfterJob}
+use Rattle.script_lang.specs.declared.progress.Progress.{Progress}
+use Rattle.script_lang.specs.declared.reader.Reader.{Reader}
+use Rattle.script_lang.specs.Words.{Word, Token, SpellsLine}
+use Rattle.script_lang.specs.Lines.{lines_of, unskipped, next_number, TakesLine}
+use Rattle.script_lang.specs.Commands.{keyword, a_path, a_name, a_word, FitsPart, FitsParts, priority_word, line_parts}
+use Rattle.script_lang.specs.Scripts.{job_lines, phase_lines}
+
+-- ---- one line
+
+-- the line that the tokens stand for, or none where there is none
+abbrev pub IsLineOf : List Token → Option Line → Type 0
+IsLineOf tokens None = (line : Line) → FitsParts tokens (line_parts line) → ⊥
+IsLineOf tokens (Some line) = FitsParts tokens (line_parts line)
+
+abbrev pub IsPathFound : Token → Option Names → Type 0
+IsPathFound token None = (path : Names) → FitsPart token (a_path path) → ⊥
+IsPathFound token (Some path) = FitsPart token (a_path path)
+
+abbrev pub IsNameFound : Token → Option (List ℕ) → Type 0
+IsNameFound token None = (name : List ℕ) → FitsPart token (a_name name) → ⊥
+IsNameFound token (Some name) = FitsPart token (a_name name)
+
+abbrev pub IsPriorityFound : Token → Option Priority → Type 0
+IsPriorityFound token None = (priority : Priority) → FitsPart token (keyword (priority_word priority)) → ⊥
+IsPriorityFound token (Some priority) = FitsPart token (keyword (priority_word priority))
+
+-- a verb that has two arguments, other than these four
+abbrev pub HasOtherVerb : Token → Type 0
+HasOtherVerb token = (FitsPart token (keyword (codes "create")) → ⊥) × (FitsPart token (keyword (codes "write")) → ⊥)
+    × (FitsPart token (keyword (codes "describe")) → ⊥) × (FitsPart token (keyword (codes "derived")) → ⊥)
+
+-- ---- one line after another
+
+-- where the reading stands after one more line, if the line may stand there
+abbrev pub goes : Progress → Line → Option Progress
+goes progress line = by progress.place line
+  where
+    by : Place → Line → Option Progress
+    by Outside BeginPhase = Some (record progress { place = BeforeJob })
+    by BeforeJob (BeginJob name priority) = Some (record progress { place = WithinJob (record { name = name; priority = priority; commands = [] }) })
+    by (WithinJob job) (InJob command) = Some (record progress { place = WithinJob (record job { commands = job.commands ++ command ∷ [] }) })
+    by (WithinJob job) EndJob = Some (record progress { place = AfterJob job })
+    by (AfterJob job) EndPhase = Some (record { phases = progress.phases ++ (record { jobs = job ∷ [] }) ∷ []; place = Outside })
+    by place line = None
+
+-- the lines read of the phase that isn't closed
+abbrev pub place_lines : Place → List Line
+place_lines Outside = []
+place_lines BeforeJob = BeginPhase ∷ []
+place_lines (WithinJob job) = BeginPhase ∷ BeginJob job.name job.priority ∷ map InJob job.commands
+place_lines (AfterJob job) = BeginPhase ∷ job_lines job
+
+-- the lines read
+abbrev pub read_lines : Progress → List Line
+read_lines progress = flat_map phase_lines progress.phases ++ place_lines progress.place
+
+-- ---- from the lines of a text
 
 -- lines were read, and none was lost
 pub record Advances (old new : Reader) : Type 0 where
   pub later : old.number ≤ new.number
   pub same : new.number + length (lines_of new.rest) ≡ old.number + length (lines_of old.rest)
 
--- the commands of a batch were read, up to its end
-pub record ReadsInner (old new : List (List ℕ)) (inner : List Command) : Type 0 where
-  pub commands : AllByRecursion IsInner inner
-  pub taken : TakesLines old (map command_words inner ++ (codes "endbatch" ∷ []) ∷ []) new
-  -- no others are spelled there
-  pub only : (others : List Command) (more : List (List Word)) → AllByRecursion IsInner others
-      → SpellsLines old (map command_words others ++ (codes "endbatch" ∷ []) ∷ more) → (others ≡ inner) × SpellsLines new more
+-- the next line that isn't skipped says this
+pub record SaysNext (old new : List (List ℕ)) (line : Line) : Type 0 where
+  pub tokens : List Token
+  pub taken : TakesLine old tokens new
+  pub fits : FitsParts tokens (line_parts line)
 
--- the same, with the batch's beginning in front
-pub record ReadsBatch (old new : List (List ℕ)) (commands : List Command) : Type 0 where
-  pub inner : List Command
-  pub commands_are : commands ≡ Batch ∷ inner
-  pub read : ReadsInner old new inner
+-- the next line that isn't skipped was read
+pub record Steps (old new : List (List ℕ)) (before after : Progress) : Type 0 where
+  pub line : Line
+  pub says : SaysNext old new line
+  pub goes_to : goes before line ≡ Some after
 
--- no commands of a batch, up to its end, are spelled there
-abbrev pub HasNoInner : List (List ℕ) → Type 0
-HasNoInner lines = (inner : List Command) (more : List (List Word)) → AllByRecursion IsInner inner
-    → SpellsLines lines (map command_words inner ++ (codes "endbatch" ∷ []) ∷ more) → ⊥
+-- the next line that isn't skipped, where so many lines were read, has this number, or one past the last where each is
+-- skipped; and none that it may say can stand there
+pub record IsStuck (read : ℕ) (lines : List (List ℕ)) (progress : Progress) (number : ℕ) : Type 0 where
+  pub number_is : number ≡ next_number read lines
+  pub none : (next : List ℕ) (more : List (List ℕ)) → unskipped lines ≡ next ∷ more → (tokens : List Token) → SpellsLine next tokens
+      → (line : Line) → FitsParts tokens (line_parts line) → goes progress line ≡ None
 
--- a job was read, and no other is spelled there
-pub record ReadsJob (old new : List (List ℕ)) (job : Job) : Type 0 where
-  pub form : IsJob job
-  pub taken : TakesLines old (job_lines job) new
-  pub only : (other : Job) (more : List (List Word)) → IsJob other → SpellsLines old (job_lines other ++ more) → (other ≡ job) × SpellsLines new more
-
-abbrev pub HasNoJob : List (List ℕ) → Type 0
-HasNoJob lines = (job : Job) (more : List (List Word)) → IsJob job → SpellsLines lines (job_lines job ++ more) → ⊥
-
--- the priority with this word, or none where there is none
-abbrev pub IsPriorityOf : Word → Option ℕ → Type 0
-IsPriorityOf word None = (priority : ℕ) → IsTrue (is_priority priority) → decimal priority ≡ word → ⊥
-IsPriorityOf word (Some priority) = IsTrue (is_priority priority) × (decimal priority ≡ word)
-
--- the name and the priority of the job with these words, or none where there are none
-abbrev pub IsHeadOf : List Word → Option (List ℕ × ℕ) → Type 0
-IsHeadOf words None = (name : List ℕ) (priority : ℕ) → IsName name → IsTrue (is_priority priority) → head_words name priority ≡ words → ⊥
-IsHeadOf words (Some head) = IsName head.0 × IsTrue (is_priority head.1) × (head_words head.0 head.1 ≡ words)
-
--- the first line of a job was read
-pub record ReadsHead (old new : List (List ℕ)) (name : List ℕ) (priority : ℕ) : Type 0 where
-  pub named : IsName name
-  pub ranked : IsTrue (is_priority priority)
-  pub taken : TakesLine old (head_words name priority) new
-
-abbrev pub HasNoHead : List (List ℕ) → Type 0
-HasNoHead lines = (name : List ℕ) (priority : ℕ) (more : List (List Word)) → IsName name → IsTrue (is_priority priority)
-    → SpellsLines lines (head_words name priority ∷ more) → ⊥
-
--- a phase was read, and no other is spelled there
-pub record ReadsPhase (old new : List (List ℕ)) (phase : Phase) : Type 0 where
-  pub form : HasOneJob phase.jobs
-  pub taken : TakesLines old (phase_lines phase) new
-  pub only : (other : Phase) (more : List (List Word)) → HasOneJob other.jobs → SpellsLines old (phase_lines other ++ more) → (other ≡ phase) × SpellsLines new more
-
-abbrev pub HasNoPhase : List (List ℕ) → Type 0
-HasNoPhase lines = (phase : Phase) (more : List (List Word)) → HasOneJob phase.jobs → SpellsLines lines (phase_lines phase ++ more) → ⊥
+-- each line that isn't skipped was read, and no phase is open
+abbrev pub IsWhole : List (List ℕ) → Progress → Type 0
+IsWhole lines progress = (progress.place ≡ Outside) × (unskipped lines ≡ [])

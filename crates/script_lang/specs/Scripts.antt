@@ -1,57 +1,88 @@
--- Scripts, and the texts that spell them.
-use Rattle.std.specs.Prelude.{◌≡◌, ℕ, Bool, ◌||◌, ◌==◌, List, [], ◌∷◌, ◌++◌, map, IsTrue, codes, decimal}
-use Rattle.std.specs.List.{flat_map, AllByRecursion}
-use Rattle.res_path.specs.Names.{IsName}
-use Rattle.script_lang.specs.declared.script.Command.{Command}
-use Rattle.script_lang.specs.declared.script.Command.TheVariants.{Batch, EndBatch}
+-- Scripts, the texts that spell them, and the first bad line of a text that spells none.
+use Rattle.std.specs.Prelude.{◌≡◌, ℕ, ◌+◌, ◌-◌, ◌≤◌, List, [], ◌∷◌, ◌++◌, map, length, take}
+use Rattle.std.specs.List.{flat_map, join_with_byte, AllByRecursion}
+use Rattle.res_path.specs.Paths.{path_text}
+use Rattle.ws_ops.specs.declared.op.Op.{Op}
 use Rattle.script_lang.specs.declared.script.Job.{Job}
 use Rattle.script_lang.specs.declared.script.Phase.{Phase}
 use Rattle.script_lang.specs.declared.script.Script.{Script}
-use Rattle.script_lang.specs.Words.{Word}
+use Rattle.script_lang.specs.declared.line.Line.{Line}
+use Rattle.script_lang.specs.declared.line.Line.TheVariants.{BeginPhase, BeginJob, InJob, EndJob, EndPhase}
+use Rattle.script_lang.specs.Words.{Word, Token, word_text}
 use Rattle.script_lang.specs.Lines.{lines_of, SpellsLines}
-use Rattle.script_lang.specs.Commands.{command_words, IsInner}
+use Rattle.script_lang.specs.Commands.{Part, keyword, a_name, a_path, a_word, FitsParts, line_parts, operation_parts}
 
--- ---- the words of a script, line by line
+-- ---- the lines of a script
 
--- a job's name and priority, and its rule, which is the root's
-abbrev pub head_words : Word → ℕ → List Word
-head_words name priority = codes "job" ∷ name ∷ decimal priority ∷ codes "path" ∷ codes "/" ∷ []
+abbrev pub job_lines : Job → List Line
+job_lines job = BeginJob job.name job.priority ∷ (map InJob job.commands ++ EndJob ∷ [])
 
-abbrev pub job_lines : Job → List (List Word)
-job_lines job = head_words job.name job.priority ∷ (map command_words job.commands ++ (codes "endjob" ∷ []) ∷ [])
+abbrev pub phase_lines : Phase → List Line
+phase_lines phase = BeginPhase ∷ (flat_map job_lines phase.jobs ++ EndPhase ∷ [])
 
-abbrev pub phase_lines : Phase → List (List Word)
-phase_lines phase = (codes "phase" ∷ []) ∷ (flat_map job_lines phase.jobs ++ (codes "endphase" ∷ []) ∷ [])
-
-abbrev pub script_lines : Script → List (List Word)
+abbrev pub script_lines : Script → List Line
 script_lines script = flat_map phase_lines script.phases
 
--- ---- what a script may hold
+-- ---- which texts spell it
 
--- one of the platform's five priorities
-abbrev pub is_priority : ℕ → Bool
-is_priority n = n == 10 || n == 20 || n == 30 || n == 40 || n == 50
+-- the tokens stand for the lines, one by one
+abbrev pub FitsLines : List (List Token) → List Line → Type 0
+FitsLines [] [] = Unit {0}
+FitsLines (tokens ∷ more) (line ∷ lines) = FitsParts tokens (line_parts line) × FitsLines more lines
+FitsLines [] (line ∷ lines) = ⊥
+FitsLines (tokens ∷ more) [] = ⊥
 
--- a job whose commands are one batch
-pub record IsJob (job : Job) : Type 0 where
-  pub name : IsName job.name
-  pub priority : IsTrue (is_priority job.priority)
-  pub inner : List Command
-  pub batch : job.commands ≡ Batch ∷ (inner ++ EndBatch ∷ [])
-  pub commands : AllByRecursion IsInner inner
+abbrev pub HasOneJob : Phase → Type 0
+HasOneJob phase = length phase.jobs ≡ 1
 
-abbrev pub HasOneJob : List Job → Type 0
-HasOneJob [] = ⊥
-HasOneJob (job ∷ []) = IsJob job
-HasOneJob (job ∷ other ∷ jobs) = ⊥
-
--- nothing, or one phase of one job
-abbrev pub IsForm : List Phase → Type 0
-IsForm [] = Unit {0}
-IsForm (phase ∷ []) = HasOneJob phase.jobs
-IsForm (phase ∷ other ∷ phases) = ⊥
+-- the lines spell the script, each of whose phases has one job
+pub record IsScriptOf (lines : List (List ℕ)) (script : Script) : Type 0 where
+  pub jobs : AllByRecursion HasOneJob script.phases
+  pub tokens : List (List Token)
+  pub spelled : SpellsLines lines tokens
+  pub fitting : FitsLines tokens (script_lines script)
 
 -- the text spells the script
-pub record IsScript (bytes : List ℕ) (script : Script) : Type 0 where
-  pub form : IsForm script.phases
-  pub lines : SpellsLines (lines_of bytes) (script_lines script)
+abbrev pub IsScript : List ℕ → Script → Type 0
+IsScript bytes script = IsScriptOf (lines_of bytes) script
+
+-- ---- the first bad line
+
+-- some lines after these make them a script
+pub record IsBeginning (lines : List (List ℕ)) : Type 0 where
+  pub more : List (List ℕ)
+  pub script : Script
+  pub spelled : IsScriptOf (lines ++ more) script
+
+-- the first line, counted from 1, at which no continuation makes the lines so far the beginning of a script; one past
+-- the last where each line has one, and the lines alone are none
+pub record IsFirstBad (bytes : List ℕ) (number : ℕ) : Type 0 where
+  pub counted : 1 ≤ number
+  pub within : number ≤ length (lines_of bytes) + 1
+  pub before : IsBeginning (take (number - 1) (lines_of bytes))
+  pub bad : number ≤ length (lines_of bytes) → IsBeginning (take number (lines_of bytes)) → ⊥
+  pub short : number ≡ length (lines_of bytes) + 1 → (script : Script) → IsScript bytes script → ⊥
+
+-- ---- how it is printed
+
+-- the word that a part is
+abbrev pub part_word : Part → Word
+part_word (keyword text) = text
+part_word (a_name name) = name
+part_word (a_path path) = path_text path
+part_word (a_word word) = word
+
+-- the words of the parts, with one space between
+abbrev pub parts_text : List Part → List ℕ
+parts_text parts = join_with_byte 32 (map word_text (map part_word parts))
+
+abbrev pub line_text : Line → List ℕ
+line_text line = parts_text (line_parts line)
+
+-- each line, with LF after it
+abbrev pub script_text : Script → List ℕ
+script_text script = flat_map (λ line. line_text line ++ 10 ∷ []) (script_lines script)
+
+-- an operation's line, without its end
+abbrev pub operation_text : Op → List ℕ
+operation_text op = parts_text (operation_parts op)

@@ -1,25 +1,35 @@
-//! Scripts of jobs: what a script is, and how a text is read as one.
+//! Scripts of jobs: what a script is, how a text is read as one, and how one is printed.
 //!
 //! - `script`: a `Script`: phases of jobs of commands.
 //! - `words`: the words of a line.
+//! - `quoted`: what stands between the quotes of a word.
+//! - `word_text`: how words are printed.
 //! - `reader`: the lines of a text, one after another.
-//! - `command`: which command the words of a line are.
+//! - `line`: what one line of a script says.
+//! - `command`: which line the words of a line are.
+//! - `progress`: how far a script is read.
 //! - `grammar`: the script that a text spells.
+//! - `printing`: the text of a script.
 //! - `error`: why a text is no script.
 #![tactic(auto)]
 
 mod command;
 mod error;
 mod grammar;
+mod line;
+mod printing;
+mod progress;
+mod quoted;
 mod reader;
 mod script;
-#[cfg(test)]
-mod tests;
+mod word_text;
 mod words;
 
 pub use error::ScriptError;
 pub use grammar::parse;
-pub use script::{Command, Commands, Job, Jobs, Phase, Phases, Script};
+pub use printing::{print, put_operation};
+pub use script::{Command, Commands, Job, Jobs, Phase, Phases, Priority, Script};
+pub use word_text::put_word;
 use std::alloc::AllocError;
 
 /// Want of memory, as std tells it.

@@ -1,9 +1,8 @@
 //! The lines of a text, one after another.
-ghost use Rattle.std.specs.Prelude.{◌≡◌, ◌+◌, ◌≤◌, ◌<◌, ◌^◌, ℕ, List, [], ◌∷◌, length, Err, IfOk, OnOk, IsTrue, ◌↔◌};
-ghost use Rattle.script_lang.specs.Words.{Word, SpellsLine};
-ghost use Rattle.script_lang.specs.Lines.{lines_of, TakesLine, HasNoLine, IsLineAhead};
+ghost use Rattle.std.specs.Prelude.{◌≡◌, ◌+◌, ◌≤◌, ◌<◌, ◌^◌, ℕ, List, [], ◌∷◌, length, true, false, Err, IfOk, OnOk, IsTrue, ◌↔◌};
+ghost use Rattle.script_lang.specs.Lines.{lines_of, unskipped, starts_skipped, TakesLine, HasNoLine, IsLineAhead, next_number, PassesLine, Skips};
 
-use crate::words::{cut, words_of};
+use crate::words::{Token, cut, place_of, words_of};
 use crate::{NoMemory, ScriptError};
 use bytes::Bytes;
 use std::alloc::Global;
@@ -14,7 +13,7 @@ use std::mem;
 pub struct Reader {
     /// What is left of the text.
     pub rest: Bytes,
-    /// How many lines were read.
+    /// How many lines were read, skipped ones too.
     pub number: u64,
     ghost fits: { number + length rest < 2 ^ 63 },
 }
@@ -34,29 +33,72 @@ impl Reader {
         }
     }
 
-    /// Whether each line was read.
-    pub fn is_at_end(&self) -> bool
-        ensures { IsTrue result ↔ (lines_of self.now.rest ≡ []) }
+    /// Whether no line is left but skipped ones. Passes those that come first. It takes no memory.
+    pub fn is_at_end(&mut self) -> bool
+        ensures end { IsTrue result ↔ (unskipped (lines_of self.old.rest) ≡ []) }
+        ensures rest { Skips self.old.rest self.new.rest }
+        ensures count { Advances self.old self.new }
+        ensures next { next_number self.new.number (lines_of self.new.rest) ≡ next_number self.old.number (lines_of self.old.rest) }
     {
+        self.skip();
         self.rest.is_empty()
     }
 
-    /// The words of the next line.
-    pub fn line(&mut self, alloc: Global) -> Result<Vec<Bytes>, ScriptError>
-        ensures line { IfOk result (λ words. TakesLine (lines_of self.old.rest) words.items (lines_of self.new.rest)) }
+    /// The tokens of the next line that isn't skipped. Refused with the number of that line where it spells none, and
+    /// with one past the last where only skipped lines are left. Costs one pass over the lines that are read.
+    pub fn line(&mut self, alloc: Global) -> Result<Vec<Token>, ScriptError>
+        ensures line { IfOk result (λ tokens. TakesLine (lines_of self.old.rest) tokens.items (lines_of self.new.rest)) }
         ensures count { OnOk result (Advances self.old self.new) }
+        ensures number { OnOk result (self.new.number ≡ next_number self.old.number (lines_of self.old.rest)) }
         ensures bad { (number : ℕ) → result ≡ Err (ScriptError.BadLine number) → HasNoLine (lines_of self.old.rest) }
         ensures place { (number : ℕ) → result ≡ Err (ScriptError.BadLine number) → IsLineAhead self.old.number (lines_of self.old.rest) number }
+        ensures named { (number : ℕ) → result ≡ Err (ScriptError.BadLine number) → number ≡ next_number self.old.number (lines_of self.old.rest) }
     {
+        self.skip();
         if self.rest.is_empty() {
             return Err(ScriptError::BadLine(self.number + 1));
         }
         let line = take_line(&mut self.rest)?;
         self.number += 1;
         match words_of(alloc, line)? {
-            Some(words) => Ok(words),
+            Some(tokens) => Ok(tokens),
             None => Err(ScriptError::BadLine(self.number)),
         }
+    }
+
+    /// Passes the skipped lines that come first.
+    fn skip(&mut self)
+        ensures rest { Skips self.old.rest self.new.rest }
+        ensures count { Advances self.old self.new }
+        ensures next { next_number self.new.number (lines_of self.new.rest) ≡ next_number self.old.number (lines_of self.old.rest) }
+        ensures first { starts_skipped self.new.rest ≡ false }
+    {
+        while starts_skipped(self.rest.as_slice()) {
+            pass_line(&mut self.rest);
+            self.number += 1;
+        }
+    }
+}
+
+/// Whether the first line of a text is skipped: it is empty, or begins with `#`.
+fn starts_skipped(text: &[u8]) -> bool
+    ensures { result ≡ starts_skipped text.now }
+{
+    match text {
+        [first, ..] => *first == b'\n' || *first == b'#',
+        [] => false,
+    }
+}
+
+/// Passes the first line of a text.
+fn pass_line(text: &mut Bytes)
+    requires { 0 < length text.old }
+    ensures line { PassesLine text.old text.new }
+    ensures shorter { length text.new < length text.old }
+{
+    match place_of(text.as_slice(), b'\n') {
+        None => text.clear(),
+        Some(at) => text.advance(at + 1),
     }
 }
 

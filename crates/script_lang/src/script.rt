@@ -1,18 +1,23 @@
 //! Scripts: phases of jobs of commands.
-ghost use Rattle.std.specs.Prelude.{◌≡◌};
+ghost use Rattle.std.specs.Prelude.{◌≡◌, ◌++◌, ◌∷◌, [], length, IfOk, OnOk};
+ghost use Rattle.script_lang.specs.Commands.{priority_number};
 
-use bytes::Bytes;
-use res_path::{Name, Path};
+use crate::NoMemory;
+use res_path::Name;
+use std::alloc::Global;
 use std::marker::Model;
+use ws_ops::Op;
 
 /// One command of a job.
-#[derive(Debug, Drop)]
+#[derive(Debug, PartialEq, Eq, Drop)]
 pub enum Command {
-    CreateProject(Path),
-    CreateFile(Path, Bytes),
-    Delete(Path),
+    /// An operation on resources is done.
+    Operation(Op),
+    /// A batch begins.
     Batch,
+    /// The innermost batch ends.
     EndBatch,
+    /// Listeners are told what the batch changed so far (`IWorkspace.checkpoint`).
     Checkpoint,
 }
 
@@ -32,11 +37,21 @@ impl Model for Commands {
 }
 
 impl Commands {
-    /// These commands. It takes no memory.
-    pub fn new(items: Vec<Command>) -> Commands
-        ensures { result ≡ items.items }
+    /// No commands. It takes no memory.
+    pub fn new(alloc: Global) -> Commands
+        ensures { result ≡ [] }
     {
-        Commands { items }
+        Commands {
+            items: Vec::new(alloc),
+        }
+    }
+
+    /// One more command, after the others.
+    pub fn push(&mut self, command: Command) -> Result<(), NoMemory>
+        ensures { OnOk result (self.new ≡ self.old ++ command ∷ []) }
+    {
+        self.items.push(command)?;
+        Ok(())
     }
 
     /// The commands, in order.
@@ -47,41 +62,75 @@ impl Commands {
     }
 }
 
-/// A job: its name, its priority by the platform's numbers (10 interactive, 20 short, 30 long, 40 build,
-/// 50 decorate) and its commands. Its rule is the root's.
+/// How urgent a job is: the less its number, the sooner it is taken.
+#[derive(Clone, Copy, Debug, PartialEq, Eq)]
+pub enum Priority {
+    /// 10 (`Job.INTERACTIVE`).
+    Interactive,
+    /// 20 (`Job.SHORT`).
+    Short,
+    /// 30 (`Job.LONG`).
+    Long,
+    /// 40 (`Job.BUILD`).
+    Build,
+    /// 50 (`Job.DECORATE`).
+    Decorate,
+}
+
+impl Priority {
+    /// The priority's number: 10, 20, 30, 40 or 50.
+    pub fn number(self) -> u8
+        ensures { result ≡ priority_number self }
+    {
+        match self {
+            Priority::Interactive => 10,
+            Priority::Short => 20,
+            Priority::Long => 30,
+            Priority::Build => 40,
+            Priority::Decorate => 50,
+        }
+    }
+}
+
+/// A job: its name, its priority and its commands. Its rule is the root's.
 #[derive(Debug, Drop)]
 pub struct Job {
     pub name: Name,
-    pub priority: u8,
+    pub priority: Priority,
     pub commands: Commands,
 }
 
-/// The jobs of a phase, in the order in which they are scheduled. A contract sees the list.
+/// The jobs of a phase, in the order in which they are scheduled: one job. A contract sees the list.
 #[derive(Debug, Drop)]
 pub struct Jobs {
     items: Vec<Job>,
 }
 
 impl Model for Jobs {
-    ghost use Rattle.std.specs.Prelude.{List};
+    ghost use Rattle.std.specs.Prelude.{◌≡◌, List, length};
     ghost use Rattle.script_lang.specs.declared.script.Job.{Job};
 
     ghost Value = { List Job };
 
     ghost view = { λ j. j.items.items };
+
+    ghost invariant = { λ j. length j.items.items ≡ 1 };
 }
 
 impl Jobs {
-    /// These jobs. It takes no memory.
-    pub fn new(items: Vec<Job>) -> Jobs
-        ensures { result ≡ items.items }
+    /// This job alone.
+    pub fn one(alloc: Global, job: Job) -> Result<Jobs, NoMemory>
+        ensures { IfOk result (λ jobs. jobs ≡ job ∷ []) }
     {
-        Jobs { items }
+        let mut items = Vec::new(alloc);
+        items.push(job)?;
+        Ok(Jobs { items })
     }
 
     /// The jobs, in order.
     pub fn as_slice(&self) -> &[Job]
-        ensures { result.now ≡ self.now }
+        ensures jobs { result.now ≡ self.now }
+        ensures single { length self.now ≡ 1 }
     {
         self.items.as_slice()
     }
@@ -109,11 +158,21 @@ impl Model for Phases {
 }
 
 impl Phases {
-    /// These phases. It takes no memory.
-    pub fn new(items: Vec<Phase>) -> Phases
-        ensures { result ≡ items.items }
+    /// No phases. It takes no memory.
+    pub fn new(alloc: Global) -> Phases
+        ensures { result ≡ [] }
     {
-        Phases { items }
+        Phases {
+            items: Vec::new(alloc),
+        }
+    }
+
+    /// One more phase, after the others.
+    pub fn push(&mut self, phase: Phase) -> Result<(), NoMemory>
+        ensures { OnOk result (self.new ≡ self.old ++ phase ∷ []) }
+    {
+        self.items.push(phase)?;
+        Ok(())
     }
 
     /// The phases, in order.

@@ -1,44 +1,135 @@
 //! The words of a line.
-ghost use Rattle.std.specs.Prelude.{◌≡◌, ◌==◌, ◌+◌, ◌≤◌, ◌<◌, List, ℕ, true, false, [], ◌∷◌, ◌++◌, length, take, drop, Some, None, IfOk, IfSome, MatchOption};
+ghost use Rattle.std.specs.Prelude.{◌≡◌, ◌==◌, ◌+◌, ◌<◌, List, ℕ, true, false, [], ◌∷◌, ◌++◌, length, drop, Option, Some, None, IfOk, IfSome, MatchOption};
+ghost use Rattle.std.specs.Bool.{MatchBool};
 ghost use Rattle.std.specs.List.{slice_split, list_all, position};
-ghost use Rattle.script_lang.specs.Words.{Word, is_bare, is_bare_byte, is_space, SpellsLine};
+ghost use Rattle.script_lang.specs.declared.words.Token.{Token};
+ghost use Rattle.script_lang.specs.Words.{is_bare, is_bare_byte, SpellsLine};
+ghost use Rattle.script_lang.specs.Quoted.{quote_from};
+ghost use Rattle.script_lang.specs.Tokens.{starts_quoted, after_token, StartsWith, StartsWithNone};
 
 use crate::NoMemory;
+use crate::quoted::{denoted, quote_place};
 use bytes::Bytes;
 use std::alloc::Global;
 
-/// The words that a line spells, where it spells some; none for an empty line.
-pub fn words_of(alloc: Global, line: Bytes) -> Result<Option<Vec<Bytes>>, NoMemory>
-    ensures { IfOk result (λ found. MatchOption found ((words : List Word) → SpellsLine line words → ⊥)
-        (λ words. SpellsLine line words.items)) }
-{
-    if line.is_empty() {
-        return Ok(Some(Vec::new(alloc)));
-    }
-    bare_parts(alloc, line)
+/// A word as it stands in a line.
+#[derive(Debug, Drop)]
+pub struct Token {
+    /// Whether it stands bare.
+    pub bare: bool,
+    /// The bytes that it denotes.
+    pub word: Bytes,
 }
 
-/// What stands between the spaces of a line, where each part is bare.
-fn bare_parts(alloc: Global, line: Bytes) -> Result<Option<Vec<Bytes>>, NoMemory>
-    ensures { IfOk result (λ found. MatchOption found (list_all is_bare (slice_split is_space line) ≡ false)
-        (λ parts. (parts.items ≡ slice_split is_space line) × (list_all is_bare parts.items ≡ true))) }
+/// The tokens that a line spells, where it spells some. A bare word, and a quoted one without an escape, shares the
+/// line's bytes. Costs one pass over the line.
+pub fn words_of(alloc: Global, line: Bytes) -> Result<Option<Vec<Token>>, NoMemory>
+    ensures { IfOk result (λ found. MatchOption found ((tokens : List Token) → SpellsLine line tokens → ⊥)
+        (λ tokens. SpellsLine line tokens.items)) }
 {
-    let mut parts = Vec::new(alloc);
+    let mut tokens = Vec::new(alloc);
     let mut rest = line;
     loop {
-        let (part, more) = cut(rest, b' ')?;
-        if !is_bare(part.as_slice()) {
+        let Some((token, more)) = first_token(alloc, rest)? else {
             return Ok(None);
-        }
-        parts.push(part)?;
+        };
+        tokens.push(token)?;
         let Some(next) = more else {
-            return Ok(Some(parts));
+            return Ok(Some(tokens));
         };
         rest = next;
     }
 }
 
-fn is_bare(text: &[u8]) -> bool
+/// The token in front of a line, and what is left after the space that follows it.
+fn first_token(alloc: Global, line: Bytes) -> Result<Option<(Token, Option<Bytes>)>, NoMemory>
+    ensures { IfOk result (λ found. MatchOption found (StartsWithNone line) (λ first. StartsWith line first.0 first.1)) }
+{
+    if starts_quoted(line.as_slice()) {
+        quoted_token(alloc, line)
+    } else {
+        bare_token(line)
+    }
+}
+
+fn starts_quoted(line: &[u8]) -> bool
+    ensures { result ≡ starts_quoted line.now }
+{
+    match line {
+        [first, ..] => *first == b'"',
+        [] => false,
+    }
+}
+
+fn bare_token(line: Bytes) -> Result<Option<(Token, Option<Bytes>)>, NoMemory>
+    requires { starts_quoted line ≡ false }
+    ensures { IfOk result (λ found. MatchOption found (StartsWithNone line) (λ first. StartsWith line first.0 first.1)) }
+{
+    let (word, more) = cut(line, b' ')?;
+    if !is_bare(word.as_slice()) {
+        return Ok(None);
+    }
+    Ok(Some((Token { bare: true, word }, more)))
+}
+
+fn quoted_token(alloc: Global, line: Bytes) -> Result<Option<(Token, Option<Bytes>)>, NoMemory>
+    requires { starts_quoted line ≡ true }
+    ensures { IfOk result (λ found. MatchOption found (StartsWithNone line) (λ first. StartsWith line first.0 first.1)) }
+{
+    let Some((inner, rest)) = between_quotes(line)? else {
+        return Ok(None);
+    };
+    let Some(more) = after_token(rest) else {
+        return Ok(None);
+    };
+    match denoted(alloc, inner)? {
+        None => Ok(None),
+        Some(word) => Ok(Some((Token { bare: false, word }, more))),
+    }
+}
+
+/// What stands between the first quote and the one that closes it, and what follows that one.
+fn between_quotes(line: Bytes) -> Result<Option<(Bytes, Bytes)>, NoMemory>
+    requires { starts_quoted line ≡ true }
+    ensures { IfOk result (λ found. MatchOption found (quote_from false 0 (drop 1 line) ≡ None)
+        (λ parts. (quote_from false 0 (drop 1 line) ≡ Some (length parts.0)) × (line ≡ 34 ∷ (parts.0 ++ 34 ∷ parts.1)))) }
+{
+    let mut rest = line;
+    rest.advance(1);
+    let Some(at) = quote_place(rest.as_slice()) else {
+        return Ok(None);
+    };
+    let inner = rest.split_to(at)?;
+    rest.advance(1);
+    Ok(Some((inner, rest)))
+}
+
+/// What is left after the space that follows a token, where nothing or a space follows it.
+fn after_token(rest: Bytes) -> Option<Option<Bytes>>
+    ensures { MatchOption result ((more : Option (List ℕ)) → rest ≡ after_token more → ⊥) (λ more. rest ≡ after_token more) }
+{
+    let mut more = rest;
+    if more.is_empty() {
+        return Some(None);
+    }
+    if !starts_with_space(more.as_slice()) {
+        return None;
+    }
+    more.advance(1);
+    Some(Some(more))
+}
+
+fn starts_with_space(text: &[u8]) -> bool
+    ensures { MatchBool result (text.now ≡ 32 ∷ drop 1 text.now) ((more : List ℕ) → text.now ≡ 32 ∷ more → ⊥) }
+{
+    match text {
+        [first, ..] => *first == b' ',
+        [] => false,
+    }
+}
+
+/// Whether the text can stand as a bare word.
+pub fn is_bare(text: &[u8]) -> bool
     ensures { result ≡ is_bare text.now }
 {
     1 <= text.len() && has_bare_bytes(text)
@@ -67,7 +158,7 @@ pub fn cut(text: Bytes, mark: u8) -> Result<(Bytes, Option<Bytes>), NoMemory>
     }
 }
 
-fn place_of(text: &[u8], mark: u8) -> Option<usize>
+pub fn place_of(text: &[u8], mark: u8) -> Option<usize>
     ensures place { result ≡ position (λ b. b == mark) text.now }
     ensures bound { IfSome result (λ at. at < length text.now) }
 {

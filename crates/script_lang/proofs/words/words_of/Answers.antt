@@ -1,10 +1,21 @@
-use Rattle.std.proofs.Common.{◌≡◌, ◌==◌, ◌<◌, length, false, sym, arith}
-use Rattle.std.proofs.lemmas.Bool.Decides.{nat_tests}
-use Rattle.script_lang.proofs.Spelled.{found}
+use Rattle.std.proofs.Common.{None, Some, sym, ap, subst, ◌++◌, ◌∷◌, []}
+use Rattle.script_lang.specs.Words.{SpellsLine}
+use Rattle.script_lang.specs.Tokens.{StartsWith}
+use Rattle.script_lang.proofs.Tokens.{Ahead, ahead_more, ahead_last, ahead_bad}
 use Rattle.script_lang.proofs.words.words_of.Goals as goal
 
-pub returns : goal.returns
-returns c =
-    let test : (length c.args.line == 0) ≡ false = sym c.if-is_empty.ensures in
-    let some : 0 < length c.args.line = grind (arith, nat_tests) in
-    found (λ words. words.items) c.args.line some c.bare_parts.result c.bare_parts.ensures
+pub returns-in_default : goal.returns-in_default
+returns-in_default c =
+    ahead_bad c.args.line c.loop-tokens.rest c.loop-tokens.tokens.items c.loop-tokens.invariant (rw c.in_default.is at c.in_ok-token.ensures)
+
+pub returns-in_default-more : goal.returns-in_default-more
+returns-in_default-more c =
+    let first = rw c.in-Some.is at c.in_ok-token.ensures in
+    subst (SpellsLine c.args.line) (sym c.in_ok-push.ensures.items)
+    (ahead_last c.args.line c.loop-tokens.rest c.loop-tokens.tokens.items c.in-Some.token c.loop-tokens.invariant (rw c.in_default-more.is at first))
+
+pub loop-tokens-preserved : goal.loop-tokens-preserved
+loop-tokens-preserved c =
+    let first = rw c.in-Some.is at c.in_ok-token.ensures in
+    subst (Ahead c.args.line c.in-Some-more.next) (sym c.in_ok-push.ensures.items)
+    (ahead_more c.args.line c.loop-tokens.rest c.in-Some-more.next c.loop-tokens.tokens.items c.in-Some.token c.loop-tokens.invariant (rw c.in-Some-more.is at first))

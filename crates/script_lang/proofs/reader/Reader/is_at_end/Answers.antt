@@ -1,8 +1,0 @@
-use Rattle.std.proofs.Common.{sym, ◌∙◌}
-use Rattle.script_lang.proofs.Lined.{at_end}
-use Rattle.script_lang.proofs.reader.Reader.is_at_end.Goals as goal
-
-pub returns : goal.returns
-returns c =
-    let end = at_end c.args.self.now.rest in
-    ((λ h. end.0 (sym c.is_empty.ensures ∙ h)), λ h. c.is_empty.ensures ∙ end.1 h)

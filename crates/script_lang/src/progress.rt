@@ -1,0 +1,137 @@
+//! How far a script is read.
+ghost use Rattle.std.specs.Prelude.{◌≡◌, IfOk, IsTrue, ◌↔◌, [], Some, None};
+ghost use Rattle.script_lang.specs.declared.progress.Place.TheVariants.{Outside, BeforeJob, WithinJob, AfterJob};
+ghost use Rattle.script_lang.specs.Reading.{goes};
+
+use crate::NoMemory;
+use crate::line::Line;
+use crate::script::{Commands, Job, Jobs, Phase, Phases};
+use std::alloc::Global;
+
+/// What may follow the lines read.
+#[derive(Drop)]
+pub enum Place {
+    /// A phase, or the end.
+    Outside,
+    /// The job of a phase.
+    BeforeJob,
+    /// A command of this job, or its end.
+    WithinJob(Job),
+    /// The end of the phase of this job.
+    AfterJob(Job),
+}
+
+/// How far a script is read.
+#[derive(Drop)]
+pub struct Progress {
+    /// The phases read to their ends.
+    pub phases: Phases,
+    /// What may follow.
+    pub place: Place,
+}
+
+impl Progress {
+    /// Nothing is read. It takes no memory.
+    pub fn new(alloc: Global) -> Progress
+        ensures phases { result.phases ≡ [] }
+        ensures place { result.place ≡ Outside }
+    {
+        Progress {
+            phases: Phases::new(alloc),
+            place: Place::Outside,
+        }
+    }
+
+    /// Whether no phase is open.
+    pub fn is_outside(&self) -> bool
+        ensures { IsTrue result ↔ (self.now.place ≡ Outside) }
+    {
+        match &self.place {
+            Place::Outside => true,
+            _ => false,
+        }
+    }
+
+    /// After one more line, if the line may stand here.
+    pub fn advanced(self, alloc: Global, line: Line) -> Result<Option<Progress>, NoMemory>
+        ensures { IfOk result (λ next. next ≡ goes self line) }
+    {
+        let Progress { phases, place } = self;
+        match place {
+            Place::Outside => Ok(after_phases(phases, line)),
+            Place::BeforeJob => Ok(after_phase(alloc, phases, line)),
+            Place::WithinJob(job) => after_command(phases, job, line),
+            Place::AfterJob(job) => after_job(alloc, phases, job, line),
+        }
+    }
+}
+
+fn after_phases(phases: Phases, line: Line) -> Option<Progress>
+    ensures { result ≡ goes (record { phases = phases; place = Outside }) line }
+{
+    match line {
+        Line::BeginPhase => Some(Progress {
+            phases,
+            place: Place::BeforeJob,
+        }),
+        _ => None,
+    }
+}
+
+fn after_phase(alloc: Global, phases: Phases, line: Line) -> Option<Progress>
+    ensures { result ≡ goes (record { phases = phases; place = BeforeJob }) line }
+{
+    match line {
+        Line::BeginJob(name, priority) => Some(Progress {
+            phases,
+            place: Place::WithinJob(Job {
+                name,
+                priority,
+                commands: Commands::new(alloc),
+            }),
+        }),
+        _ => None,
+    }
+}
+
+fn after_command(phases: Phases, job: Job, line: Line) -> Result<Option<Progress>, NoMemory>
+    ensures { IfOk result (λ next. next ≡ goes (record { phases = phases; place = WithinJob job }) line) }
+{
+    let mut job = job;
+    match line {
+        Line::InJob(command) => {
+            job.commands.push(command)?;
+            Ok(Some(Progress {
+                phases,
+                place: Place::WithinJob(job),
+            }))
+        }
+        Line::EndJob => Ok(Some(Progress {
+            phases,
+            place: Place::AfterJob(job),
+        })),
+        _ => Ok(None),
+    }
+}
+
+fn after_job(
+    alloc: Global,
+    phases: Phases,
+    job: Job,
+    line: Line,
+) -> Result<Option<Progress>, NoMemory>
+    ensures { IfOk result (λ next. next ≡ goes (record { phases = phases; place = AfterJob job }) line) }
+{
+    let mut phases = phases;
+    match line {
+        Line::EndPhase => {
+            let jobs = Jobs::one(alloc, job)?;
+            phases.push(Phase { jobs })?;
+            Ok(Some(Progress {
+                phases,
+                place: Place::Outside,
+            }))
+        }
+        _ => Ok(None),
+    }
+}

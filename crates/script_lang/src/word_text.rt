@@ -1,0 +1,95 @@
+//! How words are printed.
+ghost use Rattle.std.specs.Prelude.{◌≡◌, ◌<◌, ◌≤◌, ◌++◌, length, OnOk};
+ghost use Rattle.std.specs.List.{flat_map};
+ghost use Rattle.std.specs.Char.{digit_char};
+ghost use Rattle.std.specs.Str.Lossy.{utf8_valid_len};
+ghost use Rattle.script_lang.specs.Words.{hex_text, byte_text, quoted_text, word_text};
+
+use crate::NoMemory;
+use crate::words::is_bare;
+use std::str::from_utf8;
+
+/// Appends a word as a script's text has it: bare where it can be, and else quoted. After want of memory a part of it
+/// may have been appended. Costs one pass over the word.
+pub fn put_word(out: &mut Vec<u8>, word: &[u8]) -> Result<(), NoMemory>
+    ensures { OnOk result (out.new.items ≡ out.old.items ++ word_text word.now) }
+{
+    if is_bare(word) {
+        put(out, word)
+    } else {
+        put(out, b"\"")?;
+        put_quoted(out, word)?;
+        put(out, b"\"")
+    }
+}
+
+fn put(out: &mut Vec<u8>, text: &[u8]) -> Result<(), NoMemory>
+    ensures { OnOk result (out.new.items ≡ out.old.items ++ text.now) }
+{
+    out.extend_from_slice(text)?;
+    Ok(())
+}
+
+/// Appends what stands between the quotes.
+fn put_quoted(out: &mut Vec<u8>, word: &[u8]) -> Result<(), NoMemory>
+    ensures { OnOk result (out.new.items ≡ out.old.items ++ quoted_text word.now) }
+{
+    let mut rest = word;
+    loop {
+        let (valid, after) = rest.split_at(valid_len(rest));
+        put_valid(out, valid)?;
+        let Some((invalid, more)) = after.split_first() else {
+            return Ok(());
+        };
+        put_hex(out, *invalid)?;
+        rest = more;
+    }
+}
+
+/// How long the longest front is that is UTF-8.
+fn valid_len(text: &[u8]) -> usize
+    ensures value { result ≡ utf8_valid_len text.now }
+    ensures bound { result ≤ length text.now }
+{
+    match from_utf8(text) {
+        Ok(_) => text.len(),
+        Err(e) => e.valid_up_to(),
+    }
+}
+
+/// Appends bytes of UTF-8.
+fn put_valid(out: &mut Vec<u8>, text: &[u8]) -> Result<(), NoMemory>
+    ensures { OnOk result (out.new.items ≡ out.old.items ++ flat_map byte_text text.now) }
+{
+    for b in text {
+        put_byte(out, *b)?;
+    }
+    Ok(())
+}
+
+fn put_byte(out: &mut Vec<u8>, b: u8) -> Result<(), NoMemory>
+    ensures { OnOk result (out.new.items ≡ out.old.items ++ byte_text b) }
+{
+    match b {
+        b'"' | b'\\' => put(out, &[b'\\', b]),
+        b'\n' => put(out, b"\\n"),
+        b'\t' => put(out, b"\\t"),
+        b'\r' => put(out, b"\\r"),
+        0..32 | 127 => put_hex(out, b),
+        _ => put(out, &[b]),
+    }
+}
+
+/// Appends a byte by its two digits.
+fn put_hex(out: &mut Vec<u8>, b: u8) -> Result<(), NoMemory>
+    ensures { OnOk result (out.new.items ≡ out.old.items ++ hex_text b) }
+{
+    put(out, &[b'\\', b'x', hex_digit(b / 16), hex_digit(b % 16)])
+}
+
+fn hex_digit(d: u8) -> u8
+    requires { d < 16 }
+    ensures { result ≡ digit_char d }
+{
+    if d < 10 { 48 + d } else { 87 + d }
+}
