@@ -137,10 +137,20 @@ pub new_none : (last : Option Names) → new_above last [] ≡ []
 new_none last = refl
 
 -- where the parent is above the last path, so is all above it
-pub new_known : (last : Option Names) (p q : Names) → parent_of p ≡ Some q → is_above q last ≡ true → new_above last p ≡ []
+new_known : (last : Option Names) (p q : Names) → parent_of p ≡ Some q → is_above q last ≡ true → new_above last p ≡ []
 new_known last p q h g =
     ap (filter (λ r. not (is_above r last))) (above_parent p q h) ∙ filter_push (λ r. not (is_above r last)) (above q) q
     ∙ (λ i. none_kept (λ r. not (is_above r last)) (above q) (all_known last q (above q) g (above_prefix q)) i ++ cond (not (g i)) (q ∷ []) [])
+
+-- the same of the root's parent too, which stands for the root
+pub new_below : (last : Option Names) (p : Names) → is_above (parent p) last ≡ true → new_above last p ≡ []
+new_below last [] g = refl
+new_below last (n ∷ p) g = new_known last (n ∷ p) (parent (n ∷ p)) refl g
+
+-- a parent is the path without its last name
+pub parent_is : (p q : Names) → parent_of p ≡ Some q → parent p ≡ q
+parent_is [] q h = cc
+parent_is (n ∷ p) q h = cc
 
 pub new_more : (last : Option Names) (p q : Names) → parent_of p ≡ Some q → is_above q last ≡ false → new_above last p ≡ new_above last q ++ q ∷ []
 new_more last p q h g =

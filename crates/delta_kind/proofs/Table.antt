@@ -12,7 +12,7 @@ use Rattle.res_path.specs.Paths.{Names}
 use Rattle.delta_kind.specs.declared.row.Row.{Row}
 use Rattle.delta_kind.specs.declared.row.Turn.{Turn}
 use Rattle.delta_kind.specs.Moves.{is_number}
-use Rattle.delta_kind.specs.Rows.{Rows, Sides, shown, turned, place_in, has_gain, node_by, new_above, untouched, nodes_from}
+use Rattle.delta_kind.specs.Rows.{Rows, Sides, shown, turned, place_in, has_turn, node_by, new_above, untouched, nodes_from}
 use Rattle.delta_kind.specs.Deltas.{node_of}
 use Rattle.delta_kind.specs.declared.node.DeltaNode.{DeltaNode}
 use Rattle.delta_kind.specs.declared.row.Turn.TheVariants.{Lost, Gained}
@@ -158,33 +158,52 @@ tables_serve l g rows h k = all_rows (HasPlace Lost rows) _ rows each (places_th
     each : (row : Names × Sides) → HasPlace Lost rows row → node_by (get l) (get g) row.0 row.1 ≡ node_by (place_in Lost rows) (place_in Gained rows) row.0 row.1
     each row f = λ i. node_of row.0 row.1.0 row.1.1 (option_and_then (λ n. h n i) (turned Gained row.1)) (gained row f (turned Lost row.1) refl i)
 
-none_gained : (rows : Rows) → has_gain rows ≡ false → (n : ℕ) → place_in Gained rows n ≡ None
-none_gained [] h n = refl
-none_gained (row ∷ rows) h n = by (turned Gained row.1) h (none_gained rows)
+-- no path of the rows turns a node this way
+none_turned : (turn : Turn) (rows : Rows) → has_turn turn rows ≡ false → (n : ℕ) → place_in turn rows n ≡ None
+none_turned turn [] h n = refl
+none_turned turn (row ∷ rows) h n = by (turned turn row.1) h (none_turned turn rows)
   where
-    by : (x : Option ℕ) → (is_some x || has_gain rows) ≡ false → (has_gain rows ≡ false → (m : ℕ) → place_in Gained rows m ≡ None) → cond (is_number n x) (Some row.0) (place_in Gained rows n) ≡ None
+    by : (x : Option ℕ) → (is_some x || has_turn turn rows) ≡ false → (has_turn turn rows ≡ false → (m : ℕ) → place_in turn rows m ≡ None) → cond (is_number n x) (Some row.0) (place_in turn rows n) ≡ None
     by None i more = more i n
     by (Some m) i more = cc
 
-all_none : (rows : Rows) → has_gain rows ≡ false → AllByRecursion (λ row. turned Gained row.1 ≡ None) rows
-all_none [] h = tt
-all_none (row ∷ rows) h = by (turned Gained row.1) h (all_none rows)
+all_none : (turn : Turn) (rows : Rows) → has_turn turn rows ≡ false → AllByRecursion (λ row. turned turn row.1 ≡ None) rows
+all_none turn [] h = tt
+all_none turn (row ∷ rows) h = by (turned turn row.1) h (all_none turn rows)
   where
-    by : (x : Option ℕ) → (is_some x || has_gain rows) ≡ false → (has_gain rows ≡ false → AllByRecursion (λ row. turned Gained row.1 ≡ None) rows) → (x ≡ None) × AllByRecursion (λ row. turned Gained row.1 ≡ None) rows
+    by : (x : Option ℕ) → (is_some x || has_turn turn rows) ≡ false → (has_turn turn rows ≡ false → AllByRecursion (λ row. turned turn row.1 ≡ None) rows) → (x ≡ None) × AllByRecursion (λ row. turned turn row.1 ≡ None) rows
     by None i more = (refl, more i)
     by (Some m) i more = cc
 
-pub nothing_serves : (rows : Rows) → has_gain rows ≡ false → Serves (get (empty {R = nat_cmp})) (get (empty {R = nat_cmp})) rows
-nothing_serves rows h = all_rows (λ row. turned Gained row.1 ≡ None) _ rows each (all_none rows h)
-  where
-    from : (f g : ℕ → Option Names) (x : Option ℕ) → x ≡ None → option_and_then f x ≡ option_and_then g x
-    from f g None i = refl
-    from f g (Some n) i = cc
+abbrev nowhere : ℕ → Option Names
+nowhere = get (empty {R = nat_cmp})
 
-    each : (row : Names × Sides) → turned Gained row.1 ≡ None
-        → node_by (get (empty {R = nat_cmp})) (get (empty {R = nat_cmp})) row.0 row.1 ≡ node_by (place_in Lost rows) (place_in Gained rows) row.0 row.1
-    each row none = λ i. node_of row.0 row.1.0 row.1.1 (from (get (empty {R = nat_cmp})) (place_in Lost rows) (turned Gained row.1) none i)
-        (option_and_then (λ n. (get-empty nat_cmp n ∙ sym (none_gained rows h n)) i) (turned Lost row.1))
+-- places of no node, and so none
+of_none : (f g : ℕ → Option Names) (x : Option ℕ) → x ≡ None → option_and_then f x ≡ option_and_then g x
+of_none f g None i = refl
+of_none f g (Some n) i = cc
+
+-- places that the rows haven't, and so none
+not_there : (turn : Turn) (rows : Rows) → has_turn turn rows ≡ false → (x : Option ℕ) → option_and_then nowhere x ≡ option_and_then (place_in turn rows) x
+not_there turn rows h x = λ i. option_and_then (λ n. (get-empty nat_cmp n ∙ sym (none_turned turn rows h n)) i) x
+
+pub nothing_gained : (rows : Rows) → has_turn Gained rows ≡ false → Serves nowhere nowhere rows
+nothing_gained rows h = all_rows (λ row. turned Gained row.1 ≡ None) _ rows each (all_none Gained rows h)
+  where
+    each : (row : Names × Sides) → turned Gained row.1 ≡ None → node_by nowhere nowhere row.0 row.1 ≡ node_by (place_in Lost rows) (place_in Gained rows) row.0 row.1
+    each row none = λ i. node_of row.0 row.1.0 row.1.1 (of_none nowhere (place_in Lost rows) (turned Gained row.1) none i) (not_there Gained rows h (turned Lost row.1) i)
+
+pub nothing_lost : (rows : Rows) → has_turn Lost rows ≡ false → Serves nowhere nowhere rows
+nothing_lost rows h = all_rows (λ row. turned Lost row.1 ≡ None) _ rows each (all_none Lost rows h)
+  where
+    each : (row : Names × Sides) → turned Lost row.1 ≡ None → node_by nowhere nowhere row.0 row.1 ≡ node_by (place_in Lost rows) (place_in Gained rows) row.0 row.1
+    each row none = λ i. node_of row.0 row.1.0 row.1.1 (not_there Lost rows h (turned Gained row.1) i) (of_none nowhere (place_in Gained rows) (turned Lost row.1) none i)
+
+-- tables without paths serve as such
+pub nothing_kept : (l g : FinMap nat_cmp Names) (rows : Rows) → l ≡ empty → g ≡ empty → Serves nowhere nowhere rows → Serves (get l) (get g) rows
+nothing_kept l g rows el eg h =
+    subst (λ (l : FinMap nat_cmp Names). Serves (get l) (get g) rows) (sym el)
+    (subst (λ (g : FinMap nat_cmp Names). Serves nowhere (get g) rows) (sym eg) h)
 
 -- the pass tells the same by either
 pub pass_same : (f g : Names → Sides → DeltaNode) (last : Option Names) (rows : Rows) → AllByRecursion (λ row. f row.0 row.1 ≡ g row.0 row.1) rows → nodes_from f last rows ≡ nodes_from g last rows

@@ -40,9 +40,9 @@ turned Gained s = lost s.1 s.0
 abbrev pub place_in : Turn → Rows → ℕ → Option Names
 place_in turn rows n = first_path (λ row. is_number n (turned turn row.1)) rows
 
--- some row gains a node
-abbrev pub has_gain : Rows → Bool
-has_gain = list_any (λ row. is_some (turned Gained row.1))
+-- some row loses a node, or gains one
+abbrev pub has_turn : Turn → Rows → Bool
+has_turn turn = list_any (λ row. is_some (turned turn row.1))
 
 -- what became of the path p, by who lost and who gained each node
 abbrev pub node_by : (ℕ → Option Names) → (ℕ → Option Names) → Names → Sides → DeltaNode

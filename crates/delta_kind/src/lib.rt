@@ -1,6 +1,7 @@
 //! What changed from one tree to another, path by path, as the platform's resource deltas tell it.
 //!
 //! - `flags`: the platform's kinds and flags of a change, and when each holds.
+//! - `place`: a `Place`, where a node was or where it is.
 //! - `node`: a `DeltaNode`, what became of one path.
 //! - `delta`: a `Delta`, the nodes in path order.
 //! - `row`: a `Row`, a path with its entries before and after.
@@ -13,6 +14,7 @@ mod delta;
 mod flags;
 mod making;
 mod node;
+mod place;
 mod places;
 mod row;
 #[cfg(test)]
@@ -26,4 +28,5 @@ pub use flags::{
 };
 pub use making::{compare, delta_of_rows};
 pub use node::DeltaNode;
+pub use place::Place;
 pub use row::{Row, Turn};

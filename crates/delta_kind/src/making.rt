@@ -2,7 +2,7 @@
 ghost use Rattle.std.specs.Prelude.{◌≡◌, ◌↔◌, ℕ, false, if◌then◌else◌, Option, Some, None, [], ◌++◌, map, IfOk, OnOk};
 ghost use Rattle.std.specs.FinMap.{get, find};
 ghost use Rattle.std.specs.Option.{option_copied};
-ghost use Rattle.res_path.specs.Paths.{Names, path_cmp, path_eq, is_prefix};
+ghost use Rattle.res_path.specs.Paths.{Names, path_cmp, path_eq, is_prefix, parent};
 ghost use Rattle.std.specs.List.{list_any};
 ghost use Rattle.ws_elem.specs.Trees.{Whole};
 ghost use Rattle.delta_kind.specs.Flags.{differs};
@@ -11,7 +11,7 @@ ghost use Rattle.delta_kind.specs.Rows.{shown, row_paths, node_by, delta_of_rows
 
 use crate::places::Moves;
 use crate::walk::Walk;
-use crate::{CHANGED, Delta, DeltaNode, Row, Turn, flags};
+use crate::{CHANGED, Delta, DeltaNode, Place, Row, Turn, flags};
 use res_path::Path;
 use std::alloc::Global;
 use ws_elem::{ElemMap, NoMemory};
@@ -72,21 +72,21 @@ fn nodes_of(alloc: Global, rows: &[Row<'_>], moves: &Moves) -> Result<Vec<DeltaN
     let mut last = None;
     for row in rows {
         tell_above(&mut nodes, row.path, last)?;
-        nodes.push(node_of(row, moves)?)?;
+        nodes.push(node_of(alloc, row, moves)?)?;
         last = Some(row.path);
     }
     Ok(nodes)
 }
 
 /// What became of the row's path.
-fn node_of(row: &Row<'_>, moves: &Moves) -> Result<DeltaNode, NoMemory>
+fn node_of(alloc: Global, row: &Row<'_>, moves: &Moves) -> Result<DeltaNode, NoMemory>
     ensures { IfOk result (λ node. node ≡ node_by (get moves.now.losers) (get moves.now.gainers) (shown row.now).0 (shown row.now).1) }
 {
     let path = row.path.copy()?;
-    let moved_from = moves.losers.path_of(row.turned(Turn::Gained))?;
-    let moved_to = moves.gainers.path_of(row.turned(Turn::Lost))?;
+    let moved_from = moves.losers.place_of(alloc, row.turned(Turn::Gained))?;
+    let moved_to = moves.gainers.place_of(alloc, row.turned(Turn::Lost))?;
     let flags = flags::flags_of(row.before, row.after)
-        + flags::moved_flags(moved_from.as_ref(), moved_to.as_ref());
+        + flags::moved_flags(moved_from.path(), moved_to.path());
     Ok(DeltaNode {
         path,
         kind: flags::kind_of(row.before, row.after),
@@ -100,29 +100,36 @@ fn node_of(row: &Row<'_>, moves: &Moves) -> Result<DeltaNode, NoMemory>
 fn tell_above(nodes: &mut Vec<DeltaNode>, path: &Path, last: Option<&Path>) -> Result<(), NoMemory>
     ensures { OnOk result (nodes.new.items ≡ nodes.old.items ++ map untouched (new_above (option_copied last.entry) path.now)) }
 {
+    if is_below_parent(path, last) {
+        return Ok(());
+    }
     let Some(parent) = path.parent()? else {
         return Ok(());
     };
-    if is_above(&parent, last) {
-        return Ok(());
-    }
     tell_above(nodes, &parent, last)?;
-    nodes.push(DeltaNode {
-        path: parent,
-        kind: CHANGED,
-        flags: 0,
-        moved_from: None,
-        moved_to: None,
-    })?;
+    nodes.push(untouched(parent))?;
     Ok(())
 }
 
-/// Whether the other path, if there is one, is at or below this one.
-fn is_above(path: &Path, other: Option<&Path>) -> bool
-    ensures { result ≡ is_above path.now (option_copied other.entry) }
+/// The node of a path that only something below it changed.
+fn untouched(path: Path) -> DeltaNode
+    ensures { result ≡ untouched path }
+{
+    DeltaNode {
+        path,
+        kind: CHANGED,
+        flags: 0,
+        moved_from: Place::none(),
+        moved_to: Place::none(),
+    }
+}
+
+/// Whether the other path, if there is one, is at this one's parent or below it.
+fn is_below_parent(path: &Path, other: Option<&Path>) -> bool
+    ensures { result ≡ is_above (parent path.now) (option_copied other.entry) }
 {
     match other {
-        Some(other) => path.is_prefix_of(other),
+        Some(other) => path.parent_is_prefix_of(other),
         None => false,
     }
 }

@@ -1,4 +1,5 @@
 //! What became of one path.
+use crate::Place;
 use res_path::Path;
 
 /// What became of one path.
@@ -10,7 +11,7 @@ pub struct DeltaNode {
     /// The sum of the flags that hold; 0 where only something below the path changed.
     pub flags: u32,
     /// Where what is at the path was; with `MOVED_FROM`.
-    pub moved_from: Option<Path>,
+    pub moved_from: Place,
     /// Where what was at the path is; with `MOVED_TO`.
-    pub moved_to: Option<Path>,
+    pub moved_to: Place,
 }

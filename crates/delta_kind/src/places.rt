@@ -3,11 +3,11 @@ ghost use Rattle.std.specs.Prelude.{◌≡◌, ℕ, Some, IfOk, OnOk, map, is_so
 ghost use Rattle.std.specs.Option.{option_copied, option_and_then};
 ghost use Rattle.std.specs.FinMap as map;
 ghost use Rattle.res_path.specs.Paths.{Names};
-ghost use Rattle.delta_kind.specs.Rows.{shown, place_in, turned, has_gain};
+ghost use Rattle.delta_kind.specs.Rows.{shown, place_in, turned, has_turn};
 ghost use Rattle.delta_kind.specs.Tables.{kept_place, kept_node, known, Serves};
 ghost use Rattle.delta_kind.specs.declared.row.Turn.TheVariants.{Lost, Gained};
 
-use crate::{Row, Turn};
+use crate::{Place, Row, Turn};
 use res_path::Path;
 use std::alloc::Global;
 use std::collections::BTreeMap;
@@ -23,11 +23,14 @@ pub struct Moves {
 
 impl Moves {
     /// The moves of some rows. Only nodes that a row loses, and some row gains, take memory for their gainer; where no
-    /// row gains a node nothing does.
+    /// row loses a node, or none gains one, nothing does.
     pub fn of_rows(alloc: Global, rows: &[Row<'_>]) -> Result<Moves, NoMemory>
         ensures { IfOk result (λ moves. Serves (map.get moves.losers) (map.get moves.gainers) (map shown rows.now)) }
     {
-        if !has_gain(rows) {
+        if !has_turn(rows, Turn::Lost) {
+            return Ok(Moves::none(alloc));
+        }
+        if !has_turn(rows, Turn::Gained) {
             return Ok(Moves::none(alloc));
         }
         let losers = Places::of_losers(alloc, rows)?;
@@ -46,12 +49,12 @@ impl Moves {
     }
 }
 
-/// Whether some row gains a node.
-fn has_gain(rows: &[Row<'_>]) -> bool
-    ensures { result ≡ has_gain (map shown rows.now) }
+/// Whether some row loses a node, or gains one.
+fn has_turn(rows: &[Row<'_>], turn: Turn) -> bool
+    ensures { result ≡ has_turn turn (map shown rows.now) }
 {
     for row in rows {
-        if row.turned(Turn::Gained).is_some() {
+        if row.turned(turn).is_some() {
             return true;
         }
     }
@@ -164,21 +167,21 @@ impl Places {
     }
 
     /// A copy of the node's path, where there is a node and it has one.
-    pub fn path_of(&self, node: Option<u64>) -> Result<Option<Path>, NoMemory>
-        ensures { IfOk result (λ path. path ≡ option_and_then (map.get self.now) node) }
+    pub fn place_of(&self, alloc: Global, node: Option<u64>) -> Result<Place, NoMemory>
+        ensures { IfOk result (λ place. place ≡ option_and_then (map.get self.now) node) }
     {
         match node {
-            Some(node) => copy_of(self.get(node)),
-            None => Ok(None),
+            Some(node) => place_at(alloc, self.get(node)),
+            None => Ok(Place::none()),
         }
     }
 }
 
-fn copy_of(path: Option<&Path>) -> Result<Option<Path>, NoMemory>
-    ensures { IfOk result (λ copy. copy ≡ option_copied path.entry) }
+fn place_at(alloc: Global, path: Option<&Path>) -> Result<Place, NoMemory>
+    ensures { IfOk result (λ place. place ≡ option_copied path.entry) }
 {
     match path {
-        Some(path) => Ok(Some(path.copy()?)),
-        None => Ok(None),
+        Some(path) => Place::of(alloc, Some(path.copy()?)),
+        None => Ok(Place::none()),
     }
 }

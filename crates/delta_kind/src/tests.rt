@@ -1,4 +1,4 @@
-use crate::{CHANGED, Delta, DeltaNode, compare};
+use crate::{CHANGED, Delta, DeltaNode, Place, compare};
 use res_path::Path;
 use std::alloc::Global;
 use std::process::Abort;
@@ -80,8 +80,8 @@ fn told(alloc: Global, nodes: &[DeltaNode]) -> Result<String, Fail> {
         let flags = node.flags;
         let line = format!(in alloc; "{path} {kind} {flags:x}")?;
         text.push_str(line.as_str())?;
-        tell_place(&mut text, " from ", node.moved_from.as_ref())?;
-        tell_place(&mut text, " to ", node.moved_to.as_ref())?;
+        tell_place(&mut text, " from ", node.moved_from.path())?;
+        tell_place(&mut text, " to ", node.moved_to.path())?;
         text.push_str(", ")?;
     }
     Ok(text)
@@ -345,5 +345,21 @@ fn a_delta_is_made_of_nodes_and_gives_them_back(rt: HostRuntime) -> Result<(), F
     assert!(rt; changed);
     let again = Delta::of(copy.into_nodes());
     assert!(rt; again.nodes() == delta.nodes());
+    Ok(())
+}
+
+#[test]
+fn a_place_is_a_path_or_none(rt: HostRuntime) -> Result<(), Fail> {
+    let alloc = rt.alloc();
+    let none = Place::of(alloc, None)?;
+    let place = Place::of(alloc, Some(path(alloc, "/P/a")?))?;
+    let other = Place::of(alloc, Some(path(alloc, "/P/b")?))?;
+    assert!(rt; none.path().is_none());
+    assert!(rt; place.path() == Some(&path(alloc, "/P/a")?));
+    assert!(rt; none == Place::none());
+    assert!(rt; none.copy()? == none);
+    assert!(rt; place.copy()? == place);
+    assert!(rt; place != other);
+    assert!(rt; place != none);
     Ok(())
 }

@@ -220,3 +220,15 @@ pub rebased_kept : (to self : Names) (n : ℕ) → IsPath to → IsPath self →
 rebased_kept to self n h g d s =
     built (to ++ drop n self) (names_append to (drop n self) h.names (all_drop n self g.names)) (simp (length-append, length-drop) (omega arith))
     (subst (λ (bytes : List ℕ). length bytes ≤ 4096) (sym (slashed-append to (drop n self))) (simp length-append (omega arith)))
+
+-- the same of a path's names: what is kept before the last slash is the parent's
+pub parent_kept : (p : Names) (bytes front : List ℕ) (at : ℕ) → IsPath p → bytes ≡ slashed p → at < length bytes → get_or bytes at 0 ≡ 47
+    → has_no_slash (drop (at + 1) bytes) ≡ true → front ≡ take at bytes → (front ≡ slashed (parent p)) × AllByRecursion IsName (parent p)
+parent_kept p bytes front at h b l e f g =
+    let kept = subst (λ ps. IsPath ps × (slashed ps ≡ slashed p)) (sym (parts_of-slashed p h.names)) (h, refl) in
+    let whole = parent_taken p (slashed p) bytes front at (record { path = kept.0; spelled = kept.1 }) (parts_of-slashed p h.names) b l e f (g ∙ ap (λ n. take n bytes) (sym (sub-zero at))) in
+    (sym whole.0.spelled ∙ ap slashed (named p (parts_of front) whole.1), subst (AllByRecursion IsName) (named p (parts_of front) whole.1) whole.0.path.names)
+  where
+    named : (p q : Names) → parent_of p ≡ Some q → q ≡ parent p
+    named [] q h = cc
+    named (name ∷ p) q h = cc

@@ -1,7 +1,9 @@
 //! Where a resource is: a list of names.
 ghost use Rattle.std.specs.Prelude.{◌≡◌, ◌≢◌, ◌↔◌, ◌⊎◌, ◌<◌, ◌≤◌, ◌-◌, ℕ, [], ◌∷◌, ◌++◌, length, drop, true, map, Some, Ok, Err, IfOk, IfErr, IfSome, MatchResult, string_bytes};
+ghost use Rattle.std.specs.List.{AllByRecursion};
 ghost use Rattle.std.specs.Option.{option_map};
-ghost use Rattle.res_path.specs.Paths.{Names, IsPath, slashed, path_text, is_prefix, parent_of, last_name};
+ghost use Rattle.res_path.specs.Names.{IsName};
+ghost use Rattle.res_path.specs.Paths.{Names, IsPath, slashed, path_text, is_prefix, parent, parent_of, last_name};
 ghost use Rattle.res_path.specs.Parts.{path_fault, parts_of, IsKept};
 
 use crate::{Name, NoMemory, PathError, order, parts};
@@ -160,6 +162,13 @@ impl Path {
         order::is_prefix(self.kept(), other.kept())
     }
 
+    /// Whether the other path is at this path's parent, or below it; the root's stands for the root. No path is made.
+    pub fn parent_is_prefix_of(&self, other: &Path) -> bool
+        ensures { result ≡ is_prefix (parent self.now) other.now }
+    {
+        order::is_prefix(self.kept_of_parent(), other.kept())
+    }
+
     /// The path's text: a slash before each name, a slash alone for the root.
     pub fn as_str(&self) -> &str
         ensures text { result.now ≡ path_text self.now }
@@ -179,6 +188,18 @@ impl Path {
         ensures short { length result.now ≤ 4096 }
     {
         self.text.as_bytes().as_slice()
+    }
+
+    /// The bytes of all names but the last.
+    fn kept_of_parent(&self) -> &[u8]
+        ensures bytes { result.now ≡ slashed (parent self.now) }
+        ensures form { AllByRecursion IsName (parent self.now) }
+    {
+        let kept = self.kept();
+        match parts::last_slash(kept) {
+            None => kept,
+            Some(at) => kept.split_at(at).0,
+        }
     }
 
     /// The bytes of the names after those of `from`.

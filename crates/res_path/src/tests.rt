@@ -190,3 +190,23 @@ fn a_prefix_ends_where_a_name_ends(rt: HostRuntime) {
         assert!(rt; one.is_prefix_of(&two) == is_prefix);
     }
 }
+
+#[test]
+fn what_is_at_the_parent_or_below_it(rt: HostRuntime) {
+    let alloc = rt.alloc();
+    let cases = [
+        ("/", "/", true),
+        ("/P", "/", true),
+        ("/P", "/Q/a", true),
+        ("/P/a", "/P", true),
+        ("/P/a", "/P/b/c", true),
+        ("/P/a", "/PQ/b", false),
+        ("/P/a", "/", false),
+        ("/P/a/b", "/P/b", false),
+    ];
+    for (a, b, is_below) in cases {
+        let one = path_of(&rt, alloc, a);
+        let two = path_of(&rt, alloc, b);
+        assert!(rt; one.parent_is_prefix_of(&two) == is_below);
+    }
+}

@@ -5,6 +5,7 @@ use Rattle.script_lang.specs.declared.script.Command.{Command}
 use Rattle.script_lang.specs.declared.script.Command.TheVariants as commands
 use Rattle.script_lang.specs.declared.script.Job.{Job}
 use Rattle.script_lang.specs.declared.script.Phase.{Phase}
+use Rattle.script_lang.specs.Commands.{priority_number}
 use Rattle.ws_core.specs.declared.event.Event.{Event}
 use Rattle.ws_core.specs.declared.event.Event.TheVariants.{Enter, Leave, Schedule, Take, Finish, Batch, EndBatch, Checkpoint, Operation}
 use Rattle.ws_core.specs.declared.history.Entry.{Entry}
@@ -30,7 +31,7 @@ command_call command = (1, event_of command)
 
 -- pass 0 schedules a job
 abbrev pub schedule_call : Job → Call
-schedule_call job = (0, Schedule job.name job.priority)
+schedule_call job = (0, Schedule job.name (priority_number job.priority))
 
 -- the worker takes a job, does its commands in order and finishes
 abbrev pub job_calls : Job → List Call

@@ -43,8 +43,8 @@ fn put_place(out: &mut Vec<u8>, text: &str, place: Option<&Path>) -> Result<(), 
 fn put_moved(out: &mut Vec<u8>, node: &DeltaNode) -> Result<(), NoMemory>
     ensures { OnOk result (out.new.items ≡ out.old.items ++ moved_names node.now) }
 {
-    put_place(out, " MOVED_FROM=", node.moved_from.as_ref())?;
-    put_place(out, " MOVED_TO=", node.moved_to.as_ref())
+    put_place(out, " MOVED_FROM=", node.moved_from.path())?;
+    put_place(out, " MOVED_TO=", node.moved_to.path())
 }
 
 fn put_middle_flags(out: &mut Vec<u8>, flags: u32) -> Result<(), NoMemory>

@@ -62,7 +62,7 @@ fn schedule_one(core: &mut Core, alloc: Global, job: &Job) -> Result<(), NoMemor
     ensures stays { OnOk result (Stay core.old.state core.new.state) }
 {
     match job.name.copy() {
-        Ok(name) => ask(core, alloc, 0, Event::Schedule(name, job.priority)),
+        Ok(name) => ask(core, alloc, 0, Event::Schedule(name, job.priority.number())),
         Err(error) => Err(error),
     }
 }

@@ -1,7 +1,7 @@
 //! Runs in memory, by examples worked by hand.
 use crate::delta_text::put_node;
 use crate::{Outcome, top};
-use delta_kind::{CHANGED, DeltaNode};
+use delta_kind::{CHANGED, DeltaNode, Place};
 use res_path::Path;
 use std::alloc::Global;
 use std::test::Fail;
@@ -141,11 +141,11 @@ fn line(alloc: Global, flags: u32, from: &str, to: &str) -> Result<String, Fail>
     Ok(text)
 }
 
-fn place(alloc: Global, text: &str) -> Result<Option<Path>, Fail> {
+fn place(alloc: Global, text: &str) -> Result<Place, Fail> {
     if text.is_empty() {
-        return Ok(None);
+        return Ok(Place::none());
     }
-    Ok(Some(Path::parse(alloc, text)?))
+    Ok(Place::of(alloc, Some(Path::parse(alloc, text)?))?)
 }
 
 #[test]
