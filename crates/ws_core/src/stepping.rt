@@ -127,12 +127,7 @@ impl State {
     }
 
     /// Does an event that changes no resources, or refuses it, and tells nothing.
-    fn act_quietly(
-        &mut self,
-        alloc: Global,
-        pass: u64,
-        event: &Event,
-    ) -> Result<Answer, NoMemory>
+    fn act_quietly(&mut self, alloc: Global, pass: u64, event: &Event) -> Result<Answer, NoMemory>
         requires sound { IsSound self.old }
         requires quiet { change_of event.now ≡ nothing }
         ensures state { OnOk result (self.new ≡ (act self.old pass event.now).0) }
@@ -236,12 +231,7 @@ impl State {
     }
 
     /// Does an event that is a telling place and changes no resources, or refuses it. What it tells is made before.
-    fn tell_and_act(
-        &mut self,
-        alloc: Global,
-        pass: u64,
-        event: &Event,
-    ) -> Result<Reply, NoMemory>
+    fn tell_and_act(&mut self, alloc: Global, pass: u64, event: &Event) -> Result<Reply, NoMemory>
         requires sound { IsSound self.old }
         requires tells { tells event.now (act self.old pass event.now).0 ≡ true }
         requires quiet { change_of event.now ≡ nothing }
