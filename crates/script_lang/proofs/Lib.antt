@@ -1,6 +1,8 @@
 pub mod Items
 pub mod Tokens
 pub mod Lined
+pub mod Quoting
+pub mod Printed
 pub mod BareSpelled
 pub mod BareLined
 pub mod Coded
