@@ -1,7 +1,9 @@
 -- Lines one after another, and the lines that they say.
-use Rattle.std.proofs.Common.{◌≡◌, ◌⊎◌, inl, inr, ℕ, ◌+◌, ◌≤◌, Bool, true, false, cond, not, List, [], ◌∷◌, ◌++◌, map, length, refl, sym, ◌∙◌, ap, subst, append_assoc, append-nil, arith}
+use Rattle.std.proofs.Common.{◌≡◌, ◌⊎◌, inl, inr, ℕ, ◌+◌, ◌≤◌, ◌<◌, nat_le, Bool, true, false, cond, not, List, [], ◌∷◌, ◌++◌, map, length, refl, sym, ◌∙◌, ap, subst, append_assoc, append-nil, arith}
 use Rattle.std.specs.Prelude.{◌≢◌, codes, if◌then◌else◌, IsUtf8}
-use Rattle.std.specs.List.{filter, AllByRecursion, join_with_byte}
+use Rattle.std.proofs.lemmas.Bool.Decides.{nat_tests}
+use Rattle.res_path.proofs.Spelled.{both}
+use Rattle.std.specs.List.{filter, list_all, AllByRecursion, join_with_byte}
 use Rattle.std.proofs.lemmas.List.{length-append}
 use Rattle.std.proofs.lemmas.List.Elements.{filter-append}
 use Rattle.res_path.specs.Names.{IsName}
@@ -13,14 +15,14 @@ use Rattle.script_lang.specs.declared.script.Command.{Command}
 use Rattle.script_lang.specs.declared.script.Command.TheVariants.{Operation, Batch, EndBatch, Checkpoint}
 use Rattle.script_lang.specs.declared.line.Line.{Line}
 use Rattle.script_lang.specs.declared.line.Line.TheVariants.{BeginPhase, BeginJob, InJob, EndJob, EndPhase}
-use Rattle.script_lang.specs.Words.{Word, Token, SpellsLine, word_text, printed, is_bare}
+use Rattle.script_lang.specs.Words.{Word, Token, AreBytes, SpellsLine, word_text, printed, is_bare, is_bare_byte}
 use Rattle.script_lang.specs.Lines.{is_skipped, unskipped, SpellsEach, SpellsLines, next_number}
 use Rattle.script_lang.specs.Commands.{Part, keyword, a_name, a_path, a_word, FitsPart, FitsParts, operation_parts, line_parts}
 use Rattle.script_lang.specs.Scripts.{FitsLines, part_word, line_text}
 use Rattle.script_lang.specs.Printed.{IsPart, AreParts, AreLines}
 use Rattle.script_lang.proofs.Coded.{same_line}
 use Rattle.script_lang.proofs.Tokens.{spells_once}
-use Rattle.script_lang.proofs.Written.{line_spells}
+use Rattle.script_lang.proofs.Printed.{line_spells}
 
 -- ---- in front, and what is left
 
@@ -135,21 +137,35 @@ line_kept (InJob (Operation op)) = refl
 fits_printed : (parts : List Part) → AreParts parts → FitsParts (map printed (map part_word parts)) parts
 fits_printed [] h = tt
 fits_printed (keyword text ∷ parts) h = ((h.0, refl), fits_printed parts h.1)
-fits_printed (a_name name ∷ parts) h = ((h.0, refl), fits_printed parts h.1)
-fits_printed (a_path path ∷ parts) h = ((h.0, refl), fits_printed parts h.1)
+fits_printed (a_name name ∷ parts) h = ((h.0.0, refl), fits_printed parts h.1)
+fits_printed (a_path path ∷ parts) h = ((h.0.0, refl), fits_printed parts h.1)
 fits_printed (a_word word ∷ parts) h = (refl, fits_printed parts h.1)
 
-each_printed : (lines : List Line) → SpellsEach (map line_text lines) (map line_tokens lines)
-each_printed [] = tt
-each_printed (line ∷ lines) = (line_spells (map part_word (line_parts line)) (some_parts line), each_printed lines)
+small_byte : (b : ℕ) → is_bare_byte b ≡ true → b < 256
+small_byte b h = grind (arith, nat_tests)
+
+bare_bytes : (text : List ℕ) → list_all is_bare_byte text ≡ true → AreBytes text
+bare_bytes [] h = tt
+bare_bytes (b ∷ text) h = let parts = both (is_bare_byte b) (list_all is_bare_byte text) h in (small_byte b parts.0, bare_bytes text parts.1)
+
+part_bytes : (parts : List Part) → AreParts parts → AllByRecursion AreBytes (map part_word parts)
+part_bytes [] h = tt
+part_bytes (keyword text ∷ parts) h = (bare_bytes text (both (nat_le 1 (length text)) (list_all is_bare_byte text) h.0).1, part_bytes parts h.1)
+part_bytes (a_name name ∷ parts) h = (h.0.1, part_bytes parts h.1)
+part_bytes (a_path path ∷ parts) h = (h.0.1, part_bytes parts h.1)
+part_bytes (a_word word ∷ parts) h = (h.0, part_bytes parts h.1)
+
+each_printed : (lines : List Line) → AreLines lines → SpellsEach (map line_text lines) (map line_tokens lines)
+each_printed [] h = tt
+each_printed (line ∷ lines) h = (line_spells (map part_word (line_parts line)) (some_parts line) (part_bytes (line_parts line) h.0), each_printed lines h.1)
 
 unskipped_printed : (lines : List Line) → unskipped (map line_text lines) ≡ map line_text lines
 unskipped_printed [] = refl
 unskipped_printed (line ∷ lines) = kept_next (line_text line) (map line_text lines) (line_kept line) ∙ ap (λ (more : List (List ℕ)). line_text line ∷ more) (unskipped_printed lines)
 
 -- printed lines spell what they say
-pub spells_printed : (lines : List Line) → SpellsLines (map line_text lines) (map line_tokens lines)
-spells_printed lines = subst (λ (texts : List (List ℕ)). SpellsEach texts (map line_tokens lines)) (sym (unskipped_printed lines)) (each_printed lines)
+pub spells_printed : (lines : List Line) → AreLines lines → SpellsLines (map line_text lines) (map line_tokens lines)
+spells_printed lines h = subst (λ (texts : List (List ℕ)). SpellsEach texts (map line_tokens lines)) (sym (unskipped_printed lines)) (each_printed lines h)
 
 pub says_printed : (lines : List Line) → AreLines lines → FitsLines (map line_tokens lines) lines
 says_printed [] h = tt

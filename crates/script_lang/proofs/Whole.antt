@@ -199,7 +199,7 @@ root_is = record { names = tt; deep = lit≤ tt; long = lit≤ tt }
 
 closing_parts : (place : Place) → AreLines (closing place)
 closing_parts Outside = tt
-closing_parts BeforeJob = ((refl, (a_name_is, (refl, (refl, (root_is, tt))))), ((refl, tt), ((refl, tt), tt)))
+closing_parts BeforeJob = ((refl, ((a_name_is, (lit< tt, tt)), (refl, (refl, ((root_is, (lit< tt, tt)), tt))))), ((refl, tt), ((refl, tt), tt)))
 closing_parts (WithinJob job) = ((refl, tt), ((refl, tt), tt))
 closing_parts (AfterJob job) = ((refl, tt), tt)
 
@@ -214,7 +214,7 @@ begins lines rest number progress passed h e =
         jobs = closed.jobs;
         tokens = (h.tokens ++ []) ++ map line_tokens more;
         spelled = lines_append (h.front ++ passed) (map line_text more) (h.tokens ++ []) (map line_tokens more)
-            (lines_append h.front passed h.tokens [] h.spelled (nothing_left passed e)) (spells_printed more);
+            (lines_append h.front passed h.tokens [] h.spelled (nothing_left passed e)) (spells_printed more (closing_parts progress.place));
         fitting = subst (λ (tokens : List (List Token)). FitsLines (tokens ++ map line_tokens more) (flat_map phase_lines closed.phases)) (sym (append-nil h.tokens))
             (subst (FitsLines (h.tokens ++ map line_tokens more)) (sym closed.lines)
             (fits_append h.tokens (map line_tokens more) (read_lines progress) more h.fitting (says_printed more (closing_parts progress.place))));
