@@ -4,8 +4,8 @@ ghost use Rattle.std.specs.List.{flat_map, AllByRecursion};
 ghost use Rattle.res_path.specs.Paths.{path_text};
 ghost use Rattle.ws_ops.specs.declared.op.Want.{Want};
 ghost use Rattle.script_lang.specs.declared.line.Line.TheVariants.{BeginPhase, BeginJob, InJob, EndJob, EndPhase};
-ghost use Rattle.script_lang.specs.Words.{word_text};
-ghost use Rattle.script_lang.specs.Commands.{a_name, a_path, a_word, priority_word, want_word, switch_word, operation_parts, command_parts};
+ghost use Rattle.script_lang.specs.Words.{AreBytes, word_text};
+ghost use Rattle.script_lang.specs.Commands.{a_name, a_path, a_word, priority_word, want_word, switch_word, operation_parts, command_parts, line_parts};
 ghost use Rattle.script_lang.specs.Scripts.{IsScript, script_text, operation_text, line_text, phase_lines, job_lines, HasOneJob};
 ghost use Rattle.script_lang.specs.Printed.{ended, IsPart, AreParts, AreLines};
 
@@ -32,13 +32,14 @@ pub fn print(alloc: Global, script: &Script) -> Result<Vec<u8>, NoMemory>
 fn put_phase(out: &mut Vec<u8>, phase: &Phase) -> Result<(), NoMemory>
     ensures text { OnOk result (out.new.items ≡ out.old.items ++ ended (phase_lines phase.now)) }
     ensures parts { OnOk result (AreLines (phase_lines phase.now)) }
-    ensures single { HasOneJob phase.now }
+    ensures single { OnOk result (HasOneJob phase.now) }
 {
     put(out, b"phase\n")?;
     for job in phase.jobs.as_slice() {
         put_job(out, job)?;
     }
-    put(out, b"endphase\n")
+    put(out, b"endphase\n")?;
+    Ok(())
 }
 
 fn put_job(out: &mut Vec<u8>, job: &Job) -> Result<(), NoMemory>
@@ -49,13 +50,14 @@ fn put_job(out: &mut Vec<u8>, job: &Job) -> Result<(), NoMemory>
     for command in job.commands.as_slice() {
         put_command(out, command)?;
     }
-    put(out, b"endjob\n")
+    put(out, b"endjob\n")?;
+    Ok(())
 }
 
 /// Appends the first line of a job.
 fn put_head(out: &mut Vec<u8>, job: &Job) -> Result<(), NoMemory>
-    ensures text { OnOk result (out.new.items ≡ out.old.items ++ ended (BeginJob job.now.name job.now.priority ∷ [])) }
-    ensures parts { OnOk result (AreLines (BeginJob job.now.name job.now.priority ∷ [])) }
+    ensures text { OnOk result (out.new.items ≡ out.old.items ++ (line_text (BeginJob job.now.name job.now.priority) ++ 10 ∷ [])) }
+    ensures parts { OnOk result (AreParts (line_parts (BeginJob job.now.name job.now.priority))) }
 {
     put_three(out, b"job", name_word(&job.name), priority_word(job.priority))?;
     put(out, b" path /\n")
@@ -63,8 +65,8 @@ fn put_head(out: &mut Vec<u8>, job: &Job) -> Result<(), NoMemory>
 
 /// Appends a command's line.
 fn put_command(out: &mut Vec<u8>, command: &Command) -> Result<(), NoMemory>
-    ensures text { OnOk result (out.new.items ≡ out.old.items ++ ended (InJob command.now ∷ [])) }
-    ensures parts { OnOk result (AreLines (InJob command.now ∷ [])) }
+    ensures text { OnOk result (out.new.items ≡ out.old.items ++ (line_text (InJob command.now) ++ 10 ∷ [])) }
+    ensures parts { OnOk result (AreParts (command_parts command.now)) }
 {
     match command {
         Command::Operation(op) => put_doing(out, op)?,
@@ -145,7 +147,7 @@ fn path_word(path: &Path) -> &[u8]
     ensures text { result.now ≡ path_text path.now }
     ensures part { IsPart (a_path path.now) }
 {
-    path.as_str().as_bytes()
+    known_bytes(path.as_str().as_bytes())
 }
 
 /// The word that a name is.
@@ -153,7 +155,7 @@ fn name_word(name: &Name) -> &[u8]
     ensures text { result.now ≡ name.now }
     ensures part { IsPart (a_name name.now) }
 {
-    name.text().as_bytes()
+    known_bytes(name.text().as_bytes())
 }
 
 /// The word that these bytes are.
@@ -161,7 +163,15 @@ fn any_word(bytes: &Bytes) -> &[u8]
     ensures text { result.now ≡ bytes.now }
     ensures part { IsPart (a_word bytes.now) }
 {
-    bytes.as_slice()
+    known_bytes(bytes.as_slice())
+}
+
+/// The same bytes. Contracts learn that they are bytes.
+fn known_bytes(word: &[u8]) -> &[u8]
+    ensures same { result.now ≡ word.now }
+    ensures bytes { AreBytes word.now }
+{
+    word
 }
 
 fn switch_word(derived: bool) -> &'static [u8]
