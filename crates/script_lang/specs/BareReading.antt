@@ -1,5 +1,5 @@
 -- What reading lines of bare words leaves of a reader.
-use Rattle.std.specs.Prelude.{◌≡◌, ℕ, ◌+◌, ◌≤◌, length}
+use Rattle.std.specs.Prelude.{◌≡◌, ◌+◌, ◌≤◌, length}
 use Rattle.script_lang.specs.declared.bare_reader.Reader.{Reader}
 use Rattle.script_lang.specs.BareLines.{lines_of}
 

@@ -18,6 +18,8 @@ mod reader;
 mod script;
 #[cfg(test)]
 mod tests;
+#[cfg(test)]
+mod word_tests;
 mod word_text;
 mod words;
 
