@@ -3,6 +3,7 @@ pub mod Tokens
 pub mod Lined
 pub mod Quoting
 pub mod Printed
+pub mod PrintedLines
 pub mod Taking
 mod Worked
 pub mod BareSpelled

@@ -239,7 +239,7 @@ line_no_feed (word ∷ next ∷ words) = feeds_append (word_text word) (32 ∷ j
 no_feed : (b : ℕ) → not (b == 10) ≡ true → is_line_feed b ≡ false
 no_feed b h = grind (arith, nat_tests)
 
-split_line : (line rest : List ℕ) → has_no_line_feed line ≡ true → slice_split is_line_feed (line ++ 10 ∷ rest) ≡ line ∷ slice_split is_line_feed rest
+pub split_line : (line rest : List ℕ) → has_no_line_feed line ≡ true → slice_split is_line_feed (line ++ 10 ∷ rest) ≡ line ∷ slice_split is_line_feed rest
 split_line [] rest h = refl
 split_line (b ∷ bytes) rest h =
     let parts = and_parts (not (b == 10)) (has_no_line_feed bytes) h in

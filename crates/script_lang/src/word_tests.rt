@@ -162,8 +162,8 @@ fn a_word_is_printed_bare_where_it_can_be(rt: HostRuntime) -> Result<(), Fail> {
 
 #[test]
 fn what_is_printed_is_read_back(rt: HostRuntime) -> Result<(), Fail> {
-    for b in 0..256 {
-        let word = [b as u8, b' ', 0xc3, b as u8];
+    for b in 0..=255u8 {
+        let word = [b, b' ', 0xc3, b];
         let mut out = Vec::new(rt.alloc());
         put_word(&mut out, &word)?;
         match tokens(rt.alloc(), out.as_slice())? {
