@@ -3,6 +3,8 @@ pub mod Tokens
 pub mod Lined
 pub mod Quoting
 pub mod Printed
+pub mod Taking
+mod Worked
 pub mod Coded
 pub mod Runs
 pub mod Spelling

@@ -1,5 +1,5 @@
 -- What is printed spells the word.
-use Rattle.std.proofs.Common.{◌≡◌, ◌≢◌, ◌⊎◌, inl, inr, ℕ, zero, suc, ◌+◌, ◌*◌, ◌/◌, ◌%◌, ◌<◌, ◌≤◌, Bool, true, false, not, ◌&&◌, ◌||◌, ◌==◌, nat_le, nat_lt, List, [], ◌∷◌, ◌++◌, map, length, take, drop, get_or, IsUtf8, refl, sym, ◌∙◌, ap, subst, append_assoc, append-nil, arith, length-drop, drop-cons}
+use Rattle.std.proofs.Common.{◌≡◌, ◌≢◌, inl, inr, ℕ, zero, suc, ◌+◌, ◌*◌, ◌/◌, ◌%◌, ◌<◌, ◌≤◌, Bool, true, false, not, ◌||◌, ◌==◌, nat_le, nat_lt, List, [], ◌∷◌, ◌++◌, map, length, take, drop, get_or, IsUtf8, Fits, w8, refl, sym, ◌∙◌, ap, subst, append_assoc, append-nil, arith, length-drop}
 use Rattle.std.specs.Prelude.{IsTrue, slice_index, if◌then◌else◌}
 use Rattle.std.specs.List.{slice_split, onto_first, list_all, flat_map, join_with_byte, AllByRecursion}
 use Rattle.std.specs.Char.{digit_char, digit_value}
@@ -12,8 +12,8 @@ use Rattle.std.proofs.lemmas.Str.{encode_ascii, digit_value-digit_char, IsUtf8-n
 use Rattle.std.proofs.lemmas.List.{take-append-drop}
 use Rattle.std.proofs.lemmas.List.Splits.{slice_split-cons_no}
 use lib.Utf8.{scalar, scalars, encode, encodes, low_scalar}
-use Rattle.script_lang.specs.Words.{Word, AreBytes, Token, Item, character, escape, hexadecimal, IsItem, item_text, item_bytes, is_plain, is_letter, is_hex, is_bare_byte, is_bare, SpellsQuoted, Spells, SpellsToken, SpellsTokens, SpellsLine, hex_text, byte_text, quoted_front, quoted_within, quoted_text, word_text, printed}
-use Rattle.script_lang.proofs.Items.{is_high, high_char, high_plain, no_items, more_items}
+use Rattle.script_lang.specs.Words.{Word, AreBytes, Item, character, escape, hexadecimal, IsItem, item_text, item_bytes, is_plain, is_letter, is_hex, is_bare_byte, is_bare, SpellsQuoted, Spells, SpellsTokens, SpellsLine, hex_text, byte_text, quoted_front, quoted_within, quoted_text, word_text, printed, ReadsBack}
+use Rattle.script_lang.proofs.Items.{is_high, high_char, high_plain, no_items}
 use Rattle.script_lang.specs.Lines.{is_line_feed, lines_of, is_skipped}
 use Rattle.script_lang.proofs.Lined.{first_line}
 use Rattle.script_lang.proofs.Quoting.{quoted_last, quoted_more}
@@ -142,23 +142,28 @@ quoted_spells zero word fits bytes = spells_from word bytes (λ rest less b. abs
 quoted_spells (suc n) word fits bytes = spells_from word bytes (λ rest less b. quoted_spells n rest (omega arith) b) (drop (utf8_valid_len word) word) refl
 
 -- the text of a word stands for it
-pub text_spells : (word : Word) → AreBytes word → SpellsToken (word_text word) (printed word)
+pub text_spells : (word : Word) → AreBytes word → ReadsBack word
 text_spells word bytes = by (is_bare word) refl
   where
     by : (t : Bool) → is_bare word ≡ t → Spells t (if t then word else 34 ∷ (quoted_text word ++ 34 ∷ [])) word
     by true e = (e, refl)
     by false e = (quoted_text word, refl, quoted_spells (length word) word (let fits : length word ≤ length word = omega arith in fits) bytes)
 
-texts_spell : (words : List Word) → AllByRecursion AreBytes words → SpellsTokens (map word_text words) (map printed words)
+-- numbers that fit in eight bits are bytes
+pub are_bytes : (xs : List ℕ) → ((k : ℕ) → Fits w8 (get_or xs k 0)) → AreBytes xs
+are_bytes [] h = tt
+are_bytes (x ∷ xs) h = let first : x < 256 = (h 0).fits in (first, are_bytes xs (λ k. h (suc k)))
+
+texts_spell : (words : List Word) → AllByRecursion ReadsBack words → SpellsTokens (map word_text words) (map printed words)
 texts_spell [] h = tt
-texts_spell (word ∷ words) h = (text_spells word h.0, texts_spell words h.1)
+texts_spell (word ∷ words) h = (h.0, texts_spell words h.1)
 
 some_printed : (words : List Word) → words ≢ [] → map printed words ≢ []
 some_printed [] n = λ e. n refl
 some_printed (word ∷ words) n = λ e. cc
 
 -- the texts of words, with one space between, are a line of them
-pub line_spells : (words : List Word) → words ≢ [] → AllByRecursion AreBytes words → SpellsLine (join_with_byte 32 (map word_text words)) (map printed words)
+pub line_spells : (words : List Word) → words ≢ [] → AllByRecursion ReadsBack words → SpellsLine (join_with_byte 32 (map word_text words)) (map printed words)
 line_spells words n h = record { texts = map word_text words; line_is = refl; spelled = texts_spell words h; some = some_printed words n }
 
 -- ---- no line feed
@@ -234,7 +239,7 @@ line_no_feed (word ∷ next ∷ words) = feeds_append (word_text word) (32 ∷ j
 no_feed : (b : ℕ) → not (b == 10) ≡ true → is_line_feed b ≡ false
 no_feed b h = grind (arith, nat_tests)
 
-split_line : (line rest : List ℕ) → has_no_line_feed line ≡ true → slice_split is_line_feed (line ++ 10 ∷ rest) ≡ line ∷ slice_split is_line_feed rest
+pub split_line : (line rest : List ℕ) → has_no_line_feed line ≡ true → slice_split is_line_feed (line ++ 10 ∷ rest) ≡ line ∷ slice_split is_line_feed rest
 split_line [] rest h = refl
 split_line (b ∷ bytes) rest h =
     let parts = and_parts (not (b == 10)) (has_no_line_feed bytes) h in

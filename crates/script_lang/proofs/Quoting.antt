@@ -1,11 +1,10 @@
 -- What a word's bytes are printed as, from one byte that is no part of UTF-8 to the next.
-use Rattle.std.proofs.Common.{◌≡◌, ℕ, zero, suc, ◌+◌, ◌-◌, ◌<◌, ◌≤◌, Bool, true, false, ◌==◌, List, [], ◌∷◌, ◌++◌, length, take, drop, get_or, refl, sym, ◌∙◌, ap, subst, append_assoc, append-nil, arith, length-drop, drop-cons}
+use Rattle.std.proofs.Common.{◌≡◌, ℕ, zero, suc, ◌+◌, ◌<◌, ◌≤◌, true, false, ◌==◌, List, [], ◌∷◌, ◌++◌, length, take, drop, refl, sym, ◌∙◌, ap, append-nil, arith, length-drop, drop-cons}
 use Rattle.std.specs.Prelude.{slice_index, if◌then◌else◌}
 use Rattle.std.specs.List.{flat_map}
 use Rattle.std.specs.Str.Lossy.{utf8_valid_len}
 use Rattle.std.proofs.lemmas.Bool.Decides.{nat_tests}
 use Rattle.std.proofs.lemmas.Str.{utf8_valid_len_le}
-use Rattle.std.proofs.lemmas.List.{take-append-drop}
 use Rattle.script_lang.specs.Words.{Word, byte_text, hex_text, quoted_front, quoted_within, quoted_text}
 
 front_same : (f g : Word → List ℕ) (word : Word) → f (drop (utf8_valid_len word + 1) word) ≡ g (drop (utf8_valid_len word + 1) word) → quoted_front f word ≡ quoted_front g word

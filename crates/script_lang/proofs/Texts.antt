@@ -10,18 +10,12 @@ use Rattle.script_lang.specs.declared.script.Phase.{Phase}
 use Rattle.script_lang.specs.declared.script.Script.{Script}
 use Rattle.script_lang.specs.declared.line.Line.{Line}
 use Rattle.script_lang.specs.declared.line.Line.TheVariants.{BeginPhase, BeginJob, InJob, EndJob, EndPhase}
-use Rattle.script_lang.specs.Words.{AreBytes}
 use Rattle.script_lang.specs.Lines.{lines_of, SpellsLines}
 use Rattle.script_lang.specs.Commands.{command_parts, line_parts}
 use Rattle.script_lang.specs.Scripts.{HasOneJob, job_lines, phase_lines, script_lines, script_text, line_text, part_word, FitsLines, IsScript}
 use Rattle.script_lang.specs.Printed.{ended, AreParts, AreLines}
 use Rattle.script_lang.proofs.Printed.{has_no_line_feed, line_no_feed, lines_back}
 use Rattle.script_lang.proofs.Spelling.{line_tokens, spells_printed, says_printed}
-
--- bytes, index by index
-pub bytes_at : (text : List ℕ) → ((i : ℕ) → Fits w8 (get_or text i 0)) → AreBytes text
-bytes_at [] h = tt
-bytes_at (b ∷ text) h = let small : Fits w8 b = h zero in (omega (arith, small), bytes_at text (λ i. h (suc i)))
 
 -- what a loop has taken at its end
 pub whole_taken : {X : Type 0} (n : ℕ) (xs all : List X) → length xs ≤ n → n ≤ length xs → xs ≡ all → take n xs ≡ all
