@@ -1,18 +1,17 @@
 -- What stands between quotes, as items and byte by byte.
-use Rattle.std.proofs.Common.{◌≡◌, ◌⊎◌, inl, inr, ℕ, suc, ◌<◌, ◌≤◌, Bool, true, false, not, ◌&&◌, ◌||◌, ◌==◌, nat_le, cond, List, [], ◌∷◌, ◌++◌, length, get_or, Option, Some, None, IsUtf8, refl, sym, ◌∙◌, ap, subst, append_assoc, append-nil, arith}
-use Rattle.std.specs.Prelude.{◌+◌, ◌*◌, IsTrue}
+use Rattle.std.proofs.Common.{◌≡◌, inl, inr, ℕ, suc, ◌<◌, ◌≤◌, Bool, true, false, ◌&&◌, ◌==◌, nat_le, List, [], ◌∷◌, ◌++◌, length, get_or, Option, Some, None, IsUtf8, refl, sym, ◌∙◌, ap, subst, append_assoc, append-nil, arith}
+use Rattle.std.specs.Prelude.{◌+◌, ◌*◌}
 use Rattle.std.specs.List.{list_all, flat_map, AllByRecursion}
-use Rattle.std.specs.Option.{option_map, option_to_list}
-use Rattle.std.specs.Char.{encode_utf8, IsScalar, digit_value}
-use Rattle.std.proofs.lemmas.Bool.{and_parts, cases_lt, cases_Bool}
+use Rattle.std.specs.Option.{option_map}
+use Rattle.std.specs.Char.{IsScalar, digit_value}
+use Rattle.std.proofs.lemmas.Bool.{and_parts, cases_lt}
 use Rattle.std.proofs.lemmas.Bool.Decides.{nat_tests}
-use Rattle.std.proofs.lemmas.Grind.{common_steps}
 use Rattle.std.proofs.lemmas.Str.{IsUtf8-append, IsUtf8-nil, IsUtf8-encode, encode_ascii, inside_one, length-encode, len_utf8_bounds}
 use lib.Utf8.{scalar, scalars, encode, encodes, low_scalar}
 use Rattle.script_lang.specs.declared.quoted.State.{State}
 use Rattle.script_lang.specs.declared.quoted.State.TheVariants.{Between, Escape, FirstDigit, SecondDigit}
 use Rattle.script_lang.specs.Words.{Word, Item, character, escape, hexadecimal, IsItem, item_text, item_bytes, is_plain, is_letter, letter_byte, is_hex, SpellsQuoted}
-use Rattle.script_lang.specs.Quoted.{step, at_end, then_denoted, denoted}
+use Rattle.script_lang.specs.Quoted.{step, then_denoted, denoted}
 
 -- ---- bytes past ASCII
 

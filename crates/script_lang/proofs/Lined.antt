@@ -1,12 +1,12 @@
 -- Lines, one after another.
-use Rattle.std.proofs.Common.{◌≡◌, ℕ, ◌+◌, ◌<◌, Bool, true, false, not, ◌||◌, List, [], ◌∷◌, ◌++◌, length, refl, sym, ◌∙◌, ap, subst, append_assoc, arith}
+use Rattle.std.proofs.Common.{◌≡◌, ℕ, ◌+◌, ◌<◌, Bool, true, false, not, List, [], ◌∷◌, ◌++◌, length, refl, sym, ◌∙◌, ap, subst, append_assoc, arith}
 use Rattle.std.proofs.lemmas.List.Elements.{filter-append}
 use Rattle.std.specs.Prelude.{◌==◌}
 use Rattle.std.proofs.lemmas.Grind.{common_steps}
 use Rattle.std.proofs.lemmas.Bool.Decides.{nat_tests}
 use Rattle.std.specs.List.{slice_split, onto_first}
 use Rattle.script_lang.specs.Words.{Token, SpellsLine}
-use Rattle.script_lang.specs.Lines.{is_line_feed, without_empty_end, lines_of, is_skipped, unskipped, SpellsEach, SpellsLines, TakesLine, HasNoLine, IsLineAhead, next_number, starts_skipped, PassesLine, Skips}
+use Rattle.script_lang.specs.Lines.{is_line_feed, without_empty_end, lines_of, is_skipped, unskipped, SpellsEach, TakesLine, HasNoLine, next_number, starts_skipped, PassesLine, Skips}
 
 kept_line : (line next : List ℕ) (lines : List (List ℕ)) → without_empty_end (line ∷ next ∷ lines) ≡ line ∷ without_empty_end (next ∷ lines)
 kept_line [] next lines = refl

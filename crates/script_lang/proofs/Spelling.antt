@@ -1,11 +1,13 @@
 -- Lines one after another, and the lines that they say.
-use Rattle.std.proofs.Common.{◌≡◌, ◌⊎◌, inl, inr, ℕ, ◌+◌, ◌≤◌, Bool, true, false, cond, not, List, [], ◌∷◌, ◌++◌, map, length, refl, sym, ◌∙◌, ap, subst, append_assoc, append-nil, arith}
+use Rattle.std.proofs.Common.{◌≡◌, ◌⊎◌, inl, inr, ℕ, ◌+◌, ◌≤◌, ◌<◌, nat_le, Bool, true, false, cond, not, List, [], ◌∷◌, ◌++◌, map, length, refl, sym, ◌∙◌, ap, subst, append_assoc, append-nil, arith}
 use Rattle.std.specs.Prelude.{◌≢◌, codes, if◌then◌else◌, IsUtf8}
-use Rattle.std.specs.List.{filter, AllByRecursion, join_with_byte}
+use Rattle.std.proofs.lemmas.Bool.Decides.{nat_tests}
+use Rattle.res_path.proofs.Spelled.{both}
+use Rattle.std.specs.List.{filter, list_all, AllByRecursion, join_with_byte}
 use Rattle.std.proofs.lemmas.List.{length-append}
 use Rattle.std.proofs.lemmas.List.Elements.{filter-append}
 use Rattle.res_path.specs.Names.{IsName}
-use Rattle.res_path.specs.Paths.{IsPath}
+use Rattle.res_path.specs.Paths.{IsPath, path_text}
 use Rattle.ws_ops.specs.declared.op.Op.{Op}
 use Rattle.ws_ops.specs.declared.op.Op.TheVariants.{CreateFile, CreateFolder, CreateProject, Delete, Write, Touch, Derived, Move, Copy, Open, Close, Describe, Read}
 use Rattle.ws_ops.specs.declared.op.Want.TheVariants.{Show, Cat}
@@ -13,42 +15,16 @@ use Rattle.script_lang.specs.declared.script.Command.{Command}
 use Rattle.script_lang.specs.declared.script.Command.TheVariants.{Operation, Batch, EndBatch, Checkpoint}
 use Rattle.script_lang.specs.declared.line.Line.{Line}
 use Rattle.script_lang.specs.declared.line.Line.TheVariants.{BeginPhase, BeginJob, InJob, EndJob, EndPhase}
-use Rattle.script_lang.specs.Words.{Word, Token, SpellsLine, word_text, printed, is_bare}
+use Rattle.script_lang.specs.Words.{Word, Token, AreBytes, ReadsBack, word_text, printed, is_bare, is_bare_byte}
 use Rattle.script_lang.specs.Lines.{is_skipped, unskipped, SpellsEach, SpellsLines, next_number}
 use Rattle.script_lang.specs.Commands.{Part, keyword, a_name, a_path, a_word, FitsPart, FitsParts, operation_parts, line_parts}
 use Rattle.script_lang.specs.Scripts.{FitsLines, part_word, line_text}
 use Rattle.script_lang.specs.Printed.{IsPart, AreParts, AreLines}
 use Rattle.script_lang.proofs.Coded.{same_line}
-use Rattle.script_lang.proofs.Tokens.{spells_once}
-use Rattle.script_lang.proofs.Written.{line_spells}
+use Rattle.script_lang.proofs.Lined.{keeps_line}
+use Rattle.script_lang.proofs.Printed.{line_spells, text_spells}
 
 -- ---- in front, and what is left
-
-each_append : (a b : List (List ℕ)) (t u : List (List Token)) → SpellsEach a t → SpellsEach b u → SpellsEach (a ++ b) (t ++ u)
-each_append [] b [] u h g = g
-each_append [] b (tokens ∷ t) u h g = absurd h
-each_append (line ∷ a) b [] u h g = absurd h
-each_append (line ∷ a) b (tokens ∷ t) u h g = (h.0, each_append a b t u h.1 g)
-
-pub unskipped-append : (a b : List (List ℕ)) → unskipped (a ++ b) ≡ unskipped a ++ unskipped b
-unskipped-append a b = filter-append (λ line. not (is_skipped line)) a b
-
-pub lines_append : (a b : List (List ℕ)) (t u : List (List Token)) → SpellsLines a t → SpellsLines b u → SpellsLines (a ++ b) (t ++ u)
-lines_append a b t u h g =
-    subst (λ (lines : List (List ℕ)). SpellsEach lines (t ++ u)) (sym (unskipped-append a b)) (each_append (unskipped a) (unskipped b) t u h g)
-
-each_rest : (a b : List (List ℕ)) (t all : List (List Token)) → SpellsEach a t → SpellsEach (a ++ b) all → (u : List (List Token)) × (all ≡ t ++ u) × SpellsEach b u
-each_rest [] b [] all h g = (all, refl, g)
-each_rest [] b (tokens ∷ t) all h g = absurd h
-each_rest (line ∷ a) b [] all h g = absurd h
-each_rest (line ∷ a) b (tokens ∷ t) [] h g = absurd g
-each_rest (line ∷ a) b (tokens ∷ t) (others ∷ all) h g =
-    let rest = each_rest a b t all h.1 g.1 in
-    (rest.0, (λ i. spells_once line others tokens g.0 h.0 i ∷ rest.1 i), rest.2)
-
--- what lines spell begins with what those in front spell
-pub lines_rest : (a b : List (List ℕ)) (t all : List (List Token)) → SpellsLines a t → SpellsLines (a ++ b) all → (u : List (List Token)) × (all ≡ t ++ u) × SpellsLines b u
-lines_rest a b t all h g = each_rest (unskipped a) (unskipped b) t all h (subst (λ (lines : List (List ℕ)). SpellsEach lines all) (unskipped-append a b) g)
 
 pub fits_append : (t u : List (List Token)) (a b : List Line) → FitsLines t a → FitsLines u b → FitsLines (t ++ u) (a ++ b)
 fits_append [] u [] b h g = g
@@ -98,12 +74,6 @@ next_line read (line ∷ lines) = by (is_skipped line) refl (next_line (read + 1
     })
     by false e h = inr (record { passed = []; line = line; rest = lines; lines_are = refl; skipped = refl; kept = e; number = rw e (omega arith) })
 
-pub kept_one : (line : List ℕ) → is_skipped line ≡ false → unskipped (line ∷ []) ≡ line ∷ []
-kept_one line e = rw e refl
-
-pub kept_next : (line : List ℕ) (rest : List (List ℕ)) → is_skipped line ≡ false → unskipped (line ∷ rest) ≡ line ∷ unskipped rest
-kept_next line rest e = rw e refl
-
 -- ---- printed lines
 
 abbrev pub line_tokens : Line → List Token
@@ -135,21 +105,36 @@ line_kept (InJob (Operation op)) = refl
 fits_printed : (parts : List Part) → AreParts parts → FitsParts (map printed (map part_word parts)) parts
 fits_printed [] h = tt
 fits_printed (keyword text ∷ parts) h = ((h.0, refl), fits_printed parts h.1)
-fits_printed (a_name name ∷ parts) h = ((h.0, refl), fits_printed parts h.1)
-fits_printed (a_path path ∷ parts) h = ((h.0, refl), fits_printed parts h.1)
+fits_printed (a_name name ∷ parts) h = ((h.0.0, refl), fits_printed parts h.1)
+fits_printed (a_path path ∷ parts) h = ((h.0.0, refl), fits_printed parts h.1)
 fits_printed (a_word word ∷ parts) h = (refl, fits_printed parts h.1)
 
-each_printed : (lines : List Line) → SpellsEach (map line_text lines) (map line_tokens lines)
-each_printed [] = tt
-each_printed (line ∷ lines) = (line_spells (map part_word (line_parts line)) (some_parts line), each_printed lines)
+small_byte : (b : ℕ) → is_bare_byte b ≡ true → b < 256
+small_byte b h = grind (arith, nat_tests)
+
+bare_bytes : (text : List ℕ) → list_all is_bare_byte text ≡ true → AreBytes text
+bare_bytes [] h = tt
+bare_bytes (b ∷ text) h = let parts = both (is_bare_byte b) (list_all is_bare_byte text) h in (small_byte b parts.0, bare_bytes text parts.1)
+
+-- the words of parts are read back
+part_words : (parts : List Part) → AreParts parts → AllByRecursion ReadsBack (map part_word parts)
+part_words [] h = tt
+part_words (keyword text ∷ parts) h = (text_spells text (bare_bytes text (both (nat_le 1 (length text)) (list_all is_bare_byte text) h.0).1), part_words parts h.1)
+part_words (a_name name ∷ parts) h = (text_spells name h.0.1, part_words parts h.1)
+part_words (a_path path ∷ parts) h = (text_spells (path_text path) h.0.1, part_words parts h.1)
+part_words (a_word word ∷ parts) h = (text_spells word h.0, part_words parts h.1)
+
+each_printed : (lines : List Line) → AreLines lines → SpellsEach (map line_text lines) (map line_tokens lines)
+each_printed [] h = tt
+each_printed (line ∷ lines) h = (line_spells (map part_word (line_parts line)) (some_parts line) (part_words (line_parts line) h.0), each_printed lines h.1)
 
 unskipped_printed : (lines : List Line) → unskipped (map line_text lines) ≡ map line_text lines
 unskipped_printed [] = refl
-unskipped_printed (line ∷ lines) = kept_next (line_text line) (map line_text lines) (line_kept line) ∙ ap (λ (more : List (List ℕ)). line_text line ∷ more) (unskipped_printed lines)
+unskipped_printed (line ∷ lines) = keeps_line (line_text line) (map line_text lines) (line_kept line) ∙ ap (λ (more : List (List ℕ)). line_text line ∷ more) (unskipped_printed lines)
 
 -- printed lines spell what they say
-pub spells_printed : (lines : List Line) → SpellsLines (map line_text lines) (map line_tokens lines)
-spells_printed lines = subst (λ (texts : List (List ℕ)). SpellsEach texts (map line_tokens lines)) (sym (unskipped_printed lines)) (each_printed lines)
+pub spells_printed : (lines : List Line) → AreLines lines → SpellsLines (map line_text lines) (map line_tokens lines)
+spells_printed lines h = subst (λ (texts : List (List ℕ)). SpellsEach texts (map line_tokens lines)) (sym (unskipped_printed lines)) (each_printed lines h)
 
 pub says_printed : (lines : List Line) → AreLines lines → FitsLines (map line_tokens lines) lines
 says_printed [] h = tt

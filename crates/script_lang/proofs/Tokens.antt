@@ -1,17 +1,16 @@
 -- The tokens of a line.
-use Rattle.std.proofs.Common.{◌≡◌, ◌≢◌, ℕ, suc, ◌<◌, Bool, true, false, not, nat_le, ◌&&◌, ◌==◌, List, [], ◌∷◌, ◌++◌, length, take, drop, get_or, Option, Some, None, refl, sym, ◌∙◌, ap, subst, append_assoc, append-nil, arith, length-append}
-use Rattle.std.specs.Prelude.{IsTrue, ◌+◌, MatchOption}
+use Rattle.std.proofs.Common.{◌≡◌, ◌≢◌, ℕ, suc, ◌<◌, Bool, true, false, nat_le, ◌==◌, List, [], ◌∷◌, ◌++◌, length, take, drop, get_or, Option, Some, None, refl, sym, ◌∙◌, ap, subst, append_assoc, append-nil, arith, length-append}
+use Rattle.std.specs.Prelude.{◌+◌, MatchOption}
 use Rattle.std.specs.List.{slice_split, onto_first, list_all, flat_map, join_with_byte, AllByRecursion}
 use Rattle.std.specs.Char.{encode_utf8}
 use Rattle.std.proofs.lemmas.Bool.{and_parts}
 use Rattle.std.proofs.lemmas.Bool.Decides.{nat_tests}
-use Rattle.std.proofs.lemmas.Grind.{common_steps}
 use Rattle.std.proofs.Math.Seq.{drop-cons}
 use Rattle.std.proofs.lemmas.List.{take-append-drop}
 use Rattle.std.proofs.lemmas.List.Splits.{slice_split-cons_no, join_with_byte-slice_split}
 use Rattle.script_lang.specs.declared.quoted.State.TheVariants.{Between}
-use Rattle.script_lang.specs.Words.{Word, Token, Item, character, escape, hexadecimal, IsItem, item_text, is_plain, is_hex, is_bare_byte, is_bare, SpellsQuoted, Spells, SpellsToken, SpellsTokens, SpellsLine}
-use Rattle.script_lang.specs.Quoted.{closes, takes_next, quote_from, denoted}
+use Rattle.script_lang.specs.Words.{Word, Token, Item, character, escape, hexadecimal, IsItem, item_text, is_plain, is_hex, is_bare_byte, is_bare, SpellsQuoted, Spells, SpellsTokens, SpellsLine}
+use Rattle.script_lang.specs.Quoted.{quote_from, denoted}
 use Rattle.script_lang.specs.Tokens.{starts_quoted, after_token, StartsWith, StartsWithNone}
 use Rattle.script_lang.proofs.Items.{plain_char, quoted_denoted}
 

@@ -22,8 +22,9 @@ use Rattle.script_lang.specs.Reading.{goes, place_lines, read_lines, SaysNext, S
 use Rattle.script_lang.specs.Printed.{AreLines}
 use Rattle.script_lang.proofs.Runs.{runs, begun, runs-append, runs_script, runs_read, read_more, jobs_kept, closing, Closes, closes}
 use Rattle.script_lang.proofs.Coded.{same_line}
-use Rattle.script_lang.proofs.Tokens.{spells_once}
-use Rattle.script_lang.proofs.Spelling.{lines_append, lines_rest, fits_append, fits_rest, AllSkipped, OneNext, next_line, kept_one, kept_next, unskipped-append, line_tokens, spells_printed, says_printed}
+use Rattle.script_lang.proofs.Lined.{keeps_line, unskipped_append}
+use Rattle.script_lang.proofs.Taking.{taken_kept, taken_tokens, spells_append, spells_rest, spells_none}
+use Rattle.script_lang.proofs.Spelling.{fits_append, fits_rest, AllSkipped, OneNext, next_line, line_tokens, spells_printed, says_printed}
 
 -- ---- what was read
 
@@ -44,9 +45,6 @@ read_none lines number phases place n e f =
     subst (λ (progress : Progress). HasRead lines lines number progress) at
     (record { front = []; lines_are = refl; number_is = n; tokens = []; spelled = tt; fitting = tt; jobs = tt })
 
-nothing_left : (rest : List (List ℕ)) → unskipped rest ≡ [] → SpellsLines rest []
-nothing_left rest e = subst (λ (lines : List (List ℕ)). SpellsEach lines []) (sym e) tt
-
 -- skipped lines were passed
 pub read_skips : (lines : List (List ℕ)) (old new : List ℕ) (m n : ℕ) (progress : Progress) → HasRead lines (lines_of old) m progress → Skips old new
     → n + length (lines_of new) ≡ m + length (lines_of old) → HasRead lines (lines_of new) n progress
@@ -57,19 +55,15 @@ read_skips lines old new m n progress h s e =
       lines_are = h.lines_are ∙ ap (λ (rest : List (List ℕ)). h.front ++ rest) s.lines_are ∙ sym (append_assoc h.front s.passed (lines_of new));
       number_is = omega (arith, h.number_is, joined, fronts, e);
       tokens = h.tokens ++ [];
-      spelled = lines_append h.front s.passed h.tokens [] h.spelled (nothing_left s.passed s.skipped);
+      spelled = spells_append h.front s.passed h.tokens [] h.spelled (spells_none s.passed s.skipped);
       fitting = subst (λ (tokens : List (List Token)). FitsLines tokens (read_lines progress)) (sym (append-nil h.tokens)) h.fitting;
       jobs = h.jobs;
     }
 
-not_true : (b : Bool) → (b ≡ true → ⊥) → b ≡ false
-not_true true h = absurd (h refl)
-not_true false h = refl
-
 pub read_step : (lines old new : List (List ℕ)) (m n : ℕ) (before after : Progress) → HasRead lines old m before → Steps old new before after
     → n + length new ≡ m + length old → HasRead lines new n after
 read_step lines old new m n before after h s e =
-    let kept : is_skipped s.says.taken.line ≡ false = not_true (is_skipped s.says.taken.line) s.says.taken.kept in
+    let kept = keeps_line s.says.taken.line [] (taken_kept old new s.says.tokens s.says.taken) in
     let taken = s.says.taken.passed ++ s.says.taken.line ∷ [] in
     let joined = ap length s.says.taken.lines_are ∙ length-append s.says.taken.passed (s.says.taken.line ∷ new) in
     let fronts = length-append h.front taken in
@@ -80,9 +74,9 @@ read_step lines old new m n before after h s e =
           ∙ sym (append_assoc h.front taken new);
       number_is = omega (arith, h.number_is, joined, fronts, takens, e);
       tokens = h.tokens ++ s.says.tokens ∷ [];
-      spelled = lines_append h.front taken h.tokens (s.says.tokens ∷ []) h.spelled
+      spelled = spells_append h.front taken h.tokens (s.says.tokens ∷ []) h.spelled
           (subst (λ (lines : List (List ℕ)). SpellsEach lines (s.says.tokens ∷ []))
-          (sym (unskipped-append s.says.taken.passed (s.says.taken.line ∷ []) ∙ (λ i. s.says.taken.skipped i ++ kept_one s.says.taken.line kept i))) (s.says.taken.spelled, tt));
+          (sym (unskipped_append s.says.taken.passed (s.says.taken.line ∷ []) ∙ (λ i. s.says.taken.skipped i ++ kept i))) (s.says.taken.spelled, tt));
       fitting = subst (FitsLines (h.tokens ++ s.says.tokens ∷ [])) (sym (read_more before s.line after s.goes_to))
           (fits_append h.tokens (s.says.tokens ∷ []) (read_lines before) (s.line ∷ []) h.fitting (s.says.fits, tt));
       jobs = jobs_kept before s.line after s.goes_to h.jobs;
@@ -98,7 +92,7 @@ pub whole_script : (lines rest : List (List ℕ)) (number : ℕ) (progress : Pro
 whole_script lines rest number progress h w = record {
   jobs = h.jobs;
   tokens = h.tokens ++ [];
-  spelled = subst (λ (lines : List (List ℕ)). SpellsLines lines (h.tokens ++ [])) (sym h.lines_are) (lines_append h.front rest h.tokens [] h.spelled (nothing_left rest w.1));
+  spelled = subst (λ (lines : List (List ℕ)). SpellsLines lines (h.tokens ++ [])) (sym h.lines_are) (spells_append h.front rest h.tokens [] h.spelled (spells_none rest w.1));
   fitting = subst (λ (tokens : List (List Token)). FitsLines tokens (flat_map phase_lines progress.phases)) (sym (append-nil h.tokens))
       (subst (FitsLines h.tokens) (whole_lines progress w.0) h.fitting);
 }
@@ -115,7 +109,7 @@ record GoesOn (rest : List (List ℕ)) (progress : Progress) (script : Script) :
 
 goes_on : (lines rest : List (List ℕ)) (number : ℕ) (progress : Progress) (script : Script) → HasRead lines rest number progress → IsScriptOf lines script → GoesOn rest progress script
 goes_on lines rest number progress script h s =
-    let spelled = lines_rest h.front rest h.tokens s.tokens h.spelled (subst (λ (lines : List (List ℕ)). SpellsLines lines s.tokens) h.lines_are s.spelled) in
+    let spelled = spells_rest h.front rest h.tokens s.tokens h.spelled (subst (λ (lines : List (List ℕ)). SpellsLines lines s.tokens) h.lines_are s.spelled) in
     let says = fits_rest h.tokens spelled.0 (read_lines progress) (script_lines script) h.fitting
         (subst (λ (tokens : List (List Token)). FitsLines tokens (script_lines script)) spelled.1 s.fitting) in
     record { tokens = spelled.0; lines = says.0; lines_are = says.1; spelled = spelled.2; fitting = says.2 }
@@ -199,7 +193,7 @@ root_is = record { names = tt; deep = lit≤ tt; long = lit≤ tt }
 
 closing_parts : (place : Place) → AreLines (closing place)
 closing_parts Outside = tt
-closing_parts BeforeJob = ((refl, (a_name_is, (refl, (refl, (root_is, tt))))), ((refl, tt), ((refl, tt), tt)))
+closing_parts BeforeJob = ((refl, ((a_name_is, (lit< tt, tt)), (refl, (refl, ((root_is, (lit< tt, tt)), tt))))), ((refl, tt), ((refl, tt), tt)))
 closing_parts (WithinJob job) = ((refl, tt), ((refl, tt), tt))
 closing_parts (AfterJob job) = ((refl, tt), tt)
 
@@ -213,8 +207,8 @@ begins lines rest number progress passed h e =
       spelled = record {
         jobs = closed.jobs;
         tokens = (h.tokens ++ []) ++ map line_tokens more;
-        spelled = lines_append (h.front ++ passed) (map line_text more) (h.tokens ++ []) (map line_tokens more)
-            (lines_append h.front passed h.tokens [] h.spelled (nothing_left passed e)) (spells_printed more);
+        spelled = spells_append (h.front ++ passed) (map line_text more) (h.tokens ++ []) (map line_tokens more)
+            (spells_append h.front passed h.tokens [] h.spelled (spells_none passed e)) (spells_printed more (closing_parts progress.place));
         fitting = subst (λ (tokens : List (List Token)). FitsLines (tokens ++ map line_tokens more) (flat_map phase_lines closed.phases)) (sym (append-nil h.tokens))
             (subst (FitsLines (h.tokens ++ map line_tokens more)) (sym closed.lines)
             (fits_append h.tokens (map line_tokens more) (read_lines progress) more h.fitting (says_printed more (closing_parts progress.place))));
@@ -222,7 +216,7 @@ begins lines rest number progress passed h e =
     }
 
 next_first : (read : ℕ) (rest : List (List ℕ)) → (h : OneNext read rest) → unskipped rest ≡ h.line ∷ unskipped h.rest
-next_first read rest h = ap unskipped h.lines_are ∙ unskipped-append h.passed (h.line ∷ h.rest) ∙ (λ i. h.skipped i ++ kept_next h.line h.rest h.kept i)
+next_first read rest h = ap unskipped h.lines_are ∙ unskipped_append h.passed (h.line ∷ h.rest) ∙ (λ i. h.skipped i ++ keeps_line h.line h.rest h.kept i)
 
 -- the same lines in front of others
 elsewhere : (lines rest other : List (List ℕ)) (number : ℕ) (progress : Progress) → (h : HasRead lines rest number progress) → HasRead (h.front ++ other) other number progress
@@ -259,7 +253,7 @@ bad_at text rest read number progress h s o =
             append_assoc (h.front ++ o.passed) (o.line ∷ []) b.more ∙ append_assoc h.front o.passed (o.line ∷ b.more) in
         blocked_none (h.front ++ (o.passed ++ o.line ∷ b.more)) (o.passed ++ o.line ∷ b.more) (unskipped b.more) o.line read progress
         (elsewhere (lines_of text) rest (o.passed ++ o.line ∷ b.more) read progress h)
-        (unskipped-append o.passed (o.line ∷ b.more) ∙ (λ i. o.skipped i ++ kept_next o.line b.more o.kept i))
+        (unskipped_append o.passed (o.line ∷ b.more) ∙ (λ i. o.skipped i ++ keeps_line o.line b.more o.kept i))
         blocked b.script (subst (λ (lines : List (List ℕ)). IsScriptOf lines b.script) lines_are b.spelled)
 
 short_at : (text : List ℕ) (rest : List (List ℕ)) (read number : ℕ) (progress : Progress) → HasRead (lines_of text) rest read progress → IsStuck read rest progress number
@@ -296,18 +290,6 @@ stuck_none lines rest read number progress h s w script = by (next_line read res
     by (inr o) = blocked_none lines rest (unskipped o.rest) o.line read progress h (next_first read rest o) (s.none o.line (unskipped o.rest) (next_first read rest o)) script
 
 -- ---- where the reading is stuck
-
-taken_next : (lines rest : List (List ℕ)) (tokens : List Token) → (t : TakesLine lines tokens rest) → unskipped lines ≡ t.line ∷ unskipped rest
-taken_next lines rest tokens t =
-    ap unskipped t.lines_are ∙ unskipped-append t.passed (t.line ∷ rest) ∙ (λ i. t.skipped i ++ kept_next t.line rest (not_true (is_skipped t.line) t.kept) i)
-
-same_first : (a b : List ℕ) (more rest : List (List ℕ)) → a ∷ more ≡ b ∷ rest → a ≡ b
-same_first a b more rest e = cc
-
-taken_tokens : (lines rest more : List (List ℕ)) (next : List ℕ) (tokens others : List Token) → TakesLine lines tokens rest → unskipped lines ≡ next ∷ more → SpellsLine next others → tokens ≡ others
-taken_tokens lines rest more next tokens others t e s =
-    let same = same_first t.line next (unskipped rest) more (sym (taken_next lines rest tokens t) ∙ e) in
-    spells_once next tokens others (subst (λ (line : List ℕ). SpellsLine line tokens) same t.spelled) s
 
 -- at a line that says nothing
 pub unsaid : (read number : ℕ) (lines rest : List (List ℕ)) (tokens : List Token) → number ≡ next_number read lines → TakesLine lines tokens rest

@@ -36,12 +36,6 @@ SpellsEach (line ∷ lines) [] = ⊥
 abbrev pub SpellsLines : List (List ℕ) → List (List Token) → Type 0
 SpellsLines lines tokens = SpellsEach (unskipped lines) tokens
 
--- the lines in front spell these tokens, and the others are left
-pub record TakesLines (lines : List (List ℕ)) (tokens : List (List Token)) (rest : List (List ℕ)) : Type 0 where
-  pub front : List (List ℕ)
-  pub lines_are : lines ≡ front ++ rest
-  pub spelled : SpellsLines front tokens
-
 -- the first line that isn't skipped spells the tokens, and the lines after it are left
 pub record TakesLine (lines : List (List ℕ)) (tokens : List Token) (rest : List (List ℕ)) : Type 0 where
   pub passed : List (List ℕ)
@@ -54,11 +48,6 @@ pub record TakesLine (lines : List (List ℕ)) (tokens : List Token) (rest : Lis
 -- the first line that isn't skipped, where there is one, spells no tokens
 abbrev pub HasNoLine : List (List ℕ) → Type 0
 HasNoLine lines = (line : List ℕ) (more : List (List ℕ)) → unskipped lines ≡ line ∷ more → (tokens : List Token) → SpellsLine line tokens → ⊥
-
--- the number of a line that is left, or of one past the last, where so many lines were read
-pub record IsLineAhead (read : ℕ) (lines : List (List ℕ)) (number : ℕ) : Type 0 where
-  pub after : read < number
-  pub within : number ≤ read + length lines + 1
 
 -- the number of the first line that isn't skipped, or of one past the last where each is, where so many lines were read
 abbrev pub next_number : ℕ → List (List ℕ) → ℕ

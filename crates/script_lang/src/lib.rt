@@ -22,6 +22,10 @@ mod progress;
 mod quoted;
 mod reader;
 mod script;
+#[cfg(test)]
+mod tests;
+#[cfg(test)]
+mod word_tests;
 mod word_text;
 mod words;
 

@@ -192,13 +192,13 @@ fn is_hex(b: u8) -> bool
 fn is_decimal(b: u8) -> bool
     ensures { result ≡ (nat_le 48 b && nat_le b 57) }
 {
-    48 <= b && b <= 57
+    b'0' <= b && b <= b'9'
 }
 
 fn is_low_letter(b: u8) -> bool
     ensures { result ≡ (nat_le 97 b && nat_le b 102) }
 {
-    97 <= b && b <= 102
+    b'a' <= b && b <= b'f'
 }
 
 fn digit(b: u8) -> u8
@@ -206,5 +206,5 @@ fn digit(b: u8) -> u8
     ensures value { result ≡ digit_value b }
     ensures bound { result < 16 }
 {
-    if b < 58 { b - 48 } else { b - 87 }
+    if b <= b'9' { b - b'0' } else { b - 87 }
 }

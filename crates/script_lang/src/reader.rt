@@ -1,6 +1,6 @@
 //! The lines of a text, one after another.
 ghost use Rattle.std.specs.Prelude.{◌≡◌, ◌+◌, ◌≤◌, ◌<◌, ◌^◌, ℕ, List, [], ◌∷◌, length, true, false, Err, IfOk, OnOk, IsTrue, ◌↔◌};
-ghost use Rattle.script_lang.specs.Lines.{lines_of, unskipped, starts_skipped, TakesLine, HasNoLine, IsLineAhead, next_number, PassesLine, Skips};
+ghost use Rattle.script_lang.specs.Lines.{lines_of, unskipped, starts_skipped, TakesLine, HasNoLine, next_number, PassesLine, Skips};
 
 use crate::words::{Token, cut, place_of, words_of};
 use crate::{NoMemory, ScriptError};
@@ -51,7 +51,6 @@ impl Reader {
         ensures count { OnOk result (Advances self.old self.new) }
         ensures number { OnOk result (self.new.number ≡ next_number self.old.number (lines_of self.old.rest)) }
         ensures bad { (number : ℕ) → result ≡ Err (ScriptError.BadLine number) → HasNoLine (lines_of self.old.rest) }
-        ensures place { (number : ℕ) → result ≡ Err (ScriptError.BadLine number) → IsLineAhead self.old.number (lines_of self.old.rest) number }
         ensures named { (number : ℕ) → result ≡ Err (ScriptError.BadLine number) → number ≡ next_number self.old.number (lines_of self.old.rest) }
     {
         self.skip();

@@ -3,7 +3,7 @@ ghost use Rattle.std.specs.Prelude.{◌≡◌, ◌<◌, ◌≤◌, ◌++◌, len
 ghost use Rattle.std.specs.List.{flat_map};
 ghost use Rattle.std.specs.Char.{digit_char};
 ghost use Rattle.std.specs.Str.Lossy.{utf8_valid_len};
-ghost use Rattle.script_lang.specs.Words.{hex_text, byte_text, quoted_text, word_text};
+ghost use Rattle.script_lang.specs.Words.{hex_text, byte_text, quoted_text, word_text, ReadsBack};
 
 use crate::NoMemory;
 use crate::words::is_bare;
@@ -12,7 +12,8 @@ use std::str::from_utf8;
 /// Appends a word as a script's text has it: bare where it can be, and else quoted. After want of memory a part of it
 /// may have been appended. Costs one pass over the word.
 pub fn put_word(out: &mut Vec<u8>, word: &[u8]) -> Result<(), NoMemory>
-    ensures { OnOk result (out.new.items ≡ out.old.items ++ word_text word.now) }
+    ensures text { OnOk result (out.new.items ≡ out.old.items ++ word_text word.now) }
+    ensures read { ReadsBack word.now }
 {
     if is_bare(word) {
         put(out, word)
@@ -91,5 +92,5 @@ fn hex_digit(d: u8) -> u8
     requires { d < 16 }
     ensures { result ≡ digit_char d }
 {
-    if d < 10 { 48 + d } else { 87 + d }
+    if d < 10 { b'0' + d } else { 87 + d }
 }

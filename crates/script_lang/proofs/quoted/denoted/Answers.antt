@@ -1,4 +1,4 @@
-use Rattle.std.proofs.Common.{◌≡◌, None, true, false, sym, ◌∙◌, ap, subst, IsUtf8}
+use Rattle.std.proofs.Common.{◌≡◌, true, false, sym, ◌∙◌, ap, subst, IsUtf8}
 use Rattle.std.specs.List.{list_all}
 use Rattle.script_lang.specs.Words.{is_plain, SpellsQuoted}
 use Rattle.script_lang.specs.Quoted.{denoted}

@@ -1,4 +1,4 @@
-use Rattle.std.proofs.Common.{◌≡◌, false, drop, length}
+use Rattle.std.proofs.Common.{◌≡◌, false, drop}
 use Rattle.script_lang.specs.Quoted.{quote_from}
 use Rattle.script_lang.proofs.quoted.quote_place.Given as goal
 

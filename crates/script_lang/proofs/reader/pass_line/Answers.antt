@@ -1,4 +1,4 @@
-use Rattle.std.proofs.Common.{◌+◌, ◌∷◌, refl, sym, ◌∙◌, ap, take}
+use Rattle.std.proofs.Common.{◌∷◌, refl, sym, ◌∙◌, ap, take}
 use Rattle.std.specs.List.{slice_split, position}
 use Rattle.res_path.proofs.Cuts.{cut_None, cut_Some}
 use Rattle.script_lang.specs.Lines.{is_line_feed, lines_of}

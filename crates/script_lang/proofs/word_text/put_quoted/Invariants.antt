@@ -2,8 +2,8 @@ use Rattle.std.proofs.Common.{◌≡◌, ◌++◌, length}
 use Rattle.script_lang.specs.Words.{quoted_text}
 use Rattle.script_lang.proofs.word_text.put_quoted.Given as goal
 
-abbrev pub invariant-loop-rest : goal.invariant-loop-rest
-invariant-loop-rest l = l.out.items ++ quoted_text l.rest ≡ l.fn.out.items ++ quoted_text l.word
+abbrev pub invariant-loop-invalid : goal.invariant-loop-invalid
+invariant-loop-invalid l = l.out.items ++ quoted_text l.rest ≡ l.fn.out.items ++ quoted_text l.word
 
-abbrev pub decreases-loop-rest : goal.decreases-loop-rest
-decreases-loop-rest l = length l.rest
+abbrev pub decreases-loop-invalid : goal.decreases-loop-invalid
+decreases-loop-invalid l = length l.rest

@@ -1,6 +1,5 @@
-use Rattle.std.proofs.Common.{None, Some, sym, ap, subst, ◌++◌, ◌∷◌, []}
+use Rattle.std.proofs.Common.{sym, subst}
 use Rattle.script_lang.specs.Words.{SpellsLine}
-use Rattle.script_lang.specs.Tokens.{StartsWith}
 use Rattle.script_lang.proofs.Tokens.{Ahead, ahead_more, ahead_last, ahead_bad}
 use Rattle.script_lang.proofs.words.words_of.Goals as goal
 

@@ -1,5 +1,5 @@
-use Rattle.std.proofs.Common.{◌≡◌, ◌+◌, true, length, sym, ◌∙◌, ap, arith}
-use Rattle.script_lang.specs.Lines.{lines_of, starts_skipped}
+use Rattle.std.proofs.Common.{◌≡◌, true, length, sym, ◌∙◌, ap, arith}
+use Rattle.script_lang.specs.Lines.{starts_skipped}
 use Rattle.script_lang.proofs.Lined.{skips_more, next_skipped}
 use Rattle.script_lang.proofs.reader.Reader.skip.Goals as goal
 

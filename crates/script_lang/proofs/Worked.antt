@@ -1,0 +1,91 @@
+-- The definitions at worked words.
+use Rattle.std.proofs.Common.{◌≡◌, true, false, [], ◌∷◌, refl, lit≤}
+use Rattle.std.specs.Prelude.{codes}
+use Rattle.std.specs.Str.Lossy.{utf8_valid_len}
+use Rattle.std.specs.Str.{is_utf8, chars}
+use lib.Utf8.{encode}
+use Rattle.ws_ops.specs.declared.op.Op.TheVariants.{CreateFile, CreateProject, Derived, Move, Describe, Read}
+use Rattle.ws_ops.specs.declared.op.Want.TheVariants.{Cat}
+use Rattle.script_lang.specs.declared.script.Command.TheVariants.{Operation, Batch, EndBatch, Checkpoint}
+use Rattle.script_lang.specs.declared.script.Job.{Job}
+use Rattle.script_lang.specs.declared.script.Priority.TheVariants.{Long}
+use Rattle.script_lang.specs.declared.line.Line.TheVariants.{BeginPhase}
+use Rattle.script_lang.specs.Commands.{a_path, FitsPart, FitsParts, line_parts}
+use Rattle.script_lang.specs.Scripts.{script_text, IsScript}
+use Rattle.script_lang.specs.Words.{hexadecimal, SpellsLine, word_text}
+
+-- ---- what lines spell
+
+two_bare : SpellsLine (codes "a b") (record { bare = true; word = codes "a" } ∷ record { bare = true; word = codes "b" } ∷ [])
+two_bare = record { texts = codes "a" ∷ codes "b" ∷ []; line_is = refl; spelled = ((refl, refl), ((refl, refl), tt)); some = λ e. cc }
+
+an_empty_word : SpellsLine (34 ∷ 34 ∷ []) (record { bare = false; word = [] } ∷ [])
+an_empty_word = record {
+  texts = (34 ∷ 34 ∷ []) ∷ [];
+  line_is = refl;
+  spelled = (([], refl, record { items = []; each = tt; inner_is = refl; word_is = refl }), tt);
+  some = λ e. cc;
+}
+
+two_bytes : SpellsLine (34 ∷ 92 ∷ 120 ∷ 48 ∷ 48 ∷ 92 ∷ 120 ∷ 102 ∷ 102 ∷ 34 ∷ []) (record { bare = false; word = 0 ∷ 255 ∷ [] } ∷ [])
+two_bytes = record {
+  texts = (34 ∷ 92 ∷ 120 ∷ 48 ∷ 48 ∷ 92 ∷ 120 ∷ 102 ∷ 102 ∷ 34 ∷ []) ∷ [];
+  line_is = refl;
+  spelled = ((92 ∷ 120 ∷ 48 ∷ 48 ∷ 92 ∷ 120 ∷ 102 ∷ 102 ∷ [], refl, record { items = hexadecimal 48 48 ∷ hexadecimal 102 102 ∷ []; each = ((refl, refl), ((refl, refl), tt)); inner_is = refl; word_is = refl }), tt);
+  some = λ e. cc;
+}
+
+-- ---- what words are printed as
+
+bare : word_text (codes "a") ≡ codes "a"
+bare = refl
+
+empty : word_text [] ≡ 34 ∷ 34 ∷ []
+empty = refl
+
+spaced : word_text (codes "a b") ≡ 34 ∷ 97 ∷ 32 ∷ 98 ∷ 34 ∷ []
+unfolding utf8_valid_len is_utf8 chars encode
+spaced = refl
+
+bytes : word_text (0 ∷ 255 ∷ []) ≡ 34 ∷ 92 ∷ 120 ∷ 48 ∷ 48 ∷ 92 ∷ 120 ∷ 102 ∷ 102 ∷ 34 ∷ []
+unfolding utf8_valid_len is_utf8 chars encode
+bytes = refl
+
+accent : word_text (195 ∷ 169 ∷ []) ≡ 34 ∷ 195 ∷ 169 ∷ 34 ∷ []
+unfolding utf8_valid_len is_utf8 chars encode
+accent = refl
+
+quote : word_text (34 ∷ []) ≡ 34 ∷ 92 ∷ 34 ∷ 34 ∷ []
+unfolding utf8_valid_len is_utf8 chars encode
+quote = refl
+
+cut_short : word_text (226 ∷ 130 ∷ 110 ∷ 10 ∷ []) ≡ 34 ∷ 92 ∷ 120 ∷ 101 ∷ 50 ∷ 92 ∷ 120 ∷ 56 ∷ 50 ∷ 110 ∷ 92 ∷ 110 ∷ 34 ∷ []
+unfolding utf8_valid_len is_utf8 chars encode
+cut_short = refl
+
+-- ---- scripts
+
+one_job : Job
+one_job = record {
+  name = codes "j"; priority = Long;
+  commands = Batch ∷ Operation (CreateProject (codes "P" ∷ [])) ∷ Operation (CreateFile (codes "P" ∷ codes "a" ∷ []) (codes "hi")) ∷ Operation (Derived (codes "P" ∷ codes "a" ∷ []) true)
+      ∷ Operation (Move (codes "P" ∷ codes "a" ∷ []) []) ∷ Operation (Describe (codes "P" ∷ []) []) ∷ Operation (Read [] Cat) ∷ Checkpoint ∷ EndBatch ∷ [];
+}
+
+-- the words of each line as they stand in a text
+its_text : script_text (record { phases = record { jobs = one_job ∷ [] } ∷ [] }) ≡ codes
+    "phase\njob j 30 path /\nbatch\ncreate project /P\ncreate file /P/a hi\nderived /P/a on\nmove /P/a /\ndescribe /P \"\"\ncat /\ncheckpoint\nendbatch\nendjob\nendphase\n"
+unfolding one_job
+its_text = refl
+
+-- an empty text is the script without phases, and nothing else
+no_phases : IsScript [] (record { phases = [] })
+no_phases = record { jobs = tt; tokens = []; spelled = tt; fitting = tt }
+
+-- a keyword doesn't stand between quotes
+not_quoted : FitsParts (record { bare = false; word = codes "phase" } ∷ []) (line_parts BeginPhase) → ⊥
+not_quoted h = let bare : false ≡ true = h.0.0 in cc
+
+-- but the root may
+quoted_root : FitsPart (record { bare = false; word = codes "/" }) (a_path [])
+quoted_root = (record { names = tt; deep = lit≤ tt; long = lit≤ tt }, refl)
