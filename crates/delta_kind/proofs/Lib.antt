@@ -6,4 +6,5 @@ pub mod Firsts
 pub mod Moved
 pub mod Table
 pub mod Same
+pub mod Unmoved
 pub mod Elsewhere

@@ -175,7 +175,7 @@ all_none turn (row ∷ rows) h = by (turned turn row.1) h (all_none turn rows)
     by None i more = (refl, more i)
     by (Some m) i more = cc
 
-abbrev nowhere : ℕ → Option Names
+abbrev pub nowhere : ℕ → Option Names
 nowhere = get (empty {R = nat_cmp})
 
 -- places of no node, and so none

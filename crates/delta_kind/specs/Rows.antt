@@ -48,6 +48,10 @@ has_turn turn = list_any (λ row. is_some (turned turn row.1))
 abbrev pub node_by : (ℕ → Option Names) → (ℕ → Option Names) → Names → Sides → DeltaNode
 node_by losers gainers p s = node_of p s.0 s.1 (option_and_then losers (turned Gained s)) (option_and_then gainers (turned Lost s))
 
+-- what became of the path p, where nothing moved
+abbrev pub unmoved : Names → Sides → DeltaNode
+unmoved p s = node_of p s.0 s.1 None None
+
 -- a node for each path of the rows and each path above one, in path order
 abbrev pub delta_of_rows : Rows → List DeltaNode
 delta_of_rows rows = map (λ p. node_by (place_in Lost rows) (place_in Gained rows) p (sides_at rows p)) (with_above (row_paths rows))

@@ -7,6 +7,7 @@
 //! - `row`: a `Row`, a path with its entries before and after.
 //! - `places`: which paths lost and gained each node.
 //! - `walk`: the rows of two trees, walked side by side.
+//! - `plain`: the nodes of two trees between which nothing moved.
 //! - `making`: the delta of two trees, and the one pass over rows that makes it.
 #![tactic(auto)]
 
@@ -16,6 +17,7 @@ mod making;
 mod node;
 mod place;
 mod places;
+mod plain;
 mod row;
 #[cfg(test)]
 mod tests;

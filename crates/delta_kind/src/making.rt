@@ -10,6 +10,7 @@ ghost use Rattle.delta_kind.specs.Deltas.{delta, changed, InPathOrder, paths_of,
 ghost use Rattle.delta_kind.specs.Rows.{shown, row_paths, node_by, delta_of_rows, nodes_from, is_above, new_above, untouched};
 
 use crate::places::Moves;
+use crate::plain::unmoved_nodes;
 use crate::walk::Walk;
 use crate::{CHANGED, Delta, DeltaNode, Place, Row, Turn, flags};
 use res_path::Path;
@@ -28,6 +29,23 @@ pub fn compare(alloc: Global, before: &ElemMap, after: &ElemMap) -> Result<Delta
     ensures same { IfOk result (λ d. before.now.map ≡ after.now.map → d ≡ []) }
     // In whole trees a node tells just where what is at its path was, and where what was there is.
     ensures moves { IfOk result (λ d. Whole before.now.map → Whole after.now.map → TellsMoves before.now.map after.now.map d) }
+{
+    delta_between(alloc, before, after)
+}
+
+/// The delta from one tree to another. Where nothing can have moved it is told in one walk, without rows.
+fn delta_between(alloc: Global, before: &ElemMap, after: &ElemMap) -> Result<Delta, NoMemory>
+    ensures { IfOk result (λ d. d ≡ delta before.now.map after.now.map) }
+{
+    match unmoved_nodes(alloc, before, after)? {
+        Some(nodes) => Ok(Delta::of(nodes)),
+        None => moved_delta(alloc, before, after),
+    }
+}
+
+/// The delta from one tree to another, between which nodes may have moved.
+fn moved_delta(alloc: Global, before: &ElemMap, after: &ElemMap) -> Result<Delta, NoMemory>
+    ensures { IfOk result (λ d. d ≡ delta before.now.map after.now.map) }
 {
     let rows = changed_rows(alloc, before, after)?;
     delta_of_rows(alloc, rows.as_slice())
@@ -97,7 +115,7 @@ fn node_of(alloc: Global, row: &Row<'_>, moves: &Moves) -> Result<DeltaNode, NoM
 }
 
 /// Tells what is above the path and not above the last one, the highest first.
-fn tell_above(nodes: &mut Vec<DeltaNode>, path: &Path, last: Option<&Path>) -> Result<(), NoMemory>
+pub(crate) fn tell_above(nodes: &mut Vec<DeltaNode>, path: &Path, last: Option<&Path>) -> Result<(), NoMemory>
     ensures { OnOk result (nodes.new.items ≡ nodes.old.items ++ map untouched (new_above (option_copied last.entry) path.now)) }
 {
     if is_below_parent(path, last) {

@@ -1,7 +1,7 @@
 //! What was done.
 ghost use Rattle.std.specs.Prelude.{◌≡◌, ◌↔◌, [], length, IsTrue};
 
-use crate::{Event, Reply};
+use crate::{Event, Reply, State};
 use std::marker::Model;
 
 /// An event, the pass that asked it, and the reply.
@@ -13,9 +13,14 @@ pub struct Entry {
 }
 
 /// What was done, in order. A contract sees the list of entries.
+///
+/// The history of a workspace keeps the state that it led to until it is let go itself, so that nothing is let go where
+/// the program ends with it.
 #[derive(Debug, Drop)]
 pub struct History {
     entries: Vec<Entry>,
+    // the state that the entries led to, where a workspace gave them
+    state: Option<State>,
 }
 
 impl Model for History {
@@ -32,7 +37,20 @@ impl History {
     pub fn of(entries: Vec<Entry>) -> History
         ensures { result ≡ entries.items }
     {
-        History { entries }
+        History {
+            entries,
+            state: None,
+        }
+    }
+
+    /// The history with these entries, which led to this state.
+    pub(crate) fn to_state(entries: Vec<Entry>, state: State) -> History
+        ensures { result ≡ entries.items }
+    {
+        History {
+            entries,
+            state: Some(state),
+        }
     }
 
     /// The entries, in order.

@@ -93,19 +93,20 @@ impl Core {
         self.entries.as_slice()
     }
 
-    /// What was done since the workspace was opened, as a value of its own. It takes no memory.
+    /// What was done since the workspace was opened, as a value of its own. It takes no memory, and lets none go: the
+    /// state goes with the history.
     pub fn into_history(self) -> History
         ensures history { result ≡ self.history }
         ensures legal { Legal self.opened result }
         ensures told { told_of result ≡ notices self.opened result }
     {
         let Core {
-            state: _,
+            state,
             start: _,
             entries,
             opened: _,
         } = self;
-        History::of(entries)
+        History::to_state(entries, state)
     }
 
     /// The state.

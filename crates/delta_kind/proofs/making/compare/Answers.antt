@@ -1,4 +1,4 @@
-use Rattle.std.proofs.Common.{◌≡◌, ◌↔◌, false, [], map, sym, ap, subst, ◌∙◌}
+use Rattle.std.proofs.Common.{◌≡◌, ◌↔◌, false, [], sym, ap, subst, ◌∙◌}
 use Rattle.std.proofs.lemmas.Result.{IfOk-weaker}
 use Rattle.std.specs.FinMap.{get}
 use Rattle.res_path.specs.Paths.{Names, path_eq, is_prefix}
@@ -6,36 +6,30 @@ use Rattle.std.specs.List.{list_any}
 use Rattle.ws_elem.specs.Trees.{Whole}
 use Rattle.delta_kind.specs.Flags.{differs}
 use Rattle.delta_kind.specs.Deltas.{delta, changed, paths_of, TellsMoves}
-use Rattle.delta_kind.specs.Rows.{shown, delta_of_rows}
-use Rattle.delta_kind.proofs.Same.{rows_delta, delta_has, tells_nothing, tells_no_change}
+use Rattle.delta_kind.proofs.Same.{delta_has, tells_nothing, tells_no_change}
 use Rattle.delta_kind.proofs.Elsewhere.{tells_moves}
 use Rattle.delta_kind.proofs.making.compare.Goals as goal
 
-pub returns-clause-delta : goal.returns-clause-delta
-returns-clause-delta c = IfOk-weaker c.delta_of_rows.result _ (λ d. d ≡ delta c.args.before.now.map c.args.after.now.map) (λ d is.
-    is ∙ ap (λ rows. delta_of_rows (map shown rows)) c.as_slice.ensures.value ∙ rows_delta c.args.before.now.map c.args.after.now.map (map shown c.in_ok-rows.rows.items) c.in_ok-rows.ensures.rows c.in_ok-rows.ensures.order)
-    c.delta_of_rows.ensures
-
 pub returns-clause-paths : goal.returns-clause-paths
-returns-clause-paths c = IfOk-weaker c.delta_of_rows.result (λ d. d ≡ delta c.args.before.now.map c.args.after.now.map)
+returns-clause-paths c = IfOk-weaker c.delta_between.result (λ d. d ≡ delta c.args.before.now.map c.args.after.now.map)
     (λ d. (p : Names) → list_any (path_eq p) (paths_of d) ≡ list_any (is_prefix p) (changed c.args.before.now.map c.args.after.now.map))
     (λ d is p. ap (λ nodes. list_any (path_eq p) (paths_of nodes)) is ∙ delta_has c.args.before.now.map c.args.after.now.map p)
-    (returns-clause-delta c)
+    c.delta_between.ensures
 
 pub returns-clause-none : goal.returns-clause-none
-returns-clause-none c = IfOk-weaker c.delta_of_rows.result (λ d. d ≡ delta c.args.before.now.map c.args.after.now.map)
+returns-clause-none c = IfOk-weaker c.delta_between.result (λ d. d ≡ delta c.args.before.now.map c.args.after.now.map)
     (λ d. (d ≡ []) ↔ ((p : Names) → differs (get c.args.before.now.map p) (get c.args.after.now.map p) ≡ false))
     (λ d is. let all = tells_nothing c.args.before.now.map c.args.after.now.map in (λ h. all.0 (sym is ∙ h), λ h. is ∙ all.1 h))
-    (returns-clause-delta c)
+    c.delta_between.ensures
 
 pub returns-clause-same : goal.returns-clause-same
-returns-clause-same c = IfOk-weaker c.delta_of_rows.result (λ d. d ≡ delta c.args.before.now.map c.args.after.now.map)
+returns-clause-same c = IfOk-weaker c.delta_between.result (λ d. d ≡ delta c.args.before.now.map c.args.after.now.map)
     (λ d. c.args.before.now.map ≡ c.args.after.now.map → d ≡ [])
     (λ d is h. is ∙ tells_no_change c.args.before.now.map c.args.after.now.map h)
-    (returns-clause-delta c)
+    c.delta_between.ensures
 
 pub returns-clause-moves : goal.returns-clause-moves
-returns-clause-moves c = IfOk-weaker c.delta_of_rows.result (λ d. d ≡ delta c.args.before.now.map c.args.after.now.map)
+returns-clause-moves c = IfOk-weaker c.delta_between.result (λ d. d ≡ delta c.args.before.now.map c.args.after.now.map)
     (λ d. Whole c.args.before.now.map → Whole c.args.after.now.map → TellsMoves c.args.before.now.map c.args.after.now.map d)
     (λ d is wa wb. subst (TellsMoves c.args.before.now.map c.args.after.now.map) (sym is) (tells_moves c.args.before.now.map c.args.after.now.map wa wb))
-    (returns-clause-delta c)
+    c.delta_between.ensures

@@ -8,6 +8,6 @@ pub returns-clause-told : goal.returns-clause-told
 returns-clause-told c =
     let i = c.self.inside in
     let x : Session = record { opened = i.opened.value; history = i.entries.items; state = i.state } in
-    let is : c.of.result ≡ c.args.self.history = c.of.ensures ∙ ap (λ (y : Session). y.history) c.self.view_is in
+    let is : c.to_state.result ≡ c.args.self.history = c.to_state.ensures ∙ ap (λ (y : Session). y.history) c.self.view_is in
     subst (λ h. told_of h ≡ notices c.args.self.opened h) (sym is)
     (subst (λ (y : Session). told_of y.history ≡ notices y.opened y.history) c.self.view_is (session_told x c.self.invariant.1))
