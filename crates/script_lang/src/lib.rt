@@ -33,8 +33,8 @@ pub use error::ScriptError;
 pub use grammar::parse;
 pub use printing::{print, put_operation};
 pub use script::{Command, Commands, Job, Jobs, Phase, Phases, Priority, Script};
-pub use word_text::put_word;
 use std::alloc::AllocError;
+pub use word_text::put_word;
 
 /// Want of memory, as std tells it.
 pub type NoMemory = AllocError;
