@@ -1,8 +1,11 @@
 //! Scripts of jobs: what a script is, and how a text is read as one.
 //!
 //! - `script`: a `Script`: phases of jobs of commands.
-//! - `words`: the words of a line.
-//! - `reader`: the lines of a text, one after another.
+//! - `words`: the words of a line, bare and quoted.
+//! - `quoted`: what stands between the quotes of a word.
+//! - `word_text`: how words are printed.
+//! - `reader`: the lines of a text, one after another, and which are skipped.
+//! - `bare_words`, `bare_reader`: lines of bare words alone, which the grammar reads.
 //! - `command`: which command the words of a line are.
 //! - `grammar`: the script that a text spells.
 //! - `error`: why a text is no script.
