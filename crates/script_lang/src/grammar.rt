@@ -11,8 +11,8 @@ ghost use Rattle.script_lang.specs.Reading.{ReadsBatch, HasNoInner, ReadsHead, H
 ghost use Rattle.script_lang.specs.declared.script.Command.{Command};
 ghost use Rattle.script_lang.specs.declared.script.Script.{Script};
 
-use crate::command::{command_of, is};
 use crate::bare_reader::Reader;
+use crate::command::{command_of, is};
 use crate::script::{Command, Commands, Job, Jobs, Phase, Phases, Script};
 use crate::{NoMemory, ScriptError};
 use bytes::{ByteStr, Bytes};

@@ -29,8 +29,8 @@ mod words;
 pub use error::ScriptError;
 pub use grammar::parse;
 pub use script::{Command, Commands, Job, Jobs, Phase, Phases, Script};
-pub use word_text::put_word;
 use std::alloc::AllocError;
+pub use word_text::put_word;
 
 /// Want of memory, as std tells it.
 pub type NoMemory = AllocError;
