@@ -1,10 +1,10 @@
 //! Scripts of jobs: what a script is, how a text is read as one, and how one is printed.
 //!
 //! - `script`: a `Script`: phases of jobs of commands.
-//! - `words`: the words of a line.
+//! - `words`: the words of a line, bare and quoted.
 //! - `quoted`: what stands between the quotes of a word.
 //! - `word_text`: how words are printed.
-//! - `reader`: the lines of a text, one after another.
+//! - `reader`: the lines of a text, one after another, and which are skipped.
 //! - `line`: what one line of a script says.
 //! - `command`: which line the words of a line are.
 //! - `progress`: how far a script is read.
