@@ -1,6 +1,7 @@
 pub mod Items
 pub mod Tokens
 pub mod Lined
+pub mod Grown
 pub mod Quoting
 pub mod Printed
 pub mod Taking

@@ -114,9 +114,10 @@ kept_end text s h = by (lines_of text) refl
         let none : line ∷ unskipped rest ≡ [] = sym (keeps_line line rest kept) ∙ sym (ap unskipped e) ∙ h in cc
 
 pub at_skipped_end : (old new : List ℕ) → Skips old new → starts_skipped new ≡ false → ((length new == 0) ≡ true → unskipped (lines_of old) ≡ []) × (unskipped (lines_of old) ≡ [] → (length new == 0) ≡ true)
-at_skipped_end old new s n =
-    ((λ h. unskipped_left old new s ∙ ap unskipped ((at_end new).0 h)),
-    λ h. ap (λ text. length text == 0) (kept_end new n (sym (unskipped_left old new s) ∙ h)))
+at_skipped_end old new s n = (
+  (λ h. unskipped_left old new s ∙ ap unskipped ((at_end new).0 h)),
+  λ h. ap (λ text. length text == 0) (kept_end new n (sym (unskipped_left old new s) ∙ h)),
+)
 
 -- ---- lines that are taken
 

@@ -43,7 +43,7 @@ runs_commands [] phases job =
 runs_commands (command ∷ commands) phases job =
     runs_commands commands phases (record { name = job.name; priority = job.priority; commands = job.commands ++ command ∷ [] })
     ∙ ap (λ (all : List Command). Some (record { phases = phases; place = WithinJob (record { name = job.name; priority = job.priority; commands = all }) }))
-      (append_assoc job.commands (command ∷ []) commands)
+    (append_assoc job.commands (command ∷ []) commands)
 
 runs_job : (phases : List Phase) (job : Job) → runs (job_lines job) (Some (record { phases = phases; place = BeforeJob })) ≡ Some (record { phases = phases; place = AfterJob job })
 runs_job phases job =

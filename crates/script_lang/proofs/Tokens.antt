@@ -164,9 +164,11 @@ line_texts (text ∷ texts) [] line e s n = absurd s
 line_texts (text ∷ []) (token ∷ []) line e s n = record { text = text; line_is = e ∙ sym (append-nil text); spelled = s.0 }
 line_texts (text ∷ []) (token ∷ next ∷ tokens) line e s n = absurd s.1
 line_texts (text ∷ other ∷ texts) (token ∷ []) line e s n = absurd s.1
-line_texts (text ∷ other ∷ texts) (token ∷ next ∷ tokens) line e s n =
-    (join_with_byte 32 (other ∷ texts), record { text = text; line_is = e; spelled = s.0 },
-    line_texts (other ∷ texts) (next ∷ tokens) (join_with_byte 32 (other ∷ texts)) refl s.1 (λ h. cc))
+line_texts (text ∷ other ∷ texts) (token ∷ next ∷ tokens) line e s n = (
+  join_with_byte 32 (other ∷ texts),
+  record { text = text; line_is = e; spelled = s.0 },
+  line_texts (other ∷ texts) (next ∷ tokens) (join_with_byte 32 (other ∷ texts)) refl s.1 (λ h. cc),
+)
 
 pub line_rest : (line : List ℕ) (tokens : List Token) → SpellsLine line tokens → SpellsRest line tokens
 line_rest line tokens s = line_texts s.texts tokens line s.line_is s.spelled s.some

@@ -111,7 +111,7 @@ goes_on : (lines rest : List (List ℕ)) (number : ℕ) (progress : Progress) (s
 goes_on lines rest number progress script h s =
     let spelled = spells_rest h.front rest h.tokens s.tokens h.spelled (subst (λ (lines : List (List ℕ)). SpellsLines lines s.tokens) h.lines_are s.spelled) in
     let says = fits_rest h.tokens spelled.0 (read_lines progress) (script_lines script) h.fitting
-        (subst (λ (tokens : List (List Token)). FitsLines tokens (script_lines script)) spelled.1 s.fitting) in
+    (subst (λ (tokens : List (List Token)). FitsLines tokens (script_lines script)) spelled.1 s.fitting) in
     record { tokens = spelled.0; lines = says.0; lines_are = says.1; spelled = spelled.2; fitting = says.2 }
 
 -- where its lines lead
@@ -221,7 +221,13 @@ next_first read rest h = ap unskipped h.lines_are ∙ unskipped_append h.passed 
 -- the same lines in front of others
 elsewhere : (lines rest other : List (List ℕ)) (number : ℕ) (progress : Progress) → (h : HasRead lines rest number progress) → HasRead (h.front ++ other) other number progress
 elsewhere lines rest other number progress h = record {
-  front = h.front; lines_are = refl; number_is = h.number_is; tokens = h.tokens; spelled = h.spelled; fitting = h.fitting; jobs = h.jobs
+  front = h.front;
+  lines_are = refl;
+  number_is = h.number_is;
+  tokens = h.tokens;
+  spelled = h.spelled;
+  fitting = h.fitting;
+  jobs = h.jobs;
 }
 
 bad_at : (text : List ℕ) (rest : List (List ℕ)) (read number : ℕ) (progress : Progress) → HasRead (lines_of text) rest read progress → IsStuck read rest progress number
@@ -239,8 +245,8 @@ bad_at text rest read number progress h s o =
       within = omega (arith, number_is, size, sizes, h.number_is);
       before = subst IsBeginning (sym ((λ i. take (before i) (lines_are i)) ∙ take-append_seam good (o.line ∷ o.rest))) (begins (lines_of text) rest read progress o.passed h o.skipped);
       bad = λ n b.
-        let begun_at = subst IsBeginning ((λ i. take (at i) ((lines_are ∙ sym (append_assoc good (o.line ∷ []) o.rest)) i)) ∙ take-append_seam (good ++ o.line ∷ []) o.rest) b in
-        bad_behind begun_at;
+          let begun_at = subst IsBeginning ((λ i. take (at i) ((lines_are ∙ sym (append_assoc good (o.line ∷ []) o.rest)) i)) ∙ take-append_seam (good ++ o.line ∷ []) o.rest) b in
+          bad_behind begun_at;
       short = λ n. absurd (omega (arith, number_is, size, sizes, h.number_is, n));
     }
   where
@@ -250,7 +256,7 @@ bad_at text rest read number progress h s o =
     bad_behind : IsBeginning ((h.front ++ o.passed) ++ o.line ∷ []) → ⊥
     bad_behind b =
         let lines_are : ((h.front ++ o.passed) ++ o.line ∷ []) ++ b.more ≡ h.front ++ (o.passed ++ o.line ∷ b.more) =
-            append_assoc (h.front ++ o.passed) (o.line ∷ []) b.more ∙ append_assoc h.front o.passed (o.line ∷ b.more) in
+        append_assoc (h.front ++ o.passed) (o.line ∷ []) b.more ∙ append_assoc h.front o.passed (o.line ∷ b.more) in
         blocked_none (h.front ++ (o.passed ++ o.line ∷ b.more)) (o.passed ++ o.line ∷ b.more) (unskipped b.more) o.line read progress
         (elsewhere (lines_of text) rest (o.passed ++ o.line ∷ b.more) read progress h)
         (unskipped_append o.passed (o.line ∷ b.more) ∙ (λ i. o.skipped i ++ keeps_line o.line b.more o.kept i))
@@ -297,7 +303,7 @@ pub unsaid : (read number : ℕ) (lines rest : List (List ℕ)) (tokens : List T
 unsaid read number lines rest tokens n t u progress = record {
   number_is = n;
   none = λ next more e others s line f.
-    absurd (u line (subst (λ (tokens : List Token). FitsParts tokens (line_parts line)) (sym (taken_tokens lines rest more next tokens others t e s)) f));
+      absurd (u line (subst (λ (tokens : List Token). FitsParts tokens (line_parts line)) (sym (taken_tokens lines rest more next tokens others t e s)) f));
 }
 
 -- at a line that spells no words
@@ -312,8 +318,8 @@ pub barred : (read number : ℕ) (lines rest : List (List ℕ)) (line : Line) (p
 barred read number lines rest line progress n s g = record {
   number_is = n;
   none = λ next more e others t other f.
-    let same = taken_tokens lines rest more next s.tokens others s.taken e t in
-    ap (goes progress) (same_line others other line f (subst (λ (tokens : List Token). FitsParts tokens (line_parts line)) same s.fits)) ∙ g;
+      let same = taken_tokens lines rest more next s.tokens others s.taken e t in
+      ap (goes progress) (same_line others other line f (subst (λ (tokens : List Token). FitsParts tokens (line_parts line)) same s.fits)) ∙ g;
 }
 
 pub err_same : {T E : Type 0} (x y : E) → ◌≡◌ {A = Result T E} (Err x) (Err y) → x ≡ y

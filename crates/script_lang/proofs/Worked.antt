@@ -67,7 +67,8 @@ cut_short = refl
 
 one_job : Job
 one_job = record {
-  name = codes "j"; priority = Long;
+  name = codes "j";
+  priority = Long;
   commands = Batch ∷ Operation (CreateProject (codes "P" ∷ [])) ∷ Operation (CreateFile (codes "P" ∷ codes "a" ∷ []) (codes "hi")) ∷ Operation (Derived (codes "P" ∷ codes "a" ∷ []) true)
       ∷ Operation (Move (codes "P" ∷ codes "a" ∷ []) []) ∷ Operation (Describe (codes "P" ∷ []) []) ∷ Operation (Read [] Cat) ∷ Checkpoint ∷ EndBatch ∷ [];
 }

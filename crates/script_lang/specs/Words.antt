@@ -135,3 +135,8 @@ printed word = record { bare = is_bare word; word = word }
 -- what is printed for the word stands for it
 abbrev pub ReadsBack : Word → Type 0
 ReadsBack word = SpellsToken (word_text word) (printed word)
+
+-- bytes were appended, and what stood there before stays in front
+pub record Grows (old new : List ℕ) : Type 0 where
+  pub more : List ℕ
+  pub new_is : new ≡ old ++ more

@@ -66,8 +66,8 @@ fn next_line(reader: &mut Reader, alloc: Global) -> Result<Line, ScriptError>
     ensures bad { (number : ℕ) → result ≡ Err (BadLine number) → (progress : Progress) → IsStuck reader.old.number (lines_of reader.old.rest) progress number }
 {
     let tokens = reader.line(alloc)?;
-    match line_of(tokens.as_slice())? {
-        Some(line) => Ok(line),
-        None => Err(ScriptError::BadLine(reader.number)),
-    }
+    let Some(line) = line_of(tokens.as_slice())? else {
+        return Err(ScriptError::BadLine(reader.number));
+    };
+    Ok(line)
 }

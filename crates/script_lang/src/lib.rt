@@ -1,10 +1,10 @@
 //! Scripts of jobs: what a script is, how a text is read as one, and how one is printed.
 //!
 //! - `script`: a `Script`: phases of jobs of commands.
-//! - `words`: the words of a line.
+//! - `words`: the words of a line, bare and quoted.
 //! - `quoted`: what stands between the quotes of a word.
 //! - `word_text`: how words are printed.
-//! - `reader`: the lines of a text, one after another.
+//! - `reader`: the lines of a text, one after another, and which are skipped.
 //! - `line`: what one line of a script says.
 //! - `command`: which line the words of a line are.
 //! - `progress`: how far a script is read.
@@ -33,8 +33,8 @@ pub use error::ScriptError;
 pub use grammar::parse;
 pub use printing::{print, put_operation};
 pub use script::{Command, Commands, Job, Jobs, Phase, Phases, Priority, Script};
-pub use word_text::put_word;
 use std::alloc::AllocError;
+pub use word_text::put_word;
 
 /// Want of memory, as std tells it.
 pub type NoMemory = AllocError;

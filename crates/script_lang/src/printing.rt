@@ -59,7 +59,12 @@ fn put_head(out: &mut Vec<u8>, job: &Job) -> Result<(), NoMemory>
     ensures text { OnOk result (out.new.items ≡ out.old.items ++ (line_text (BeginJob job.now.name job.now.priority) ++ 10 ∷ [])) }
     ensures parts { OnOk result (AreParts (line_parts (BeginJob job.now.name job.now.priority))) }
 {
-    put_three(out, b"job", name_word(&job.name), priority_word(job.priority))?;
+    put_three(
+        out,
+        b"job",
+        name_word(&job.name),
+        priority_word(job.priority),
+    )?;
     put(out, b" path /\n")
 }
 

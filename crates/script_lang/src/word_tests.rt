@@ -44,7 +44,10 @@ fn a_quoted_word_denotes_what_its_items_denote(rt: HostRuntime) -> Result<(), Fa
         (b"\"\\x0a\\x9f\"", b"\x0a\x9f"),
         (b"\"\\x41\"", b"A"),
         (b"\"\xc3\xa9\"", b"\xc3\xa9"),
-        (b"\"\xf0\x9f\x98\x80 \xe2\x82\xac\"", b"\xf0\x9f\x98\x80 \xe2\x82\xac"),
+        (
+            b"\"\xf0\x9f\x98\x80 \xe2\x82\xac\"",
+            b"\xf0\x9f\x98\x80 \xe2\x82\xac",
+        ),
         (b"\"\\\"\"", b"\""),
         (b"\"\\\\\"", b"\\"),
         (b"\"\\\\\\\"\"", b"\\\""),

@@ -3,7 +3,7 @@ ghost use Rattle.std.specs.Prelude.{◌≡◌, ◌<◌, ◌≤◌, ◌++◌, len
 ghost use Rattle.std.specs.List.{flat_map};
 ghost use Rattle.std.specs.Char.{digit_char};
 ghost use Rattle.std.specs.Str.Lossy.{utf8_valid_len};
-ghost use Rattle.script_lang.specs.Words.{hex_text, byte_text, quoted_text, word_text, ReadsBack};
+ghost use Rattle.script_lang.specs.Words.{hex_text, byte_text, quoted_text, word_text, ReadsBack, Grows};
 
 use crate::NoMemory;
 use crate::words::is_bare;
@@ -14,6 +14,7 @@ use std::str::from_utf8;
 pub fn put_word(out: &mut Vec<u8>, word: &[u8]) -> Result<(), NoMemory>
     ensures text { OnOk result (out.new.items ≡ out.old.items ++ word_text word.now) }
     ensures read { ReadsBack word.now }
+    ensures kept { Grows out.old.items out.new.items }
 {
     if is_bare(word) {
         put(out, word)
@@ -25,7 +26,8 @@ pub fn put_word(out: &mut Vec<u8>, word: &[u8]) -> Result<(), NoMemory>
 }
 
 fn put(out: &mut Vec<u8>, text: &[u8]) -> Result<(), NoMemory>
-    ensures { OnOk result (out.new.items ≡ out.old.items ++ text.now) }
+    ensures text { OnOk result (out.new.items ≡ out.old.items ++ text.now) }
+    ensures kept { Grows out.old.items out.new.items }
 {
     out.extend_from_slice(text)?;
     Ok(())
@@ -33,7 +35,8 @@ fn put(out: &mut Vec<u8>, text: &[u8]) -> Result<(), NoMemory>
 
 /// Appends what stands between the quotes.
 fn put_quoted(out: &mut Vec<u8>, word: &[u8]) -> Result<(), NoMemory>
-    ensures { OnOk result (out.new.items ≡ out.old.items ++ quoted_text word.now) }
+    ensures text { OnOk result (out.new.items ≡ out.old.items ++ quoted_text word.now) }
+    ensures kept { Grows out.old.items out.new.items }
 {
     let mut rest = word;
     loop {
@@ -60,7 +63,8 @@ fn valid_len(text: &[u8]) -> usize
 
 /// Appends bytes of UTF-8.
 fn put_valid(out: &mut Vec<u8>, text: &[u8]) -> Result<(), NoMemory>
-    ensures { OnOk result (out.new.items ≡ out.old.items ++ flat_map byte_text text.now) }
+    ensures text { OnOk result (out.new.items ≡ out.old.items ++ flat_map byte_text text.now) }
+    ensures kept { Grows out.old.items out.new.items }
 {
     for b in text {
         put_byte(out, *b)?;
@@ -69,7 +73,8 @@ fn put_valid(out: &mut Vec<u8>, text: &[u8]) -> Result<(), NoMemory>
 }
 
 fn put_byte(out: &mut Vec<u8>, b: u8) -> Result<(), NoMemory>
-    ensures { OnOk result (out.new.items ≡ out.old.items ++ byte_text b) }
+    ensures text { OnOk result (out.new.items ≡ out.old.items ++ byte_text b) }
+    ensures kept { Grows out.old.items out.new.items }
 {
     match b {
         b'"' | b'\\' => put(out, &[b'\\', b]),
@@ -83,7 +88,8 @@ fn put_byte(out: &mut Vec<u8>, b: u8) -> Result<(), NoMemory>
 
 /// Appends a byte by its two digits.
 fn put_hex(out: &mut Vec<u8>, b: u8) -> Result<(), NoMemory>
-    ensures { OnOk result (out.new.items ≡ out.old.items ++ hex_text b) }
+    ensures text { OnOk result (out.new.items ≡ out.old.items ++ hex_text b) }
+    ensures kept { Grows out.old.items out.new.items }
 {
     put(out, &[b'\\', b'x', hex_digit(b / 16), hex_digit(b % 16)])
 }

@@ -13,8 +13,8 @@ returns-in_err-tokens-clause-bad c = λ number e.
     let bad = ap Err (sym p.2 ∙ err_same p.0 (BadLine number) (sym p.1 ∙ e)) in
     unspelled c.args.reader.now.number number (lines_of c.args.reader.now.rest) (c.in_err-tokens.ensures.named number bad) (c.in_err-tokens.ensures.bad number bad)
 
-pub returns-clause-bad : goal.returns-clause-bad
-returns-clause-bad c = λ number e.
+pub returns-in_default-clause-bad : goal.returns-in_default-clause-bad
+returns-in_default-clause-bad c = λ number e.
     unsaid c.args.reader.now.number number (lines_of c.args.reader.now.rest) (lines_of c.line.new.self.rest) c.in_ok-tokens.tokens.items
     (sym (same_number c.line.new.self.number number e) ∙ c.in_ok-tokens.ensures.number) c.in_ok-tokens.ensures.line
-    (subst (λ (tokens : List Token). IsLineOf tokens None) c.as_slice.ensures.value (rw c.in-None.is at c.in_ok-line.ensures))
+    (subst (λ (tokens : List Token). IsLineOf tokens None) c.as_slice.ensures.value (rw c.in_default.is at c.in_ok-line.ensures))
