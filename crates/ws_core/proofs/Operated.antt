@@ -1,8 +1,7 @@
 -- What operations do to a state, and what other events leave as it is.
-use Rattle.std.proofs.Common.{◌≡◌, ℕ, Bool, true, false, ◌==◌, List, length, refl, sym, ap, ◌∙◌, subst}
+use Rattle.std.proofs.Common.{◌≡◌, ℕ, Bool, true, false, ◌==◌, List, length, refl, sym, ap, ◌∙◌}
 use Rattle.std.specs.Prelude.{Option, Some, None, Result, Ok, Err, OnOk, IfOk, if◌then◌else◌}
 use Rattle.std.specs.Option.{option_map}
-use Rattle.delta_kind.specs.Deltas.{delta}
 use Rattle.ws_elem.specs.Trees.{Tree}
 use Rattle.ws_ops.specs.declared.op.Op.{Op}
 use Rattle.ws_ops.specs.declared.op.Op.TheVariants.{CreateFile, CreateFolder, CreateProject, Delete, Write, Touch, Derived, Move, Copy, Open, Close, Describe, Read}
@@ -13,14 +12,13 @@ use Rattle.ws_core.specs.declared.event.Event.{Event}
 use Rattle.ws_core.specs.declared.event.Event.TheVariants.{Enter, Leave, Schedule, Take, Finish, Batch, EndBatch, Checkpoint, Operation}
 use Rattle.ws_core.specs.declared.reply.Refusal.{Refusal}
 use Rattle.ws_core.specs.declared.reply.Refusal.TheVariants as refusals
-use Rattle.ws_core.specs.declared.reply.Reply.{Reply}
 use Rattle.ws_core.specs.declared.state.State.{State}
 use Rattle.ws_core.specs.Events.{is_read, change_of}
 use Rattle.ws_core.specs.States.{resources_of, with_resources, seen}
-use Rattle.ws_core.specs.Operations.{operated_by, operated}
+use Rattle.ws_core.specs.Operations.{operated_by, operated, act_operation}
 use Rattle.ws_core.specs.Effects.{effect}
 use Rattle.ws_core.specs.Refusals.{refusal}
-use Rattle.ws_core.specs.Steps.{acted, act, tells, told, notice, some_nodes, step}
+use Rattle.ws_core.specs.Steps.{acted, act, tells, told, step}
 
 -- what holds where a call succeeds follows from what holds there
 pub on_ok : {T E P Q : Type 0} (r : Result T E) → (P → Q) → OnOk r P → OnOk r Q
@@ -32,7 +30,7 @@ if_ok (Ok x) f h = f x h
 if_ok (Err e) f h = tt
 
 -- what an operation does to a state
-pub operation_acts : (s : State) (k : ℕ) (op : Op) → act s k (Operation op) ≡ (with_resources s (operated (resources_of s) op).0, (operated (resources_of s) op).1)
+pub operation_acts : (s : State) (k : ℕ) (op : Op) → act s k (Operation op) ≡ act_operation s op
 operation_acts s k op = by (ops.refusal (resources_of s) op)
   where
     by : (x : Option OpRefusal) → acted (option_map refusals.Operation x) s k (Operation op) ≡ (with_resources s (operated_by x (resources_of s) op).0, (operated_by x (resources_of s) op).1)
@@ -88,12 +86,12 @@ is_change (Operation o) op h = by (is_read o) h
     by false g = cc
 
 -- the event's operation is what the event does
-pub change_acts : (s : State) (k : ℕ) (e : Event) (op : Op) → change_of e ≡ Some op → act s k e ≡ (with_resources s (operated (resources_of s) op).0, (operated (resources_of s) op).1)
+pub change_acts : (s : State) (k : ℕ) (e : Event) (op : Op) → change_of e ≡ Some op → act s k e ≡ act_operation s op
 change_acts s k e op h = ap (act s k) (is_change e op h) ∙ operation_acts s k op
 
 -- and it is told where the event is a telling place
 pub change_steps : (s : State) (k : ℕ) (e : Event) (op : Op) → change_of e ≡ Some op → tells e (act s k e).0 ≡ true
-    → step s k e ≡ told true (with_resources s (operated (resources_of s) op).0) (operated (resources_of s) op).1
+    → step s k e ≡ told true (act_operation s op).0 (act_operation s op).1
 change_steps s k e op h tells_it =
     ap (λ b. told b (act s k e).0 (act s k e).1) tells_it ∙ ap (λ d. told true d.0 d.1) (change_acts s k e op h)
 

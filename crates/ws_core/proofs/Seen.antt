@@ -1,5 +1,5 @@
 -- A tree that was told as it is tells nothing.
-use Rattle.std.proofs.Common.{◌≡◌, true, refl, sym, ap}
+use Rattle.std.proofs.Common.{◌≡◌, sym, ap}
 use Rattle.std.specs.Prelude.{None}
 use Rattle.delta_kind.proofs.Same.{tells_no_change}
 use Rattle.ws_core.specs.declared.state.State.{State}

@@ -10,6 +10,8 @@ use Rattle.ws_ops.specs.Effects.{effect}
 use Rattle.ws_core.specs.declared.reply.Answer.{Answer}
 use Rattle.ws_core.specs.declared.reply.Answer.TheVariants as answers
 use Rattle.ws_core.specs.declared.reply.Refusal.TheVariants as refusals
+use Rattle.ws_core.specs.declared.state.State.{State}
+use Rattle.ws_core.specs.States.{resources_of, with_resources}
 
 -- the answer to an operation that is done
 abbrev pub answered : OpAnswer → Answer
@@ -24,3 +26,7 @@ operated_by (Some x) r op = (r, answers.Refused (refusals.Operation x))
 -- the resources after an operation, and its answer
 abbrev pub operated : Resources → Op → Resources × Answer
 operated r op = operated_by (refusal r op) r op
+
+-- the state after an operation, before anything is told, and its answer
+abbrev pub act_operation : State → Op → State × Answer
+act_operation s op = let done = operated (resources_of s) op in (with_resources s done.0, done.1)

@@ -28,8 +28,13 @@ pub fn refusal_of(
     ensures same { resources tree.new.map side.new ≡ resources tree.old.map side.old }
 {
     match apply(alloc, tree, side, op) {
-        Ok(Applied { answer: _, back }) => {
-            take_back(tree, side, back);
+        Ok(
+            Applied {
+                answer: _,
+                back: way_back,
+            },
+        ) => {
+            take_back(tree, side, way_back);
             drop_room(tree, side);
             Ok(None)
         }

@@ -15,8 +15,9 @@ use ws_elem::ElemMap;
 /// An open workspace: its state, with the history of what was done since it was opened. A contract sees the opened
 /// state, the history and the state.
 ///
-/// At every moment the history is a legal one from the opened state, and the state is what it leads to; the tree and
-/// the told tree are whole; files with equal stamps have equal contents; and each number is below its counter.
+/// At every moment the history is a legal one from the opened state, and the state is what it leads to. The tree and
+/// the told tree are whole, and the tree would be so with every closed project opened; files with equal stamps have
+/// equal contents, there, in closed projects and in the told tree; and each number is below its counter.
 #[derive(Drop)]
 pub struct Core {
     state: State,

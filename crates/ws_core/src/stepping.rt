@@ -4,10 +4,10 @@ ghost use Rattle.std.specs.Option.{option_map};
 ghost use Rattle.ws_ops.specs.Refusals as ops;
 ghost use Rattle.ws_core.specs.declared.event.Event.TheVariants.{Operation};
 ghost use Rattle.ws_core.specs.Events.{change_of};
-ghost use Rattle.ws_core.specs.Operations.{operated};
+ghost use Rattle.ws_core.specs.Operations.{act_operation};
 ghost use Rattle.ws_core.specs.Refusals.{refusal};
 ghost use Rattle.ws_core.specs.Sessions.{IsSound};
-ghost use Rattle.ws_core.specs.States.{resources_of, with_resources, told_tree};
+ghost use Rattle.ws_core.specs.States.{resources_of, told_tree};
 ghost use Rattle.ws_core.specs.Steps.{act, step, tells, told, notice};
 
 use crate::arranging::is_spent;
@@ -158,8 +158,8 @@ impl State {
     fn look(&mut self, alloc: Global, op: &Op) -> Result<Answer, NoMemory>
         requires sound { IsSound self.old }
         requires quiet { change_of (Operation op.now) ≡ nothing }
-        ensures state { OnOk result (self.new ≡ with_resources self.old (operated (resources_of self.old) op.now).0) }
-        ensures answer { IfOk result (λ answer. answer ≡ (operated (resources_of self.old) op.now).1) }
+        ensures state { OnOk result (self.new ≡ (act_operation self.old op.now).0) }
+        ensures answer { IfOk result (λ answer. answer ≡ (act_operation self.old op.now).1) }
         ensures err { OnErr result (self.new ≡ self.old) }
     {
         operate(alloc, &mut self.tree, &mut self.side, op)
@@ -168,8 +168,8 @@ impl State {
     /// Does an operation, or refuses it, and tells nothing.
     fn change(&mut self, alloc: Global, op: &Op) -> Result<Answer, NoMemory>
         requires { IsSound self.old }
-        ensures state { OnOk result (self.new ≡ with_resources self.old (operated (resources_of self.old) op.now).0) }
-        ensures answer { IfOk result (λ answer. answer ≡ (operated (resources_of self.old) op.now).1) }
+        ensures state { OnOk result (self.new ≡ (act_operation self.old op.now).0) }
+        ensures answer { IfOk result (λ answer. answer ≡ (act_operation self.old op.now).1) }
         ensures err { OnErr result (self.new ≡ self.old) }
     {
         match self.first_refusal(alloc, op)? {
@@ -181,8 +181,8 @@ impl State {
     /// The same. The first one after a telling place keeps the told tree.
     fn change_kept(&mut self, alloc: Global, op: &Op) -> Result<Answer, NoMemory>
         requires { IsSound self.old }
-        ensures state { OnOk result (self.new ≡ with_resources self.old (operated (resources_of self.old) op.now).0) }
-        ensures answer { IfOk result (λ answer. answer ≡ (operated (resources_of self.old) op.now).1) }
+        ensures state { OnOk result (self.new ≡ (act_operation self.old op.now).0) }
+        ensures answer { IfOk result (λ answer. answer ≡ (act_operation self.old op.now).1) }
         ensures err { OnErr result (self.new ≡ self.old) }
     {
         keep_told(&mut self.told, &self.tree, self.unchanged)?;
@@ -206,8 +206,8 @@ impl State {
     /// Does an operation that is a telling place, or refuses it, and tells.
     fn change_and_tell(&mut self, alloc: Global, op: &Op) -> Result<Reply, NoMemory>
         requires { IsSound self.old }
-        ensures state { OnOk result (self.new ≡ (told true (with_resources self.old (operated (resources_of self.old) op.now).0) (operated (resources_of self.old) op.now).1).0) }
-        ensures reply { IfOk result (λ reply. reply ≡ (told true (with_resources self.old (operated (resources_of self.old) op.now).0) (operated (resources_of self.old) op.now).1).1) }
+        ensures state { OnOk result (self.new ≡ (told true (act_operation self.old op.now).0 (act_operation self.old op.now).1).0) }
+        ensures reply { IfOk result (λ reply. reply ≡ (told true (act_operation self.old op.now).0 (act_operation self.old op.now).1).1) }
         ensures err { OnErr result (self.new ≡ self.old) }
     {
         match self.first_refusal(alloc, op)? {
@@ -219,8 +219,8 @@ impl State {
     /// The same. The first one after a telling place keeps the told tree.
     fn change_kept_and_tell(&mut self, alloc: Global, op: &Op) -> Result<Reply, NoMemory>
         requires { IsSound self.old }
-        ensures state { OnOk result (self.new ≡ (told true (with_resources self.old (operated (resources_of self.old) op.now).0) (operated (resources_of self.old) op.now).1).0) }
-        ensures reply { IfOk result (λ reply. reply ≡ (told true (with_resources self.old (operated (resources_of self.old) op.now).0) (operated (resources_of self.old) op.now).1).1) }
+        ensures state { OnOk result (self.new ≡ (told true (act_operation self.old op.now).0 (act_operation self.old op.now).1).0) }
+        ensures reply { IfOk result (λ reply. reply ≡ (told true (act_operation self.old op.now).0 (act_operation self.old op.now).1).1) }
         ensures err { OnErr result (self.new ≡ self.old) }
     {
         keep_told(&mut self.told, &self.tree, self.unchanged)?;

@@ -1,8 +1,7 @@
-use Rattle.std.proofs.Common.{◌≡◌, true, [], ◌∷◌, ◌++◌, sym, ap, ◌∙◌, subst}
+use Rattle.std.proofs.Common.{◌≡◌, [], ◌∷◌, ◌++◌, sym, ap, ◌∙◌, subst}
 use Rattle.std.specs.Prelude.{None}
-use Rattle.ws_elem.specs.Trees.{Tree, fresh_tree}
+use Rattle.ws_elem.specs.Trees.{fresh_tree}
 use Rattle.ws_elem.specs.RoomyTrees.{RoomyTree}
-use Rattle.ws_core.specs.declared.state.State.{State}
 use Rattle.ws_core.specs.Histories.{fresh}
 use Rattle.ws_core.specs.Sessions.{IsSound}
 use Rattle.ws_core.proofs.SoundKept.{fresh_sound}

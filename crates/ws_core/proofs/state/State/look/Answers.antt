@@ -1,8 +1,7 @@
 use Rattle.std.proofs.Common.{ap, ◌∙◌}
 use Rattle.ws_ops.specs.Resources.{resources}
 use Rattle.ws_core.specs.declared.state.State.{State}
-use Rattle.ws_core.specs.Operations.{operated}
-use Rattle.ws_core.specs.States.{resources_of, with_resources}
+use Rattle.ws_core.specs.Operations.{act_operation}
 use Rattle.ws_core.proofs.Operated.{on_ok, only_reads, look_seen}
 use Rattle.ws_core.proofs.state.State.look.Goals as goal
 
@@ -13,4 +12,4 @@ returns-clause-state c =
     on_ok c.operate.result (λ after.
     look_seen i.unchanged i.told.map (resources i.tree.map i.side) (resources c.operate.new.tree.map c.operate.new.side) i.next_pass i.passes i.batches i.waiting op
     (only_reads op c.requires.quiet) after
-    ∙ ap (λ (s : State). with_resources s (operated (resources_of s) op).0) c.self.view_is) c.operate.ensures.resources
+    ∙ ap (λ (s : State). (act_operation s op).0) c.self.view_is) c.operate.ensures.resources

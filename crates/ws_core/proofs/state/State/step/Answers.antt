@@ -1,5 +1,5 @@
 use Rattle.std.proofs.Common.{◌≡◌, true, ap, sym, ◌∙◌}
-use Rattle.ws_core.specs.Steps.{step, act, tells}
+use Rattle.ws_core.specs.Steps.{act, tells}
 use Rattle.ws_core.proofs.Operated.{on_ok, if_ok, change_steps}
 use Rattle.ws_core.proofs.SoundKept.{sound_after}
 use Rattle.ws_core.proofs.state.State.step.Goals as goal
