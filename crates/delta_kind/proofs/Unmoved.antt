@@ -101,8 +101,7 @@ order a b = rises_sorted None (row_paths (rows_between a b)) (between_rises a b)
 pub telling_ends : (a b : Tree) (nodes : List DeltaNode) (last : Option Names) (lost gained : Bool) (walk : Rows) → walk ≡ []
     → Telling (rows_between a b) nodes last lost gained (filter row_differs walk) → (nodes ≡ delta a b) × InPathOrder (paths_of nodes)
 telling_ends a b nodes last lost gained walk is h =
-    let all = told_all (rows_between a b) nodes last lost gained (subst (λ rows. Telling (rows_between a b) nodes last lost gained (filter row_differs rows)) is h) in
-    (
+    let all = told_all (rows_between a b) nodes last lost gained (subst (λ rows. Telling (rows_between a b) nodes last lost gained (filter row_differs rows)) is h) in (
       all ∙ pass_is (rows_between a b) (order a b) ∙ rows_delta a b (rows_between a b) (between_found a b) (order a b),
       subst (λ ns. InPathOrder (paths_of ns)) (sym all) (pass_rises (place_in Lost (rows_between a b)) (place_in Gained (rows_between a b)) (rows_between a b) (order a b)),
     )

@@ -115,7 +115,11 @@ fn node_of(alloc: Global, row: &Row<'_>, moves: &Moves) -> Result<DeltaNode, NoM
 }
 
 /// Tells what is above the path and not above the last one, the highest first.
-pub(crate) fn tell_above(nodes: &mut Vec<DeltaNode>, path: &Path, last: Option<&Path>) -> Result<(), NoMemory>
+pub(crate) fn tell_above(
+    nodes: &mut Vec<DeltaNode>,
+    path: &Path,
+    last: Option<&Path>,
+) -> Result<(), NoMemory>
     ensures { OnOk result (nodes.new.items ≡ nodes.old.items ++ map untouched (new_above (option_copied last.entry) path.now)) }
 {
     if is_below_parent(path, last) {
