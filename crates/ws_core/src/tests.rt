@@ -147,8 +147,8 @@ fn put_nodes(alloc: Global, text: &mut String, nodes: &[DeltaNode]) -> Result<()
     for node in nodes {
         let line = format!(in alloc; "; {} {} {}", node.path, node.kind, node.flags)?;
         text.push_str(line.as_str())?;
-        put_place(alloc, text, "from", node.moved_from.as_ref())?;
-        put_place(alloc, text, "to", node.moved_to.as_ref())?;
+        put_place(alloc, text, "from", node.moved_from.path())?;
+        put_place(alloc, text, "to", node.moved_to.path())?;
     }
     Ok(())
 }
