@@ -6,7 +6,7 @@ use Rattle.std.proofs.lemmas.Grind.{common_steps}
 use Rattle.std.proofs.lemmas.Bool.Decides.{nat_tests}
 use Rattle.std.specs.List.{slice_split, onto_first}
 use Rattle.script_lang.specs.Words.{Token, SpellsLine}
-use Rattle.script_lang.specs.Lines.{is_line_feed, without_empty_end, lines_of, is_skipped, unskipped, SpellsEach, TakesLine, HasNoLine, next_number, starts_skipped, PassesLine, Skips}
+use Rattle.script_lang.specs.Lines.{is_line_feed, without_empty_end, lines_of, is_skipped, unskipped, TakesLine, HasNoLine, next_number, starts_skipped, PassesLine, Skips}
 
 kept_line : (line next : List ℕ) (lines : List (List ℕ)) → without_empty_end (line ∷ next ∷ lines) ≡ line ∷ without_empty_end (next ∷ lines)
 kept_line [] next lines = refl

@@ -1,25 +1,20 @@
 -- Lines one after another, and the lines that they say.
-use Rattle.std.proofs.Common.{◌≡◌, ◌⊎◌, inl, inr, ℕ, ◌+◌, ◌≤◌, ◌<◌, nat_le, Bool, true, false, cond, not, List, [], ◌∷◌, ◌++◌, map, length, refl, sym, ◌∙◌, ap, subst, append_assoc, append-nil, arith}
-use Rattle.std.specs.Prelude.{◌≢◌, codes, if◌then◌else◌, IsUtf8}
+use Rattle.std.proofs.Common.{◌≡◌, ◌⊎◌, inl, inr, ℕ, ◌+◌, ◌<◌, nat_le, Bool, true, false, List, [], ◌∷◌, ◌++◌, map, length, refl, sym, ◌∙◌, ap, subst, arith}
+use Rattle.std.specs.Prelude.{◌≢◌}
 use Rattle.std.proofs.lemmas.Bool.Decides.{nat_tests}
 use Rattle.res_path.proofs.Spelled.{both}
-use Rattle.std.specs.List.{filter, list_all, AllByRecursion, join_with_byte}
-use Rattle.std.proofs.lemmas.List.{length-append}
-use Rattle.std.proofs.lemmas.List.Elements.{filter-append}
-use Rattle.res_path.specs.Names.{IsName}
-use Rattle.res_path.specs.Paths.{IsPath, path_text}
-use Rattle.ws_ops.specs.declared.op.Op.{Op}
-use Rattle.ws_ops.specs.declared.op.Op.TheVariants.{CreateFile, CreateFolder, CreateProject, Delete, Write, Touch, Derived, Move, Copy, Open, Close, Describe, Read}
+use Rattle.std.specs.List.{list_all, AllByRecursion}
+use Rattle.res_path.specs.Paths.{path_text}
+use Rattle.ws_ops.specs.declared.op.Op.TheVariants.{Delete, Read}
 use Rattle.ws_ops.specs.declared.op.Want.TheVariants.{Show, Cat}
-use Rattle.script_lang.specs.declared.script.Command.{Command}
 use Rattle.script_lang.specs.declared.script.Command.TheVariants.{Operation, Batch, EndBatch, Checkpoint}
 use Rattle.script_lang.specs.declared.line.Line.{Line}
 use Rattle.script_lang.specs.declared.line.Line.TheVariants.{BeginPhase, BeginJob, InJob, EndJob, EndPhase}
-use Rattle.script_lang.specs.Words.{Word, Token, AreBytes, ReadsBack, word_text, printed, is_bare, is_bare_byte}
+use Rattle.script_lang.specs.Words.{Token, AreBytes, ReadsBack, printed, is_bare_byte}
 use Rattle.script_lang.specs.Lines.{is_skipped, unskipped, SpellsEach, SpellsLines, next_number}
-use Rattle.script_lang.specs.Commands.{Part, keyword, a_name, a_path, a_word, FitsPart, FitsParts, operation_parts, line_parts}
+use Rattle.script_lang.specs.Commands.{Part, keyword, a_name, a_path, a_word, FitsParts, line_parts}
 use Rattle.script_lang.specs.Scripts.{FitsLines, part_word, line_text}
-use Rattle.script_lang.specs.Printed.{IsPart, AreParts, AreLines}
+use Rattle.script_lang.specs.Printed.{AreParts, AreLines}
 use Rattle.script_lang.proofs.Coded.{same_line}
 use Rattle.script_lang.proofs.Lined.{keeps_line}
 use Rattle.script_lang.proofs.Printed.{line_spells, text_spells}

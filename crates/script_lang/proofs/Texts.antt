@@ -1,5 +1,5 @@
 -- The texts that are printed.
-use Rattle.std.proofs.Common.{◌≡◌, ℕ, suc, zero, ◌<◌, ◌≤◌, Fits, w8, Bool, true, List, [], ◌∷◌, ◌++◌, map, length, get_or, take, refl, sym, ◌∙◌, ap, subst, append_assoc, append-nil, arith}
+use Rattle.std.proofs.Common.{◌≡◌, ℕ, ◌≤◌, List, [], ◌∷◌, ◌++◌, map, length, take, refl, sym, ◌∙◌, ap, subst, append_assoc, arith}
 use Rattle.std.specs.Prelude.{IsTrue}
 use Rattle.std.specs.List.{flat_map, AllByRecursion}
 use Rattle.std.proofs.lemmas.Grind.{flat_map-append}
@@ -12,7 +12,7 @@ use Rattle.script_lang.specs.declared.line.Line.{Line}
 use Rattle.script_lang.specs.declared.line.Line.TheVariants.{BeginPhase, BeginJob, InJob, EndJob, EndPhase}
 use Rattle.script_lang.specs.Lines.{lines_of, SpellsLines}
 use Rattle.script_lang.specs.Commands.{command_parts, line_parts}
-use Rattle.script_lang.specs.Scripts.{HasOneJob, job_lines, phase_lines, script_lines, script_text, line_text, part_word, FitsLines, IsScript}
+use Rattle.script_lang.specs.Scripts.{HasOneJob, job_lines, phase_lines, script_lines, script_text, line_text, part_word, IsScript}
 use Rattle.script_lang.specs.Printed.{ended, AreParts, AreLines}
 use Rattle.script_lang.proofs.Printed.{has_no_line_feed, line_no_feed, lines_back}
 use Rattle.script_lang.proofs.Spelling.{line_tokens, spells_printed, says_printed}

@@ -1,10 +1,7 @@
 -- How a script is read, line by line.
-use Rattle.std.specs.Prelude.{◌≡◌, ◌≢◌, ℕ, ◌+◌, ◌≤◌, Bool, List, [], ◌∷◌, ◌++◌, map, length, Option, Some, None, codes}
-use Rattle.std.specs.List.{flat_map, AllByRecursion}
-use Rattle.res_path.specs.Names.{IsName}
-use Rattle.res_path.specs.Paths.{Names, IsPath, path_text}
-use Rattle.script_lang.specs.declared.script.Job.{Job}
-use Rattle.script_lang.specs.declared.script.Phase.{Phase}
+use Rattle.std.specs.Prelude.{◌≡◌, ℕ, ◌+◌, ◌≤◌, List, [], ◌∷◌, ◌++◌, map, length, Option, Some, None, codes}
+use Rattle.std.specs.List.{flat_map}
+use Rattle.res_path.specs.Paths.{Names}
 use Rattle.script_lang.specs.declared.script.Priority.{Priority}
 use Rattle.script_lang.specs.declared.line.Line.{Line}
 use Rattle.script_lang.specs.declared.line.Line.TheVariants.{BeginPhase, BeginJob, InJob, EndJob, EndPhase}
@@ -12,9 +9,9 @@ use Rattle.script_lang.specs.declared.progress.Place.{Place}
 use Rattle.script_lang.specs.declared.progress.Place.TheVariants.{Outside, BeforeJob, WithinJob, AfterJob}
 use Rattle.script_lang.specs.declared.progress.Progress.{Progress}
 use Rattle.script_lang.specs.declared.reader.Reader.{Reader}
-use Rattle.script_lang.specs.Words.{Word, Token, SpellsLine}
+use Rattle.script_lang.specs.Words.{Token, SpellsLine}
 use Rattle.script_lang.specs.Lines.{lines_of, unskipped, next_number, TakesLine}
-use Rattle.script_lang.specs.Commands.{keyword, a_path, a_name, a_word, FitsPart, FitsParts, priority_word, line_parts}
+use Rattle.script_lang.specs.Commands.{keyword, a_path, a_name, FitsPart, FitsParts, priority_word, line_parts}
 use Rattle.script_lang.specs.Scripts.{job_lines, phase_lines}
 
 -- ---- one line

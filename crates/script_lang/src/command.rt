@@ -1,12 +1,9 @@
 //! Which line of a script the words of a line are.
-ghost use Rattle.std.specs.Prelude.{◌≡◌, ◌≢◌, ℕ, [], ◌∷◌, length, Some, IfOk, MatchOption, IsTrue, ◌↔◌, codes};
-ghost use Rattle.std.specs.Str.{bytes_eq};
-ghost use Rattle.res_path.specs.Paths.{Names, path_text};
-ghost use Rattle.ws_ops.specs.declared.op.Op.{Op};
+ghost use Rattle.std.specs.Prelude.{◌≡◌, [], ◌∷◌, IfOk, IsTrue, ◌↔◌, codes};
 ghost use Rattle.script_lang.specs.declared.words.Token.{Token};
 ghost use Rattle.script_lang.specs.declared.line.Line.TheVariants.{InJob};
 ghost use Rattle.script_lang.specs.declared.script.Command.TheVariants.{Operation};
-ghost use Rattle.script_lang.specs.Commands.{FitsPart, keyword, a_path, a_name, priority_word, switch_word};
+ghost use Rattle.script_lang.specs.Commands.{FitsPart, keyword, a_path};
 ghost use Rattle.script_lang.specs.Reading.{IsLineOf, IsPathFound, IsNameFound, IsPriorityFound, HasOtherVerb};
 
 use crate::NoMemory;

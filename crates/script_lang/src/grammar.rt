@@ -1,5 +1,5 @@
 //! The script that a text spells.
-ghost use Rattle.std.specs.Prelude.{◌≡◌, ℕ, List, length, Err, IfOk, OnOk, MatchResult, IsTrue, ◌↔◌};
+ghost use Rattle.std.specs.Prelude.{◌≡◌, ℕ, Err, IfOk, OnOk, MatchResult, IsTrue, ◌↔◌};
 ghost use Rattle.script_lang.specs.declared.error.ScriptError.TheVariants.{BadLine, Memory};
 ghost use Rattle.script_lang.specs.declared.script.Script.{Script};
 ghost use Rattle.script_lang.specs.declared.progress.Progress.{Progress};

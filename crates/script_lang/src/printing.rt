@@ -1,9 +1,7 @@
 //! The text of a script.
-ghost use Rattle.std.specs.Prelude.{◌≡◌, ◌++◌, [], ◌∷◌, map, IfOk, OnOk, codes};
-ghost use Rattle.std.specs.List.{flat_map, AllByRecursion};
+ghost use Rattle.std.specs.Prelude.{◌≡◌, ◌++◌, [], ◌∷◌, IfOk, OnOk};
 ghost use Rattle.res_path.specs.Paths.{path_text};
-ghost use Rattle.ws_ops.specs.declared.op.Want.{Want};
-ghost use Rattle.script_lang.specs.declared.line.Line.TheVariants.{BeginPhase, BeginJob, InJob, EndJob, EndPhase};
+ghost use Rattle.script_lang.specs.declared.line.Line.TheVariants.{BeginJob, InJob};
 ghost use Rattle.script_lang.specs.Words.{AreBytes, word_text};
 ghost use Rattle.script_lang.specs.Commands.{a_name, a_path, a_word, priority_word, want_word, switch_word, operation_parts, command_parts, line_parts};
 ghost use Rattle.script_lang.specs.Scripts.{IsScript, script_text, operation_text, line_text, phase_lines, job_lines, HasOneJob};

@@ -1,5 +1,5 @@
 //! How far a script is read.
-ghost use Rattle.std.specs.Prelude.{◌≡◌, IfOk, IsTrue, ◌↔◌, [], Some, None};
+ghost use Rattle.std.specs.Prelude.{◌≡◌, IfOk, IsTrue, ◌↔◌, []};
 ghost use Rattle.script_lang.specs.declared.progress.Place.TheVariants.{Outside, BeforeJob, WithinJob, AfterJob};
 ghost use Rattle.script_lang.specs.Reading.{goes};
 

@@ -1,4 +1,3 @@
-use Rattle.std.proofs.Common.{◌≡◌}
 use Rattle.script_lang.proofs.command.of_three.Goals as goal
 
 pub returns-then-is_key-4 : goal.returns-then-is_key-4

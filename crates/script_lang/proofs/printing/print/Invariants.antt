@@ -1,4 +1,4 @@
-use Rattle.std.proofs.Common.{◌≡◌, ◌++◌, take}
+use Rattle.std.proofs.Common.{◌≡◌, take}
 use Rattle.std.specs.List.{flat_map, AllByRecursion}
 use Rattle.script_lang.specs.Scripts.{phase_lines, HasOneJob}
 use Rattle.script_lang.specs.Printed.{ended, AreLines}
