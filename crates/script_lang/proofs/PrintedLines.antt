@@ -1,5 +1,5 @@
 -- A text of printed lines spells their words.
-use Rattle.std.proofs.Common.{◌≡◌, ℕ, true, false, List, [], ◌∷◌, ◌++◌, map, refl, sym, ◌∙◌, ap, subst, append_assoc}
+use Rattle.std.proofs.Common.{◌≡◌, true, false, List, [], ◌∷◌, ◌++◌, map, sym, ◌∙◌, ap, subst, append_assoc}
 use Rattle.std.specs.List.{flat_map, join_with_byte, AllByRecursion}
 use Rattle.script_lang.specs.Words.{Word, is_bare, SpellsLine, word_text, printed, ReadsBack}
 use Rattle.script_lang.specs.Lines.{lines_of, is_skipped, SpellsLines}
