@@ -4,3 +4,4 @@ pub mod Printed
 pub mod Taken
 pub mod Ended
 pub mod Stays
+pub mod Judged

@@ -1,12 +1,12 @@
 -- The lines of a history's entries.
 use Rattle.std.specs.Prelude.{ℕ, Bool, true, false, if◌then◌else◌, List, [], ◌∷◌, ◌++◌, length, codes, decimal}
-use Rattle.std.specs.List.{flat_map}
 use Rattle.res_path.specs.Paths.{Names, path_text}
 use Rattle.ws_elem.specs.Kinds.{kind_word}
 use Rattle.ws_elem.specs.declared.element.Element.{Element}
 use Rattle.proj_desc.specs.Words.{cause_words}
 use Rattle.proj_desc.specs.declared.cause.DescCause.{DescCause}
 use Rattle.proj_desc.specs.declared.cause.DescCause.TheVariants.{Member, Double}
+use Rattle.ws_ops.specs.Entries.{Entries}
 use Rattle.ws_ops.specs.declared.op.Op.{Op}
 use Rattle.ws_ops.specs.declared.op.Op.TheVariants.{Read}
 use Rattle.ws_ops.specs.declared.op.Want.{Want}
@@ -14,7 +14,7 @@ use Rattle.ws_ops.specs.declared.op.Want.TheVariants.{Show, Cat}
 use Rattle.ws_ops.specs.declared.refusal.OpRefusal.{OpRefusal}
 use Rattle.ws_ops.specs.declared.refusal.OpRefusal.TheVariants as ops
 use Rattle.script_lang.specs.Words.{word_text}
-use Rattle.script_lang.specs.Commands.{operation_text}
+use Rattle.script_lang.specs.Scripts.{operation_text}
 use Rattle.ws_core.specs.declared.event.Event.{Event}
 use Rattle.ws_core.specs.declared.event.Event.TheVariants.{Enter, Leave, Schedule, Take, Finish, Batch, EndBatch, Checkpoint, Operation}
 use Rattle.ws_core.specs.declared.reply.Refusal.{Refusal}
@@ -72,14 +72,23 @@ switch on = if on then codes "on" else codes "off"
 abbrev pub contents_text : Element → List ℕ
 contents_text e = kind_word e.kind ++ codes " node " ++ decimal e.node ++ codes " stamp " ++ decimal e.stamp ++ codes " len " ++ decimal (length e.bytes)
 
--- whether it is derived and open, and its description's stamp; no element has markers or synchronisation bytes yet
-abbrev pub state_text : Element → List ℕ
-state_text e = codes " derived " ++ switch e.derived ++ codes " open " ++ switch e.opened ++ codes " desc " ++ decimal e.desc_stamp ++ codes " marks 0 syncs 0"
+-- whether it is derived, and whether it is open
+abbrev pub switches_text : Element → List ℕ
+switches_text e = codes " derived " ++ switch e.derived ++ codes " open " ++ switch e.opened
+
+-- its description's stamp; no element has markers or synchronisation bytes yet
+abbrev pub description_text : Element → List ℕ
+description_text e = codes " desc " ++ decimal e.desc_stamp ++ codes " marks " ++ decimal 0 ++ codes " syncs " ++ decimal 0
 
 -- what was asked of an element
 abbrev pub seen_text : Want → Element → List ℕ
-seen_text Show e = contents_text e ++ state_text e
+seen_text Show e = contents_text e ++ switches_text e ++ description_text e
 seen_text Cat e = word_text e.bytes
+
+-- what was asked of the one element at a path
+abbrev pub entries_text : Want → Entries → List ℕ
+entries_text want [] = []
+entries_text want (e ∷ es) = seen_text want e.1
 
 -- what a reading asks
 abbrev pub want_of : Event → Want
@@ -91,7 +100,7 @@ answer_text want Done = codes "ok"
 answer_text want (Id n) = codes "id " ++ decimal n
 answer_text want answers.None = codes "none"
 answer_text want (Job name) = word_text name
-answer_text want (Seen entries) = flat_map (λ e. seen_text want e.1) entries
+answer_text want (Seen entries) = entries_text want entries
 answer_text want (Refused refusal) = codes "refused " ++ refusal_text refusal
 
 -- the pass, what it asked, and what it was answered

@@ -19,6 +19,8 @@ mod program;
 mod reading;
 mod report_text;
 #[cfg(test)]
+mod spoilt_tests;
+#[cfg(test)]
 mod tests;
 mod words;
 mod writing;

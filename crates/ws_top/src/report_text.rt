@@ -1,9 +1,8 @@
 //! The lines of a history's entries.
 ghost use Rattle.std.specs.Prelude.{◌≡◌, ◌++◌, codes, decimal, length, OnOk};
-ghost use Rattle.std.specs.List.{flat_map};
 ghost use Rattle.proj_desc.specs.Words.{cause_words};
 ghost use Rattle.script_lang.specs.Words.{word_text};
-ghost use Rattle.ws_top.specs.Replies.{event_text, cause_text, operation_refusal_text, refusal_text, switch, contents_text, state_text, seen_text, want_of, answer_text, entry_line, is_shown};
+ghost use Rattle.ws_top.specs.Replies.{event_text, cause_text, operation_refusal_text, refusal_text, switch, contents_text, switches_text, description_text, seen_text, entries_text, want_of, answer_text, entry_line, is_shown};
 ghost use Rattle.ws_top.specs.Texts.{bad_line};
 
 use crate::NoMemory;
@@ -126,13 +125,27 @@ fn put_contents(out: &mut Vec<u8>, element: &Element) -> Result<(), NoMemory>
     put_counted(out, " len ", element.bytes.len() as u64)
 }
 
-fn put_state(out: &mut Vec<u8>, element: &Element) -> Result<(), NoMemory>
-    ensures { OnOk result (out.new.items ≡ out.old.items ++ state_text element.now) }
+fn put_switches(out: &mut Vec<u8>, element: &Element) -> Result<(), NoMemory>
+    ensures { OnOk result (out.new.items ≡ out.old.items ++ switches_text element.now) }
 {
     put_switch(out, " derived ", element.derived)?;
-    put_switch(out, " open ", element.opened)?;
+    put_switch(out, " open ", element.opened)
+}
+
+fn put_description(out: &mut Vec<u8>, element: &Element) -> Result<(), NoMemory>
+    ensures { OnOk result (out.new.items ≡ out.old.items ++ description_text element.now) }
+{
     put_counted(out, " desc ", element.desc_stamp)?;
-    put_text(out, " marks 0 syncs 0")
+    put_counted(out, " marks ", 0)?;
+    put_counted(out, " syncs ", 0)
+}
+
+fn put_shown(out: &mut Vec<u8>, element: &Element) -> Result<(), NoMemory>
+    ensures { OnOk result (out.new.items ≡ out.old.items ++ seen_text Want.Show element.now) }
+{
+    put_contents(out, element)?;
+    put_switches(out, element)?;
+    put_description(out, element)
 }
 
 /// Appends what was asked of an element.
@@ -140,22 +153,19 @@ fn put_seen(out: &mut Vec<u8>, want: Want, element: &Element) -> Result<(), NoMe
     ensures { OnOk result (out.new.items ≡ out.old.items ++ seen_text want element.now) }
 {
     match want {
-        Want::Show => {
-            put_contents(out, element)?;
-            put_state(out, element)
-        }
+        Want::Show => put_shown(out, element),
         Want::Cat => put_word(out, element.bytes.as_slice()),
     }
 }
 
-/// Appends what was asked of elements.
-fn put_all_seen(out: &mut Vec<u8>, want: Want, entries: &Entries) -> Result<(), NoMemory>
-    ensures { OnOk result (out.new.items ≡ out.old.items ++ flat_map (λ e. seen_text want e.1) entries.now) }
+/// Appends what was asked of the one element at a path.
+fn put_entries(out: &mut Vec<u8>, want: Want, entries: &Entries) -> Result<(), NoMemory>
+    ensures { OnOk result (out.new.items ≡ out.old.items ++ entries_text want entries.now) }
 {
-    for (_, element) in entries.as_slice() {
-        put_seen(out, want, element)?;
+    match entries.as_slice() {
+        [] => Ok(()),
+        [(_, element), ..] => put_seen(out, want, element),
     }
-    Ok(())
 }
 
 /// What a reading asks.
@@ -176,7 +186,7 @@ fn put_answer(out: &mut Vec<u8>, want: Want, answer: &Answer) -> Result<(), NoMe
         Answer::Id(id) => put_counted(out, "id ", *id),
         Answer::None => put_text(out, "none"),
         Answer::Job(name) => put_word(out, name.text().as_bytes()),
-        Answer::Seen(entries) => put_all_seen(out, want, entries),
+        Answer::Seen(entries) => put_entries(out, want, entries),
         Answer::Refused(refusal) => put_refused(out, refusal),
     }
 }

@@ -1,6 +1,7 @@
 use Rattle.std.proofs.Common.{subst, OnOk, OnErr}
 use Rattle.ws_top.specs.Printing.{Prints, PrintsSome}
-use Rattle.ws_top.specs.Texts.{entry_line, notice_lines}
+use Rattle.ws_top.specs.Replies.{entry_line}
+use Rattle.ws_top.specs.Texts.{notice_lines}
 use Rattle.ws_top.proofs.Printed.{ok_more, err_more, some_before}
 use Rattle.ws_top.proofs.printing.print_shown.Goals as goal
 
