@@ -121,16 +121,25 @@ fn is_line_of(alloc: Global, line: &[u8], op: Op) -> Result<bool, Fail> {
     Ok(printed.as_slice() == line && is_read_as(alloc, line, Command::Operation(op))?)
 }
 
+/// The command of a script that has one.
+fn only_command(script: &Script) -> Option<&Command> {
+    match job(script)?.commands.as_slice() {
+        [one] => Some(one),
+        _ => None,
+    }
+}
+
+fn has_command(script: &Script, command: &Command) -> bool {
+    match only_command(script) {
+        Some(one) => one == command,
+        None => false,
+    }
+}
+
 fn is_read_as(alloc: Global, line: &[u8], command: Command) -> Result<bool, Fail> {
     let text = with_line(alloc, line)?;
     let script = read(alloc, text.as_slice())?;
-    match job(&script) {
-        Some(job) => match job.commands.as_slice() {
-            [one] => Ok(*one == command),
-            _ => Ok(false),
-        },
-        None => Ok(false),
-    }
+    Ok(has_command(&script, &command))
 }
 
 #[test]
