@@ -23,6 +23,8 @@ mod deletion;
 #[cfg(test)]
 mod effect_tests;
 mod entries;
+#[cfg(test)]
+mod full_tests;
 mod op;
 mod plan;
 mod projects;

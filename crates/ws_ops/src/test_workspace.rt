@@ -278,6 +278,67 @@ impl Workspace {
         outcome_text(alloc, &outcome)
     }
 
+    /// What the operation is answered, without a look at all that there is.
+    fn short_answer(&mut self, alloc: Global, line: &str) -> Result<String, Fail>
+        requires sound { IsSound (resources self.old.tree.map self.old.side) }
+        ensures sound { IsSound (resources self.new.tree.map self.new.side) }
+    {
+        let op = operation(alloc, line)?;
+        let outcome = apply(alloc, &mut self.tree, &mut self.side, &op);
+        self.drop_room();
+        outcome_text(alloc, &outcome)
+    }
+
+    /// Does the operation, and compares what it is answered, without a look at all that there is.
+    fn short_step<R: Abort>(
+        &mut self,
+        rt: &R,
+        alloc: Global,
+        case: Case<'_>,
+    ) -> Result<(), Fail>
+        requires sound { IsSound (resources self.old.tree.map self.old.side) }
+        ensures sound { IsSound (resources self.new.tree.map self.new.side) }
+    {
+        let (shown, line, wanted) = case;
+        let found = self.short_answer(alloc, line)?;
+        assert_eq!(rt; found.as_str(), wanted, "{shown}: {line}");
+        Ok(())
+    }
+
+    /// Does so many operations, each with its number at the end of its line.
+    pub fn short_steps<R: Abort>(
+        &mut self,
+        rt: &R,
+        alloc: Global,
+        line: &str,
+        count: usize,
+    ) -> Result<(), Fail>
+        requires sound { IsSound (resources self.old.tree.map self.old.side) }
+        ensures sound { IsSound (resources self.new.tree.map self.new.side) }
+    {
+        for number in 0..count {
+            let line = format!(in alloc; "{line}{number}")?;
+            self.short_step(rt, alloc, ("it is done", line.as_str(), "done"))?;
+        }
+        Ok(())
+    }
+
+    /// Does the operations one after another, and compares what each is answered, without a look at all that there is.
+    pub fn short_answers<R: Abort>(
+        &mut self,
+        rt: &R,
+        alloc: Global,
+        cases: &[Case<'_>],
+    ) -> Result<(), Fail>
+        requires sound { IsSound (resources self.old.tree.map self.old.side) }
+        ensures sound { IsSound (resources self.new.tree.map self.new.side) }
+    {
+        for case in cases {
+            self.short_step(rt, alloc, *case)?;
+        }
+        Ok(())
+    }
+
     /// Does the operation, and compares what it is answered.
     pub fn step<R: Abort>(&mut self, rt: &R, alloc: Global, case: Case<'_>) -> Result<(), Fail>
         requires sound { IsSound (resources self.old.tree.map self.old.side) }

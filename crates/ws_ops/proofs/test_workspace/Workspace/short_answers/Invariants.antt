@@ -1,0 +1,6 @@
+use Rattle.ws_ops.specs.Resources.{resources}
+use Rattle.ws_ops.specs.Sound.{IsSound}
+use Rattle.ws_ops.proofs.test_workspace.Workspace.short_answers.Given as goal
+
+abbrev pub invariant-loop-case : goal.invariant-loop-case
+invariant-loop-case g l = IsSound (resources l.self.tree.map l.self.side)
