@@ -290,12 +290,7 @@ impl Workspace {
     }
 
     /// Does the operation, and compares what it is answered, without a look at all that there is.
-    fn short_step<R: Abort>(
-        &mut self,
-        rt: &R,
-        alloc: Global,
-        case: Case<'_>,
-    ) -> Result<(), Fail>
+    fn short_step<R: Abort>(&mut self, rt: &R, alloc: Global, case: Case<'_>) -> Result<(), Fail>
         requires sound { IsSound (resources self.old.tree.map self.old.side) }
         ensures sound { IsSound (resources self.new.tree.map self.new.side) }
     {

@@ -22,7 +22,8 @@ returns-in-Ok-clause-complete g c = λ _ calm bytes script left _ spelled. well_
 
 pub returns-in-Ok-clause-text_bad : goal.returns-in-Ok-clause-text_bad
 returns-in-Ok-clause-text_bad g c = λ six. let told = c.respond.ensures.text_bad six in (
-    bad_line told.0,
-    text_bad_of (g.S.Source.left c.args.source.now) (g.S.Source.left c.read_all.new.source) c.in-Ok.bytes.items told.0 c.in-Ok.ensures.read
-    ((c.respond.ensures.judged (not_eight c.respond.result.status six)).0 six) told.1,
-    told.2)
+  bad_line told.0,
+  text_bad_of (g.S.Source.left c.args.source.now) (g.S.Source.left c.read_all.new.source) c.in-Ok.bytes.items told.0 c.in-Ok.ensures.read
+      ((c.respond.ensures.judged (not_eight c.respond.result.status six)).0 six) told.1,
+  told.2,
+)
