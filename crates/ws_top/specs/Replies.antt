@@ -7,7 +7,6 @@ use Rattle.proj_desc.specs.Words.{cause_words}
 use Rattle.proj_desc.specs.declared.cause.DescCause.{DescCause}
 use Rattle.proj_desc.specs.declared.cause.DescCause.TheVariants.{Member, Double}
 use Rattle.ws_ops.specs.Entries.{Entries}
-use Rattle.ws_ops.specs.declared.op.Op.{Op}
 use Rattle.ws_ops.specs.declared.op.Op.TheVariants.{Read}
 use Rattle.ws_ops.specs.declared.op.Want.{Want}
 use Rattle.ws_ops.specs.declared.op.Want.TheVariants.{Show, Cat}
