@@ -12,13 +12,14 @@ use Rattle.ws_core.specs.declared.history.Entry.{Entry}
 use Rattle.ws_core.specs.declared.reply.Answer.{Answer}
 use Rattle.ws_core.specs.declared.reply.Refusal.{Refusal}
 use Rattle.ws_core.specs.declared.state.State.{State}
+use Rattle.ws_core.specs.Events.{is_leave}
 use Rattle.ws_core.specs.Effects.{effect}
 use Rattle.ws_core.specs.Sessions.{Session}
 use Rattle.ws_core.specs.Histories.{has_entered, fresh}
 use Rattle.ws_core.specs.Numbers.{has_number}
 use Rattle.ws_core.specs.Refusals.{refusal}
 use Rattle.ws_core.specs.Steps.{acted, act, told, tells, step}
-use Rattle.ws_top.specs.Runs.{Call, call_of, event_of, Asks, AsksFront, Stay, is_leave, phase_calls, calls}
+use Rattle.ws_top.specs.Runs.{Call, call_of, event_of, Asks, AsksFront, Stay, phase_calls, calls}
 
 first_or : (b c d : Bool) → (c ≡ true → d ≡ true) → (b || c) ≡ true → (b || d) ≡ true
 first_or true c d f h = refl

@@ -1,5 +1,5 @@
 -- The order in which a script is run by one worker.
-use Rattle.std.specs.Prelude.{◌≡◌, ℕ, Bool, true, false, List, [], ◌∷◌, ◌++◌, map}
+use Rattle.std.specs.Prelude.{◌≡◌, ℕ, true, List, [], ◌∷◌, ◌++◌, map}
 use Rattle.std.specs.List.{flat_map}
 use Rattle.script_lang.specs.declared.script.Command.{Command}
 use Rattle.script_lang.specs.declared.script.Command.TheVariants as commands
@@ -54,10 +54,6 @@ Asks old new made = map call_of new ≡ map call_of old ++ made
 pub record AsksFront (old new : List Entry) (made : List Call) : Type 0 where
   pub others : List Call
   pub front : map call_of new ++ others ≡ map call_of old ++ made
-
-abbrev pub is_leave : Event → Bool
-is_leave Leave = true
-is_leave event = false
 
 -- each pass that had entered is still there
 abbrev pub Stay : State → State → Type 0

@@ -1,8 +1,9 @@
 //! A script is run by one worker, event by event.
 ghost use Rattle.std.specs.Prelude.{◌≡◌, ◌∷◌, [], map, true, false, IfOk, OnOk, OnErr};
 ghost use Rattle.std.specs.List.{flat_map};
+ghost use Rattle.ws_core.specs.Events.{is_leave};
 ghost use Rattle.ws_core.specs.Histories.{has_entered, fresh};
-ghost use Rattle.ws_top.specs.Runs.{Asks, AsksFront, Stay, is_leave, event_of, command_call, schedule_call, job_calls, phase_calls, calls};
+ghost use Rattle.ws_top.specs.Runs.{Asks, AsksFront, Stay, event_of, command_call, schedule_call, job_calls, phase_calls, calls};
 
 use crate::NoMemory;
 use script_lang::{Command, Job, Phase, Script};
