@@ -37,7 +37,7 @@ module _ {D : Type 0} (moment : D → ℕ) (left_since : D → ℕ → Contents 
   pub kept_write : (mid now : D) (at n : ℕ) → front ≤ at → at + n ≤ 2 ^ 30 → Run mid → Elapses (moment mid) (moment now) (left_since mid) (left_since now) (may_leave now) → Each (may_leave now) (Came (may_leave mid) (InArea area (Torn at n))) → Run now
   kept_write mid now at n le small run time crash =
       goes_on moment left_since may_leave first mid now Kept run time (λ c left.
-      came_on {R1 = InArea area (KeepsFront front)} {R2 = InArea area (Torn at n)} {R = InArea area (KeepsFront front)} (may_leave first) (may_leave mid) (λ d m e a b. record { here = keeps_on front (held area d) (held area m) (held area e) a.here (torn_keeps front at n (held area m) (held area e) le small b.here); there = b.there ∙ a.there }) run.now c (crash c left))
+      came_on {Near = InArea area (KeepsFront front)} {Far = InArea area (Torn at n)} {R = InArea area (KeepsFront front)} (may_leave first) (may_leave mid) (λ d m e a b. record { here = keeps_on front (held area d) (held area m) (held area e) a.here (torn_keeps front at n (held area m) (held area e) le small b.here); there = b.there ∙ a.there }) run.now c (crash c left))
 
   pub kept_sync : (mid now : D) → Run mid → Elapses (moment mid) (moment now) (left_since mid) (left_since now) (may_leave now) → Each (may_leave now) (may_leave mid) → Run now
   kept_sync mid now run time crash = goes_on moment left_since may_leave first mid now Kept run time (λ c left. run.now c (crash c left))

@@ -4,10 +4,10 @@ use Rattle.ws_outside.specs.declared.contents.Contents.{Contents}
 use Rattle.ws_outside.specs.Disk.{Came, Each, Elapses, LeavesOnly}
 
 -- a step, and then another
-pub came_on : {R1 R2 R : Contents → Contents → Type 0} (first mid : Contents → Type 0) → ((d m c : Contents) → R1 d m → R2 m c → R d c) → Each mid (Came first R1) → (c : Contents) → Came mid R2 c → Came first R c
+pub came_on : {Near Far R : Contents → Contents → Type 0} (first mid : Contents → Type 0) → ((d m c : Contents) → Near d m → Far m c → R d c) → Each mid (Came first Near) → (c : Contents) → Came mid Far c → Came first R c
 came_on first mid step from c came = let d = from came.0 came.1 in (d.0, d.1, step d.0 came.0 c d.2 came.2)
 
-pub came_wider : {R1 R : Contents → Contents → Type 0} (first : Contents → Type 0) → ((d c : Contents) → R1 d c → R d c) → (c : Contents) → Came first R1 c → Came first R c
+pub came_wider : {Near R : Contents → Contents → Type 0} (first : Contents → Type 0) → ((d c : Contents) → Near d c → R d c) → (c : Contents) → Came first Near c → Came first R c
 came_wider first wider c came = (came.0, came.1, wider came.0 c came.2)
 
 module _ {D : Type 0} (moment : D → ℕ) (left_since : D → ℕ → Contents → Type 0) (may_leave : D → Contents → Type 0) where

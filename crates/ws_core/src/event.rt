@@ -1,7 +1,7 @@
 //! What a pass may ask.
 ghost use Rattle.std.specs.Prelude.{◌≡◌, IfOk};
 ghost use Rattle.std.specs.Option.{option_copied};
-ghost use Rattle.ws_core.specs.Events.{class_of, change_of, is_read};
+ghost use Rattle.ws_core.specs.Events.{change_of, is_read};
 
 use res_path::{Name, NoMemory};
 use ws_ops::Op;
@@ -29,37 +29,7 @@ pub enum Event {
     Operation(Op),
 }
 
-/// What an event concerns.
-#[derive(Clone, Copy, Debug, PartialEq, Eq)]
-pub enum EventClass {
-    /// Resources: they are changed or read.
-    Operation,
-    /// What is told.
-    Checkpoint,
-    /// A pass that goes.
-    Leave,
-    /// A pass that comes, jobs or batches.
-    Other,
-}
-
 impl Event {
-    /// What the event concerns.
-    pub fn class(&self) -> EventClass
-        ensures { result ≡ class_of self.now }
-    {
-        match self {
-            Event::Operation(_) => EventClass::Operation,
-            Event::Checkpoint => EventClass::Checkpoint,
-            Event::Leave => EventClass::Leave,
-            Event::Enter
-            | Event::Schedule(_, _)
-            | Event::Take
-            | Event::Finish
-            | Event::Batch
-            | Event::EndBatch => EventClass::Other,
-        }
-    }
-
     /// The operation by which the event may change resources, if there is one. What only reads is none.
     pub fn change(&self) -> Option<&Op>
         ensures { option_copied result ≡ change_of self.now }

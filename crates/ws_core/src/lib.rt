@@ -1,6 +1,6 @@
 //! The workspace's core: what an event of a pass does, and the history of what was done.
 //!
-//! - `event`: an `Event`, what a pass may ask, and its `EventClass`.
+//! - `event`: an `Event`, what a pass may ask.
 //! - `reply`: a `Reply`, what it is answered: an `Answer`, maybe a `Refusal`, and the notice.
 //! - `history`: an `Entry`, one event with its reply, and a `History`, entries in order.
 //! - `numbers`: `Numbers`, passes by their numbers.
@@ -25,7 +25,7 @@ mod telling;
 #[cfg(test)]
 mod tests;
 
-pub use event::{Event, EventClass};
+pub use event::Event;
 pub use history::{Entry, History};
 pub use numbers::Numbers;
 pub use reply::{Answer, Refusal, Reply};
