@@ -8,3 +8,4 @@ pub mod Table
 pub mod Same
 pub mod Unmoved
 pub mod Elsewhere
+pub mod Found

@@ -1,16 +1,20 @@
 -- The rows of two trees tell where nodes were and went as the trees do.
-use Rattle.std.proofs.Common.{◌≡◌, ℕ, ◌+◌, Bool, true, false, cond, not, refl, sym, ap, ◌∙◌, arith}
+use Rattle.std.proofs.Common.{◌≡◌, ℕ, ◌+◌, Bool, true, false, cond, not, [], refl, sym, ap, ◌∙◌, arith}
 use Rattle.std.specs.Prelude.{Option, Some, None, ◌==◌}
-use Rattle.std.specs.FinMap.{get, entries, get-entries}
+use Rattle.std.specs.FinMap.{empty, get, entries, get-entries}
 use Rattle.std.proofs.lemmas.Bool.Decides.{nat_tests}
 use Rattle.res_path.specs.Paths.{Names}
+use Rattle.mark_set.specs.Deltas.{marker_deltas}
+use Rattle.mark_set.specs.Markers.{Marks, same_marks, same_marks-Decides}
+use Rattle.mark_set.proofs.Changes.{no_deltas}
+use Rattle.sync_set.specs.Syncs.{Syncs, same_syncs, same_syncs-Decides}
 use Rattle.ws_elem.specs.declared.element.Element.{Element}
 use Rattle.ws_elem.specs.Trees.{Tree}
 use Rattle.delta_kind.specs.declared.row.Turn.TheVariants.{Lost, Gained}
-use Rattle.delta_kind.specs.declared.flags.TheConstants.{CONTENT, OPEN, TYPE, REPLACED, DESCRIPTION, DERIVED_CHANGED}
-use Rattle.delta_kind.specs.Flags.{has_content, has_open, has_type, has_description, has_derived_changed, flag_if, flags_of, differs}
+use Rattle.delta_kind.specs.declared.flags.TheConstants.{CONTENT, OPEN, TYPE, SYNC, MARKERS, REPLACED, DESCRIPTION, DERIVED_CHANGED}
+use Rattle.delta_kind.specs.Flags.{has_content, has_open, has_type, has_sync, has_markers, has_replaced, has_description, has_derived_changed, flag_if, flags_of, differs}
 use Rattle.delta_kind.specs.Moves.{lost, is_number, place_of}
-use Rattle.delta_kind.specs.Rows.{Rows, Sides, row_paths, turned, place_in}
+use Rattle.delta_kind.specs.Rows.{Rows, Sides, row_paths, turned, place_in, untouched}
 use Rattle.delta_kind.proofs.Merged.{RowsOf}
 use Rattle.delta_kind.proofs.Rising.{Rises, keys_rise}
 use Rattle.delta_kind.proofs.Firsts.{passes, same_first}
@@ -25,11 +29,40 @@ no_flags a b h = zero (flags_of (Some a) (Some b)) h
 
 same_node : (a b : Element) → differs (Some a) (Some b) ≡ false → (a.node == b.node) ≡ true
 same_node a b h = by (flag_if CONTENT (has_content (Some a) (Some b))) (flag_if OPEN (has_open (Some a) (Some b))) (flag_if TYPE (has_type (Some a) (Some b)))
-    (flag_if DESCRIPTION (has_description (Some a) (Some b))) (flag_if DERIVED_CHANGED (has_derived_changed (Some a) (Some b))) (a.node == b.node) (no_flags a b h)
+    (flag_if SYNC (has_sync (Some a) (Some b))) (flag_if MARKERS (has_markers (Some a) (Some b))) (flag_if DESCRIPTION (has_description (Some a) (Some b))) (flag_if DERIVED_CHANGED (has_derived_changed (Some a) (Some b))) (a.node == b.node) (no_flags a b h)
   where
-    by : (c o t d v : ℕ) (s : Bool) → c + o + t + flag_if REPLACED (not s) + d + v ≡ 0 → s ≡ true
-    by c o t d v true h = refl
-    by c o t d v false h = absurd (omega arith)
+    by : (c o t y m d v : ℕ) (s : Bool) → c + o + t + y + m + flag_if REPLACED (not s) + d + v ≡ 0 → s ≡ true
+    by c o t y m d v true h = refl
+    by c o t y m d v false h = absurd (omega arith)
+
+-- where a path doesn't differ, its markers stay
+pub same_markers : (a b : Element) → differs (Some a) (Some b) ≡ false → a.marks ≡ b.marks
+same_markers a b h = (same_marks-Decides a.marks b.marks).0 (by (flag_if CONTENT (has_content (Some a) (Some b))) (flag_if OPEN (has_open (Some a) (Some b)))
+    (flag_if TYPE (has_type (Some a) (Some b))) (flag_if SYNC (has_sync (Some a) (Some b))) (flag_if REPLACED (has_replaced (Some a) (Some b)))
+    (flag_if DESCRIPTION (has_description (Some a) (Some b))) (flag_if DERIVED_CHANGED (has_derived_changed (Some a) (Some b))) (same_marks a.marks b.marks) (no_flags a b h))
+  where
+    by : (c o t y r d v : ℕ) (s : Bool) → c + o + t + y + flag_if MARKERS (not s) + r + d + v ≡ 0 → s ≡ true
+    by c o t y r d v true h = refl
+    by c o t y r d v false h = absurd (omega arith)
+
+-- what isn't there has no markers and no bytes
+pub idle_syncs : (s : Syncs) → same_syncs s s ≡ true
+idle_syncs s = (same_syncs-Decides s s).1 refl
+
+pub idle_marks : (m : Marks) → same_marks m m ≡ true
+idle_marks m = (same_marks-Decides m m).1 refl
+
+pub nothing_flagged : flags_of None None ≡ 0
+nothing_flagged = λ i. 0 + flag_if SYNC (not (idle_syncs empty i)) + flag_if MARKERS (not (idle_marks empty i)) + 0 + 0 + 0
+
+pub nothing_marked : (m : Marks) → marker_deltas m m ≡ []
+nothing_marked m = (no_deltas m m).1 refl
+
+pub equal_marks : (a b : Marks) → same_marks a b ≡ true → marker_deltas a b ≡ []
+equal_marks a b h = (no_deltas a b).1 ((same_marks-Decides a b).0 h)
+
+pub untouched_is : (p : Names) → untouched p ≡ record { path = p; kind = 4; flags = 0; moved_from = None; moved_to = None; markers = [] }
+untouched_is p = λ i. record { path = p; kind = 4; flags = nothing_flagged i + 0; moved_from = None; moved_to = None; markers = nothing_marked empty i }
 
 same_back : (m n : ℕ) → (m == n) ≡ true → (n == m) ≡ true
 same_back m n h = grind (arith, nat_tests)

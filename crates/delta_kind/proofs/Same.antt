@@ -11,6 +11,7 @@ use Rattle.std.specs.List.{list_any}
 use Rattle.std.specs.Ordering.{eq_by_cmp, is_eq}
 use Rattle.std.proofs.lemmas.List.Folds.{list_any-append}
 use Rattle.res_path.specs.Paths.{Names, path_cmp, path_eq, is_prefix}
+use Rattle.mark_set.specs.Deltas.{marker_deltas}
 use Rattle.res_path.specs.PathLaws.{path_cmp_total, path_ties}
 use Rattle.res_path.proofs.Prefixes.{path_cmp_exact, path_itself}
 use Rattle.ws_elem.specs.declared.element.Element.{Element}
@@ -20,13 +21,13 @@ use Rattle.ws_elem.proofs.Cuts.{any_filter, same_at}
 use Rattle.delta_kind.specs.declared.node.DeltaNode.{DeltaNode}
 use Rattle.delta_kind.specs.Flags.{flag_if, moved_flags, differs}
 use Rattle.delta_kind.specs.Moves.{lost, place_of}
-use Rattle.delta_kind.specs.declared.flags.TheConstants.{CONTENT, OPEN, TYPE, REPLACED, DESCRIPTION, DERIVED_CHANGED}
+use Rattle.delta_kind.specs.declared.flags.TheConstants.{CONTENT, OPEN, TYPE, SYNC, MARKERS, REPLACED, DESCRIPTION, DERIVED_CHANGED}
 use Rattle.delta_kind.specs.declared.row.Turn.TheVariants.{Lost, Gained}
 use Rattle.delta_kind.specs.Deltas.{node_at, changed, with_above, delta, paths_of, InPathOrder}
 use Rattle.delta_kind.specs.Rows.{Rows, Sides, row_paths, place_in, node_by, delta_of_rows}
 use Rattle.delta_kind.proofs.Merged.{RowsOf}
 use Rattle.delta_kind.proofs.Told.{above_set, get-above_set, node_found, node_in}
-use Rattle.delta_kind.proofs.Moved.{no_flags, none_lost, none_gained, losers_are, gainers_are}
+use Rattle.delta_kind.proofs.Moved.{no_flags, same_markers, idle_syncs, idle_marks, nothing_flagged, nothing_marked, none_lost, none_gained, losers_are, gainers_are}
 use Rattle.delta_kind.proofs.Rising.{Rises, sorted_rises}
 
 -- ---- tests of all paths of a list
@@ -103,7 +104,8 @@ idle_node f g p (Some a) None h = cc
 idle_node f g p (Some a) (Some b) h =
     let from : option_and_then f (lost (Some b) (Some a)) ≡ None = ap (option_and_then f) (none_gained (Some a) (Some b) h) in
     let to : option_and_then g (lost (Some a) (Some b)) ≡ None = ap (option_and_then g) (none_lost (Some a) (Some b) h) in
-    λ i. record { path = p; kind = 4; flags = sym (no_flags a b h) i + moved_flags (sym from i) (sym to i); moved_from = sym from i; moved_to = sym to i }
+    let still : marker_deltas empty empty ≡ marker_deltas a.marks b.marks = nothing_marked empty ∙ sym (nothing_marked b.marks) ∙ ap (λ m. marker_deltas m b.marks) (sym (same_markers a b h)) in
+    λ i. record { path = p; kind = 4; flags = (nothing_flagged ∙ sym (no_flags a b h)) i + moved_flags (sym from i) (sym to i); moved_from = sym from i; moved_to = sym to i; markers = still i }
 
 node_there : (a b : Tree) (rows : Rows) → RowsOf a b rows → Rises None (row_paths rows) → (p : Names) → node_in (place_in Lost rows) (place_in Gained rows) rows p ≡ node_at a b p
 node_there a b rows h up p =
@@ -202,6 +204,8 @@ differs_same None = refl
 differs_same (Some e) = λ i. not (flag_if CONTENT (idle (is_file e.kind) (e.stamp == e.stamp) (equal_numbers e.stamp) i)
     + flag_if OPEN (idle (is_project e.kind) (beq e.opened e.opened) (equal_bools e.opened) i)
     + flag_if TYPE (ap not (equal_numbers (kind_number e.kind)) i)
+    + flag_if SYNC (ap not (idle_syncs e.syncs) i)
+    + flag_if MARKERS (ap not (idle_marks e.marks) i)
     + flag_if REPLACED (ap not (equal_numbers e.node) i)
     + flag_if DESCRIPTION (idle (is_project e.kind) (e.desc_stamp == e.desc_stamp) (equal_numbers e.desc_stamp) i)
     + flag_if DERIVED_CHANGED (ap not (equal_bools e.derived) i) == 0)

@@ -1,7 +1,7 @@
 -- What is told of two trees as if nothing moved, and is all where nothing did.
 use Rattle.std.proofs.Common.{◌≡◌, ℕ, Bool, true, false, ◌&&◌, ◌||◌, cond, List, [], ◌∷◌, ◌++◌, map, refl, sym, ap, ◌∙◌, subst, append-nil, append_assoc}
 use Rattle.std.specs.Prelude.{Option, Some, None, filter, is_some}
-use Rattle.std.specs.FinMap.{get, empty, get-empty}
+use Rattle.std.specs.FinMap.{get-empty}
 use Rattle.std.specs.List.{AllByRecursion}
 use Rattle.std.specs.Option.{option_and_then}
 use Rattle.std.specs.Ordering.{nat_cmp}
@@ -10,7 +10,7 @@ use Rattle.ws_elem.specs.Trees.{Tree}
 use Rattle.delta_kind.specs.declared.node.DeltaNode.{DeltaNode}
 use Rattle.delta_kind.specs.declared.row.Turn.TheVariants.{Lost, Gained}
 use Rattle.delta_kind.specs.Deltas.{node_of, delta, InPathOrder, paths_of}
-use Rattle.delta_kind.specs.Rows.{Rows, Sides, row_paths, turned, has_turn, place_in, node_by, new_above, untouched, unmoved, nodes_from, delta_of_rows}
+use Rattle.delta_kind.specs.Rows.{Rows, Sides, row_paths, turned, has_turn, place_in, node_by, new_above, untouched, unmoved, nodes_from}
 use Rattle.delta_kind.proofs.Merged.{row_differs, rows_between, between_rises, between_found}
 use Rattle.delta_kind.proofs.Rising.{rises_sorted}
 use Rattle.delta_kind.proofs.Same.{rows_delta}
@@ -63,6 +63,22 @@ pub telling_on : (all : Rows) (nodes : List DeltaNode) (last : Option Names) (lo
     → walk ≡ row ∷ rest → row_differs row ≡ false → Telling all nodes last lost gained (filter row_differs walk) → Telling all nodes last lost gained (filter row_differs rest)
 telling_on all nodes last lost gained row rest walk is differs h =
     subst (Telling all nodes last lost gained) (ap (filter row_differs) is ∙ ap (λ b. cond b (row ∷ filter row_differs rest) (filter row_differs rest)) differs) h
+
+-- a row after which something lost a node and something gained one
+both : (a b : Bool) → (a && b) ≡ true → (a ≡ true) × (b ≡ true)
+both true b h = (refl, h)
+both false b h = cc
+
+pub telling_moved : (all : Rows) (nodes : List DeltaNode) (last : Option Names) (lost gained lost2 gained2 : Bool) (row : Names × Sides) (rest : Rows) (walk : Rows)
+    → walk ≡ row ∷ rest → row_differs row ≡ true → Telling all nodes last lost gained (filter row_differs walk)
+    → lost2 ≡ (lost || is_some (turned Lost row.1)) → gained2 ≡ (gained || is_some (turned Gained row.1)) → (lost2 && gained2) ≡ true
+    → (has_turn Lost all ≡ true) × (has_turn Gained all ≡ true)
+telling_moved all nodes last lost gained lost2 gained2 row rest walk is differs h loses gains two =
+    let here = subst (Telling all nodes last lost gained) (ap (filter row_differs) is ∙ ap (λ b. cond b (row ∷ filter row_differs rest) (filter row_differs rest)) differs) h in
+    let parts = both lost2 gained2 two in (
+      sym here.loses ∙ sym (or_assoc lost (is_some (turned Lost row.1)) (has_turn Lost (filter row_differs rest))) ∙ ap (λ b. b || has_turn Lost (filter row_differs rest)) (sym loses ∙ parts.0),
+      sym here.gains ∙ sym (or_assoc gained (is_some (turned Gained row.1)) (has_turn Gained (filter row_differs rest))) ∙ ap (λ b. b || has_turn Gained (filter row_differs rest)) (sym gains ∙ parts.1),
+    )
 
 -- ---- at the end
 

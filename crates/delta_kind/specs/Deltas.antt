@@ -1,13 +1,14 @@
 -- The delta of two trees, path by path.
-use Rattle.std.specs.Prelude.{◌+◌, List, [], ◌∷◌, ◌++◌, map, filter, Option}
-use Rattle.std.specs.List.{flat_map, AllByRecursion}
+use Rattle.std.specs.Prelude.{◌+◌, List, [], ◌∷◌, ◌++◌, map, filter, find, Option}
+use Rattle.std.specs.List.{flat_map, list_any, AllByRecursion}
 use Rattle.std.specs.List.Sorted.{IsStrictlySortedBy}
 use Rattle.std.specs.FinMap.{FinMap, empty, insert, get, keys}
-use Rattle.res_path.specs.Paths.{Names, path_cmp}
+use Rattle.res_path.specs.Paths.{Names, path_cmp, path_eq, is_prefix}
+use Rattle.mark_set.specs.Deltas.{marker_deltas}
 use Rattle.ws_elem.specs.declared.element.Element.{Element}
 use Rattle.ws_elem.specs.Trees.{Tree}
 use Rattle.delta_kind.specs.declared.node.DeltaNode.{DeltaNode}
-use Rattle.delta_kind.specs.Flags.{kind_of, flags_of, moved_flags, differs}
+use Rattle.delta_kind.specs.Flags.{kind_of, flags_of, moved_flags, marks_of, differs}
 use Rattle.delta_kind.specs.Moves.{moved, TellsPlace}
 
 -- what became of the path p, by its entries before and after, where what is there was, and where what was there is
@@ -18,6 +19,7 @@ node_of p a b from to = record {
   flags = flags_of a b + moved_flags from to;
   moved_from = from;
   moved_to = to;
+  markers = marker_deltas (marks_of a) (marks_of b);
 }
 
 -- what became of the path p from a to b
@@ -53,6 +55,14 @@ InPathOrder = IsStrictlySortedBy path_cmp
 -- the paths of nodes
 abbrev pub paths_of : List DeltaNode → List Names
 paths_of = map (λ node. node.path)
+
+-- the node of the path p, if it has one
+abbrev pub node_with : Names → List DeltaNode → Option DeltaNode
+node_with p = find (λ node. path_eq p node.path)
+
+-- the nodes at or below one of these paths
+abbrev pub cut : List Names → List DeltaNode → List DeltaNode
+cut prefixes = filter (λ node. list_any (λ prefix. is_prefix prefix node.path) prefixes)
 
 -- each node tells where what is at its path was, and where what was there is, if elsewhere
 abbrev pub TellsMoves : Tree → Tree → List DeltaNode → Type 0

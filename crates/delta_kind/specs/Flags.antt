@@ -1,10 +1,13 @@
 -- What became of one path, by its entries before and after.
 use Rattle.std.specs.Prelude.{ℕ, ◌+◌, Bool, true, false, not, ◌&&◌, ◌==◌, if◌then◌else◌, Option, Some, None, is_some}
 use Rattle.std.specs.Bool.{beq}
+use Rattle.std.specs.FinMap.{empty}
 use Rattle.res_path.specs.Paths.{Names}
+use Rattle.mark_set.specs.Markers.{Marks, same_marks}
+use Rattle.sync_set.specs.Syncs.{Syncs, same_syncs}
 use Rattle.ws_elem.specs.declared.element.Element.{Element}
 use Rattle.ws_elem.specs.Kinds.{kind_number, is_file, is_project}
-use Rattle.delta_kind.specs.declared.flags.TheConstants.{ADDED, REMOVED, CHANGED, CONTENT, MOVED_FROM, MOVED_TO, OPEN, TYPE, REPLACED, DESCRIPTION, DERIVED_CHANGED}
+use Rattle.delta_kind.specs.declared.flags.TheConstants.{ADDED, REMOVED, CHANGED, CONTENT, MOVED_FROM, MOVED_TO, OPEN, TYPE, SYNC, MARKERS, REPLACED, DESCRIPTION, DERIVED_CHANGED}
 
 -- both are files, and their stamps differ
 abbrev pub has_content : Option Element → Option Element → Bool
@@ -23,6 +26,24 @@ abbrev pub has_type : Option Element → Option Element → Bool
 has_type (Some a) (Some b) = not (kind_number a.kind == kind_number b.kind)
 has_type (Some a) None = false
 has_type None after = false
+
+-- the synchronisation bytes of an element, none of one that isn't there
+abbrev pub syncs_of : Option Element → Syncs
+syncs_of None = empty
+syncs_of (Some e) = e.syncs
+
+-- the markers of an element, none of one that isn't there
+abbrev pub marks_of : Option Element → Marks
+marks_of None = empty
+marks_of (Some e) = e.marks
+
+-- the synchronisation bytes differ
+abbrev pub has_sync : Option Element → Option Element → Bool
+has_sync a b = not (same_syncs (syncs_of a) (syncs_of b))
+
+-- the markers differ
+abbrev pub has_markers : Option Element → Option Element → Bool
+has_markers a b = not (same_marks (marks_of a) (marks_of b))
 
 -- both are there, and their nodes differ
 abbrev pub has_replaced : Option Element → Option Element → Bool
@@ -52,6 +73,8 @@ flags_of a b =
     flag_if CONTENT (has_content a b)
     + flag_if OPEN (has_open a b)
     + flag_if TYPE (has_type a b)
+    + flag_if SYNC (has_sync a b)
+    + flag_if MARKERS (has_markers a b)
     + flag_if REPLACED (has_replaced a b)
     + flag_if DESCRIPTION (has_description a b)
     + flag_if DERIVED_CHANGED (has_derived_changed a b)

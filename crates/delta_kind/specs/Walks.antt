@@ -1,5 +1,6 @@
 -- Two lists of entries, walked side by side.
-use Rattle.std.specs.Prelude.{List, [], ◌∷◌, map, Option, Some, None}
+use Rattle.std.specs.Prelude.{List, [], ◌∷◌, map, filter, Option, Some, None}
+use Rattle.std.specs.FinMap.{entries}
 use Rattle.std.specs.List.{cons_option}
 use Rattle.std.specs.Map.Iter.{deref_pair}
 use Rattle.std.specs.Option.{option_map}
@@ -7,7 +8,9 @@ use Rattle.std.specs.Ordering.{match_ordering}
 use denote.Ref.{Bor}
 use Rattle.res_path.specs.Paths.{Names, path_cmp}
 use Rattle.ws_elem.specs.declared.element.Element.{Element}
+use Rattle.ws_elem.specs.Trees.{Tree}
 use Rattle.delta_kind.specs.declared.walk.Walk.{Walk}
+use Rattle.delta_kind.specs.Flags.{differs}
 use Rattle.delta_kind.specs.Rows.{Rows, Sides}
 
 abbrev pub only_before : Names × Element → Names × Sides
@@ -26,6 +29,10 @@ merged_from x rest (y ∷ ys) =
 abbrev pub merged : List (Names × Element) → List (Names × Element) → Rows
 merged [] ys = map only_after ys
 merged (x ∷ xs) ys = merged_from x (merged xs) ys
+
+-- the rows of the paths that differ
+abbrev pub differing : Tree → Tree → Rows
+differing a b = filter (λ row. differs row.1.0 row.1.1) (merged (entries a) (entries b))
 
 -- an entry that was looked at, and those after it
 abbrev pub pending : Option (Bor Names × Bor Element) → List (Names × Element) → List (Names × Element)

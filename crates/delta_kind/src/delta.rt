@@ -1,9 +1,13 @@
 //! The nodes of a delta.
-ghost use Rattle.std.specs.Prelude.{◌≡◌, ◌↔◌, [], length, IsTrue, IfOk};
+ghost use Rattle.std.specs.Prelude.{◌≡◌, ◌↔◌, [], length, false, IsTrue, IfOk, None};
+ghost use Rattle.std.specs.List.{list_any};
+ghost use Rattle.std.specs.Option.{option_copied};
+ghost use Rattle.res_path.specs.Paths.{path_eq};
 ghost use Rattle.std.specs.Slice.Iter.{iter_rest};
-ghost use Rattle.delta_kind.specs.Deltas.{InPathOrder, paths_of};
+ghost use Rattle.delta_kind.specs.Deltas.{InPathOrder, paths_of, node_with, cut};
 
-use crate::DeltaNode;
+use crate::{DeltaNode, parts};
+use res_path::Path;
 use std::alloc::Global;
 use std::marker::Model;
 use std::slice::Iter;
@@ -18,10 +22,14 @@ pub struct Delta {
 
 impl Model for Delta {
     ghost use Rattle.std.specs.Prelude.{List};
+    ghost use Rattle.std.specs.Coded.{coded_list};
+    ghost use Rattle.delta_kind.specs.contracts.node.DeltaNode as node;
     ghost use Rattle.delta_kind.specs.declared.node.DeltaNode.{DeltaNode};
     ghost use Rattle.delta_kind.specs.Deltas.{InPathOrder, paths_of};
 
     ghost Value = { List DeltaNode };
+
+    ghost coded = { coded_list node.the_row.coded };
 
     ghost view = { λ d. d.nodes.items };
 
@@ -68,6 +76,24 @@ impl Delta {
     {
         let Delta { nodes } = self;
         nodes
+    }
+
+    /// The node of the path, and none where it has none (`IResourceDelta.findMember`). Costs a comparison of paths for
+    /// each halving of the nodes, and no memory.
+    pub fn find(&self, path: &Path) -> Option<&DeltaNode>
+        ensures node { option_copied result ≡ node_with path.now self.now }
+        ensures none { (result ≡ None) ↔ (list_any (path_eq path.now) (paths_of self.now) ≡ false) }
+    {
+        parts::node_with(self.nodes.as_slice(), path)
+    }
+
+    /// The nodes at or below one of these paths. Costs a test of each node against the paths, and a copy of each one that
+    /// is kept, whose paths share their texts.
+    pub fn under(&self, alloc: Global, prefixes: &[Path]) -> Result<Delta, NoMemory>
+        ensures { IfOk result (λ d. d ≡ cut prefixes.now self.now) }
+    {
+        let nodes = parts::cut(alloc, self.nodes.as_slice(), prefixes)?;
+        Ok(Delta { nodes })
     }
 
     /// How many nodes.

@@ -1,10 +1,15 @@
 //! The platform's kinds and flags of a change (`IResourceDelta`), and when each holds.
-ghost use Rattle.std.specs.Prelude.{◌≡◌, ◌≤◌, ◌<◌, ◌^◌};
+ghost use Rattle.std.specs.Prelude.{◌≡◌, ◌≤◌, ◌<◌, ◌^◌, IfOk};
+ghost use Rattle.std.specs.FinMap.{empty};
 ghost use Rattle.std.specs.Option.{option_copied};
-ghost use Rattle.delta_kind.specs.Flags.{has_content, has_open, has_type, has_replaced, has_description, has_derived_changed, flag_if, flags_of, moved_flags, kind_of, differs};
+ghost use Rattle.mark_set.specs.Deltas.{marker_deltas};
+ghost use Rattle.delta_kind.specs.Flags.{has_content, has_open, has_type, has_sync, has_markers, has_replaced, has_description, has_derived_changed, marks_of, syncs_of, flag_if, flags_of, moved_flags, kind_of, differs};
 
+use mark_set::{MarkSet, MarkerDeltas};
 use res_path::Path;
-use ws_elem::Element;
+use std::alloc::Global;
+use sync_set::SyncSet;
+use ws_elem::{Element, NoMemory};
 
 /// Of a delta without nodes: nothing changed.
 pub const NO_CHANGE: u8 = 0;
@@ -32,6 +37,12 @@ pub const OPEN: u32 = 0x4000;
 
 /// A resource of another kind stands at the path.
 pub const TYPE: u32 = 0x8000;
+
+/// The synchronisation bytes of the resource changed, or came or went with it.
+pub const SYNC: u32 = 0x10000;
+
+/// The markers of the resource changed, or came or went with it.
+pub const MARKERS: u32 = 0x20000;
 
 /// Another resource stands at the path.
 pub const REPLACED: u32 = 0x40000;
@@ -67,6 +78,40 @@ fn has_type(before: Option<&Element>, after: Option<&Element>) -> bool
     match (before, after) {
         (Some(a), Some(b)) => a.kind.number() != b.kind.number(),
         _ => false,
+    }
+}
+
+fn has_sync(before: Option<&Element>, after: Option<&Element>) -> bool
+    ensures { result ≡ has_sync (option_copied before.entry) (option_copied after.entry) }
+{
+    let none = SyncSet::empty();
+    syncs_of(before, &none) != syncs_of(after, &none)
+}
+
+fn syncs_of<'a>(element: Option<&'a Element>, none: &'a SyncSet) -> &'a SyncSet
+    requires { none.now ≡ empty }
+    ensures { result.now ≡ syncs_of (option_copied element.entry) }
+{
+    match element {
+        Some(element) => &element.syncs,
+        None => none,
+    }
+}
+
+fn has_markers(before: Option<&Element>, after: Option<&Element>) -> bool
+    ensures { result ≡ has_markers (option_copied before.entry) (option_copied after.entry) }
+{
+    let none = MarkSet::empty();
+    marks_of(before, &none) != marks_of(after, &none)
+}
+
+fn marks_of<'a>(element: Option<&'a Element>, none: &'a MarkSet) -> &'a MarkSet
+    requires { none.now ≡ empty }
+    ensures { result.now ≡ marks_of (option_copied element.entry) }
+{
+    match element {
+        Some(element) => &element.marks,
+        None => none,
     }
 }
 
@@ -114,6 +159,8 @@ pub fn flags_of(before: Option<&Element>, after: Option<&Element>) -> u32
     flag_if(CONTENT, has_content(before, after))
         + flag_if(OPEN, has_open(before, after))
         + flag_if(TYPE, has_type(before, after))
+        + flag_if(SYNC, has_sync(before, after))
+        + flag_if(MARKERS, has_markers(before, after))
         + flag_if(REPLACED, has_replaced(before, after))
         + flag_if(DESCRIPTION, has_description(before, after))
         + flag_if(DERIVED_CHANGED, has_derived_changed(before, after))
@@ -125,6 +172,29 @@ pub fn moved_flags(from: Option<&Path>, to: Option<&Path>) -> u32
     ensures most { result < 2 ^ 16 }
 {
     flag_if(MOVED_FROM, from.is_some()) + flag_if(MOVED_TO, to.is_some())
+}
+
+/// What became of each marker of a path with these entries, by id. Where the markers are equal it takes no memory.
+pub fn markers_of(
+    alloc: Global,
+    before: Option<&Element>,
+    after: Option<&Element>,
+) -> Result<MarkerDeltas, NoMemory>
+    ensures { IfOk result (λ deltas. deltas ≡ marker_deltas (marks_of (option_copied before.entry)) (marks_of (option_copied after.entry))) }
+{
+    let none = MarkSet::empty();
+    marker_deltas(alloc, marks_of(before, &none), marks_of(after, &none))
+}
+
+#[tactic(auto, using(crate::proofs::Moved::equal_marks))]
+fn marker_deltas(alloc: Global, before: &MarkSet, after: &MarkSet) -> Result<MarkerDeltas, NoMemory>
+    ensures { IfOk result (λ deltas. deltas ≡ marker_deltas before.now after.now) }
+{
+    if before == after {
+        return Ok(MarkerDeltas::of(Vec::new(alloc)));
+    }
+    let deltas = MarkSet::delta(alloc, before, after)?;
+    Ok(MarkerDeltas::of(deltas))
 }
 
 /// `ADDED`, `REMOVED` or `CHANGED`.

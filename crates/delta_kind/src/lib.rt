@@ -4,6 +4,7 @@
 //! - `place`: a `Place`, where a node was or where it is.
 //! - `node`: a `DeltaNode`, what became of one path.
 //! - `delta`: a `Delta`, the nodes in path order.
+//! - `parts`: a node of some nodes in path order, and the nodes below some paths.
 //! - `row`: a `Row`, a path with its entries before and after.
 //! - `places`: which paths lost and gained each node.
 //! - `walk`: the rows of two trees, walked side by side.
@@ -14,7 +15,10 @@
 mod delta;
 mod flags;
 mod making;
+#[cfg(test)]
+mod marker_tests;
 mod node;
+mod parts;
 mod place;
 mod places;
 mod plain;
@@ -25,8 +29,8 @@ mod walk;
 
 pub use delta::Delta;
 pub use flags::{
-    ADDED, CHANGED, CONTENT, DERIVED_CHANGED, DESCRIPTION, MOVED_FROM, MOVED_TO, NO_CHANGE, OPEN,
-    REMOVED, REPLACED, TYPE,
+    ADDED, CHANGED, CONTENT, DERIVED_CHANGED, DESCRIPTION, MARKERS, MOVED_FROM, MOVED_TO,
+    NO_CHANGE, OPEN, REMOVED, REPLACED, SYNC, TYPE,
 };
 pub use making::{compare, delta_of_rows};
 pub use node::DeltaNode;

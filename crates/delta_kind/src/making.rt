@@ -13,6 +13,7 @@ use crate::places::Moves;
 use crate::plain::unmoved_nodes;
 use crate::walk::Walk;
 use crate::{CHANGED, Delta, DeltaNode, Place, Row, Turn, flags};
+use mark_set::MarkerDeltas;
 use res_path::Path;
 use std::alloc::Global;
 use ws_elem::{ElemMap, NoMemory};
@@ -89,7 +90,7 @@ fn nodes_of(alloc: Global, rows: &[Row<'_>], moves: &Moves) -> Result<Vec<DeltaN
     let mut nodes = Vec::with_capacity(alloc, rows.len().saturating_add(above))?;
     let mut last = None;
     for row in rows {
-        tell_above(&mut nodes, row.path, last)?;
+        tell_above(alloc, &mut nodes, row.path, last)?;
         nodes.push(node_of(alloc, row, moves)?)?;
         last = Some(row.path);
     }
@@ -111,11 +112,13 @@ fn node_of(alloc: Global, row: &Row<'_>, moves: &Moves) -> Result<DeltaNode, NoM
         flags,
         moved_from,
         moved_to,
+        markers: flags::markers_of(alloc, row.before, row.after)?,
     })
 }
 
 /// Tells what is above the path and not above the last one, the highest first.
 pub(crate) fn tell_above(
+    alloc: Global,
     nodes: &mut Vec<DeltaNode>,
     path: &Path,
     last: Option<&Path>,
@@ -128,13 +131,13 @@ pub(crate) fn tell_above(
     let Some(parent) = path.parent()? else {
         return Ok(());
     };
-    tell_above(nodes, &parent, last)?;
-    nodes.push(untouched(parent))?;
+    tell_above(alloc, nodes, &parent, last)?;
+    nodes.push(untouched(alloc, parent))?;
     Ok(())
 }
 
 /// The node of a path that only something below it changed.
-fn untouched(path: Path) -> DeltaNode
+fn untouched(alloc: Global, path: Path) -> DeltaNode
     ensures { result ≡ untouched path }
 {
     DeltaNode {
@@ -143,6 +146,7 @@ fn untouched(path: Path) -> DeltaNode
         flags: 0,
         moved_from: Place::none(),
         moved_to: Place::none(),
+        markers: MarkerDeltas::of(Vec::new(alloc)),
     }
 }
 

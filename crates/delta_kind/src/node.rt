@@ -1,9 +1,10 @@
 //! What became of one path.
 use crate::Place;
+use mark_set::MarkerDeltas;
 use res_path::Path;
 
 /// What became of one path.
-#[derive(Clone, Debug, PartialEq, Eq, Drop)]
+#[derive(Clone, Debug, Drop)]
 pub struct DeltaNode {
     pub path: Path,
     /// `ADDED`, `REMOVED` or `CHANGED`.
@@ -14,4 +15,6 @@ pub struct DeltaNode {
     pub moved_from: Place,
     /// Where what was at the path is; with `MOVED_TO`.
     pub moved_to: Place,
+    /// What became of each of its markers, by id; with `MARKERS`.
+    pub markers: MarkerDeltas,
 }

@@ -5,11 +5,11 @@ use std::process::Abort;
 use std::test::Fail;
 use ws_elem::{ElemMap, Element, Kind};
 
-fn path(alloc: Global, text: &str) -> Result<Path, Fail> {
+pub fn path(alloc: Global, text: &str) -> Result<Path, Fail> {
     Ok(Path::parse(alloc, text)?)
 }
 
-fn file(node: u64, stamp: u64) -> Element {
+pub fn file(node: u64, stamp: u64) -> Element {
     Element {
         stamp,
         ..Element::bare(Kind::File, node)
@@ -23,13 +23,13 @@ fn project(node: u64, opened: bool) -> Element {
     }
 }
 
-fn put(alloc: Global, tree: &mut ElemMap, at: &str, element: Element) -> Result<(), Fail> {
+pub fn put(alloc: Global, tree: &mut ElemMap, at: &str, element: Element) -> Result<(), Fail> {
     tree.put(path(alloc, at)?, element)?;
     Ok(())
 }
 
 /// An open project with two folders and a file in each, and a closed project.
-fn small_tree(alloc: Global) -> Result<ElemMap, Fail> {
+pub fn small_tree(alloc: Global) -> Result<ElemMap, Fail> {
     let mut tree = ElemMap::fresh(alloc)?;
     put(alloc, &mut tree, "/p", project(2, true))?;
     put(alloc, &mut tree, "/p/d", Element::bare(Kind::Folder, 3))?;
@@ -344,7 +344,9 @@ fn a_delta_is_made_of_nodes_and_gives_them_back(rt: HostRuntime) -> Result<(), F
     let changed = delta.iter().all(|node| node.kind == CHANGED);
     assert!(rt; changed);
     let again = Delta::of(copy.into_nodes());
-    assert!(rt; again.nodes() == delta.nodes());
+    let shown = told(alloc, again.nodes())?;
+    let wanted = told(alloc, delta.nodes())?;
+    assert_eq!(rt; shown, wanted);
     Ok(())
 }
 

@@ -12,6 +12,7 @@ mod delta;
 mod error;
 mod marker;
 mod marks;
+mod raw_attrs;
 mod table;
 #[cfg(test)]
 mod tests;
@@ -24,6 +25,7 @@ pub use delta::{Change, MarkerDelta, MarkerDeltas};
 pub use error::{MarkError, ValueCause};
 pub use marker::Marker;
 pub use marks::MarkSet;
+pub use raw_attrs::RawAttrs;
 use std::alloc::AllocError;
 pub use text::{MarkText, RawText};
 pub use value::{RawValue, Value};

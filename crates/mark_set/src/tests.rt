@@ -271,3 +271,23 @@ fn copies_of_a_marker_and_its_delta_are_equal(rt: HostRuntime) -> Result<(), Fai
     assert_eq!(rt; delta.change, Change::Removed);
     Ok(())
 }
+
+#[test]
+fn raw_attributes_stay_in_the_order_in_which_they_came(rt: HostRuntime) -> Result<(), Fail> {
+    let alloc = rt.alloc();
+    let mut attrs = RawAttrs::empty(alloc);
+    assert_eq!(rt; attrs.len(), 0);
+    attrs.push(raw(alloc, "severity")?, RawValue::Int(2))?;
+    attrs.push(raw(alloc, "done")?, RawValue::Bool(true))?;
+    let copy = attrs.copy()?;
+    assert_eq!(rt; copy.len(), 2);
+    let mut marks = MarkSet::empty();
+    assert_eq!(rt; marks.create(alloc, 1, PROBLEM, copy.as_slice()), Ok(()));
+    let mut names = String::new(alloc);
+    for (name, _) in attrs.as_slice() {
+        names.push_str(name.text())?;
+        names.push(' ')?;
+    }
+    assert_eq!(rt; names.as_str(), "severity done ");
+    Ok(())
+}

@@ -82,8 +82,9 @@ impl<A: Atom> RuleTable<A> {
         Ok(())
     }
 
-    /// Whether the holder may begin this rule, and why it may not.
-    fn admit(&self, holder: u64, rule: &Rule<A>) -> Result<(), BeginError<A>>
+    /// Whether the holder may begin this rule, and why it may not: with the refusals of `begin`, of which it is the
+    /// first part. Costs one pass over the held rules, and takes memory only to tell a refusal.
+    pub fn admit(&self, holder: u64, rule: &Rule<A>) -> Result<(), BeginError<A>>
         ensures admitted { OnOk result (IsTrue (admits A.contains A.conflicts self.now holder rule.now)) }
         ensures refused { IfErr result (λ e. RefusesBegin A.contains A.conflicts self.now holder rule.now e) }
     {

@@ -63,16 +63,16 @@ unless : (b : Bool) → (b ≡ true → ⊥) → b ≡ false
 unless true h = absurd (h refl)
 unless false h = refl
 
-in_left : {A : Type 0} (x : A) (xs ys : List A) → IsIn x xs → IsIn x (xs ++ ys)
+pub in_left : {A : Type 0} (x : A) (xs ys : List A) → IsIn x xs → IsIn x (xs ++ ys)
 in_left x [] ys i = absurd i
 in_left x (y ∷ xs) ys (inl e) = inl e
 in_left x (y ∷ xs) ys (inr i) = inr (in_left x xs ys i)
 
-in_right : {A : Type 0} (x : A) (xs ys : List A) → IsIn x ys → IsIn x (xs ++ ys)
+pub in_right : {A : Type 0} (x : A) (xs ys : List A) → IsIn x ys → IsIn x (xs ++ ys)
 in_right x [] ys i = i
 in_right x (y ∷ xs) ys i = inr (in_right x xs ys i)
 
-in_both : {A : Type 0} (P : A → Type 0) (xs ys : List A) → ((x : A) → IsIn x xs → P x) → ((x : A) → IsIn x ys → P x) → (x : A) → IsIn x (xs ++ ys) → P x
+pub in_both : {A : Type 0} (P : A → Type 0) (xs ys : List A) → ((x : A) → IsIn x xs → P x) → ((x : A) → IsIn x ys → P x) → (x : A) → IsIn x (xs ++ ys) → P x
 in_both P [] ys h g x i = g x i
 in_both P (y ∷ xs) ys h g x (inl e) = h x (inl e)
 in_both P (y ∷ xs) ys h g x (inr i) = in_both P xs ys (λ z j. h z (inr j)) g x i
@@ -115,7 +115,7 @@ module _ {A : Type 0} {cmp : A → A → Ordering} {contains conflicts : A → A
     pub there : IsIn x all
     pub outermost : has_wider contains all x ≡ false
 
-  kept : (all : List A) → AllByRecursion (IsKeptOf all) (rule_of cmp contains all)
+  pub kept : (all : List A) → AllByRecursion (IsKeptOf all) (rule_of cmp contains all)
   kept all = each_all_placed cmp (IsKeptOf all) (filter (λ x. not (has_wider contains all x)) all) []
       (each_filter (IsKeptOf all) (λ x. not (has_wider contains all x)) all (λ x i e. record { there = i; outermost = not_true (has_wider contains all x) e })) tt
 
@@ -171,7 +171,7 @@ module _ {A : Type 0} {cmp : A → A → Ordering} {contains conflicts : A → A
   in_all_placed (x ∷ xs) done z (inl (inr i)) = in_all_placed xs (placed cmp x done) z (inl i)
   in_all_placed (x ∷ xs) done z (inr i) = in_all_placed xs (placed cmp x done) z (inr (in_placed x z done (inr i)))
 
-  in_rule_of : (all : List A) (z : A) → IsIn z all → has_wider contains all z ≡ false → IsIn z (rule_of cmp contains all)
+  pub in_rule_of : (all : List A) (z : A) → IsIn z all → has_wider contains all z ≡ false → IsIn z (rule_of cmp contains all)
   in_rule_of all z i h = in_all_placed (filter (λ x. not (has_wider contains all x)) all) [] z (inl (in_filter (λ x. not (has_wider contains all x)) z all i (ap not h)))
 
   -- what is wider than an atom of one rule is outermost among the other's and these

@@ -216,6 +216,16 @@ fn place_of<A: Atom>(atoms: &[A], atom: &A) -> Option<usize>
     Some(0)
 }
 
+impl<A: Atom> Clone for Rule<A> {
+    ghost use Rattle.std.specs.Prelude.{◌≡◌};
+
+    ghost is_clone = { λ rule copy. copy ≡ rule };
+
+    fn clone(&self) -> Result<Rule<A>, NoMemory> {
+        self.copy()
+    }
+}
+
 impl<A: Atom> PartialEq for Rule<A> {
     ghost use Rattle.std.specs.Cmp.Lexicographic.{pointwise, lists_equiv};
     ghost use Rattle.std.specs.Cmp.{partial_equiv_from_equiv};

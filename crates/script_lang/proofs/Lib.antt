@@ -6,8 +6,15 @@ pub mod Quoting
 pub mod Printed
 pub mod Taking
 mod Worked
+pub mod Fitting
+pub mod Numbers
 pub mod Coded
+pub mod Fronts
+pub mod Begun
+pub mod Verbs
+pub mod Ruled
 pub mod Runs
 pub mod Spelling
 pub mod Whole
 pub mod Texts
+pub mod Spaced

@@ -1,11 +1,13 @@
 -- The lines of scripts, taken one after another.
-use Rattle.std.proofs.Common.{◌≡◌, List, [], ◌∷◌, ◌++◌, map, length, Option, Some, None, refl, sym, ◌∙◌, ap, subst, append_assoc, append-nil, arith}
+use Rattle.std.proofs.Common.{◌≡◌, ℕ, List, [], ◌∷◌, ◌++◌, map, length, Option, Some, None, refl, sym, ◌∙◌, ap, subst, append_assoc, append-nil, arith}
 use Rattle.std.proofs.lemmas.List.{map-append}
 use Rattle.std.proofs.lemmas.Grind.{flat_map-append}
 use Rattle.std.specs.List.{flat_map, AllByRecursion}
 use Rattle.script_lang.specs.declared.script.Command.{Command}
 use Rattle.script_lang.specs.declared.script.Job.{Job}
 use Rattle.script_lang.specs.declared.script.Phase.{Phase}
+use Rattle.sched_rules.specs.declared.ws_atom.WsAtom.{WsAtom}
+use Rattle.script_lang.specs.declared.script.Priority.{Priority}
 use Rattle.script_lang.specs.declared.script.Priority.TheVariants.{Interactive}
 use Rattle.script_lang.specs.declared.line.Line.{Line}
 use Rattle.script_lang.specs.declared.line.Line.TheVariants.{BeginPhase, BeginJob, InJob, EndJob, EndPhase}
@@ -14,6 +16,15 @@ use Rattle.script_lang.specs.declared.progress.Place.TheVariants.{Outside, Befor
 use Rattle.script_lang.specs.declared.progress.Progress.{Progress}
 use Rattle.script_lang.specs.Scripts.{job_lines, phase_lines, HasOneJob}
 use Rattle.script_lang.specs.Reading.{goes, place_lines, read_lines}
+
+-- a phase begins with a job
+pub no_job : (phases : List Phase) (line : Line) → ((name : List ℕ) (priority : Priority) (rule : List WsAtom) → line ≡ BeginJob name priority rule → ⊥)
+    → None ≡ goes (record { phases = phases; place = BeforeJob }) line
+no_job phases BeginPhase n = refl
+no_job phases (BeginJob name priority rule) n = absurd (n name priority rule refl)
+no_job phases (InJob command) n = refl
+no_job phases EndJob n = refl
+no_job phases EndPhase n = refl
 
 -- where the reading stands after these lines
 abbrev pub runs : List Line → Option Progress → Option Progress
@@ -37,17 +48,17 @@ runs-append (line ∷ a) b (Some progress) = runs-append a b (goes progress line
 
 runs_commands : (commands : List Command) (phases : List Phase) (job : Job)
     → runs (map InJob commands) (Some (record { phases = phases; place = WithinJob job }))
-    ≡ Some (record { phases = phases; place = WithinJob (record { name = job.name; priority = job.priority; commands = job.commands ++ commands }) })
+    ≡ Some (record { phases = phases; place = WithinJob (record { name = job.name; priority = job.priority; rule = job.rule; commands = job.commands ++ commands }) })
 runs_commands [] phases job =
-    ap (λ (all : List Command). Some (record { phases = phases; place = WithinJob (record { name = job.name; priority = job.priority; commands = all }) })) (sym (append-nil job.commands))
+    ap (λ (all : List Command). Some (record { phases = phases; place = WithinJob (record { name = job.name; priority = job.priority; rule = job.rule; commands = all }) })) (sym (append-nil job.commands))
 runs_commands (command ∷ commands) phases job =
-    runs_commands commands phases (record { name = job.name; priority = job.priority; commands = job.commands ++ command ∷ [] })
-    ∙ ap (λ (all : List Command). Some (record { phases = phases; place = WithinJob (record { name = job.name; priority = job.priority; commands = all }) }))
+    runs_commands commands phases (record { name = job.name; priority = job.priority; rule = job.rule; commands = job.commands ++ command ∷ [] })
+    ∙ ap (λ (all : List Command). Some (record { phases = phases; place = WithinJob (record { name = job.name; priority = job.priority; rule = job.rule; commands = all }) }))
     (append_assoc job.commands (command ∷ []) commands)
 
 runs_job : (phases : List Phase) (job : Job) → runs (job_lines job) (Some (record { phases = phases; place = BeforeJob })) ≡ Some (record { phases = phases; place = AfterJob job })
 runs_job phases job =
-    let first : Job = record { name = job.name; priority = job.priority; commands = [] } in
+    let first : Job = record { name = job.name; priority = job.priority; rule = job.rule; commands = [] } in
     runs-append (map InJob job.commands) (EndJob ∷ []) (Some (record { phases = phases; place = WithinJob first }))
     ∙ ap (runs (EndJob ∷ [])) (runs_commands job.commands phases first)
 
@@ -77,7 +88,7 @@ runs_script phases h = runs_phases phases [] h
 runs_place : (phases : List Phase) (place : Place) → runs (place_lines place) (Some (record { phases = phases; place = Outside })) ≡ Some (record { phases = phases; place = place })
 runs_place phases Outside = refl
 runs_place phases BeforeJob = refl
-runs_place phases (WithinJob job) = runs_commands job.commands phases (record { name = job.name; priority = job.priority; commands = [] })
+runs_place phases (WithinJob job) = runs_commands job.commands phases (record { name = job.name; priority = job.priority; rule = job.rule; commands = [] })
 runs_place phases (AfterJob job) = runs_job phases job
 
 -- the lines that were read lead where the reading stands
@@ -108,22 +119,22 @@ next_at : (phases : List Phase) (place : Place) (line : Line) (after : Progress)
 next_at phases Outside BeginPhase after e =
     next_from (record { phases = phases; place = Outside }) BeginPhase (record { phases = phases; place = BeforeJob }) after
     (record { lines = ap (λ (lines : List Line). lines ++ BeginPhase ∷ []) (sym (append-nil (flat_map phase_lines phases))); jobs = λ h. h }) e
-next_at phases BeforeJob (BeginJob name priority) after e =
-    next_from (record { phases = phases; place = BeforeJob }) (BeginJob name priority)
-    (record { phases = phases; place = WithinJob (record { name = name; priority = priority; commands = [] }) }) after
-    (record { lines = sym (append_assoc (flat_map phase_lines phases) (BeginPhase ∷ []) (BeginJob name priority ∷ [])); jobs = λ h. h }) e
+next_at phases BeforeJob (BeginJob name priority rule) after e =
+    next_from (record { phases = phases; place = BeforeJob }) (BeginJob name priority rule)
+    (record { phases = phases; place = WithinJob (record { name = name; priority = priority; rule = rule; commands = [] }) }) after
+    (record { lines = sym (append_assoc (flat_map phase_lines phases) (BeginPhase ∷ []) (BeginJob name priority rule ∷ [])); jobs = λ h. h }) e
 next_at phases (WithinJob job) (InJob command) after e =
     next_from (record { phases = phases; place = WithinJob job }) (InJob command)
-    (record { phases = phases; place = WithinJob (record { name = job.name; priority = job.priority; commands = job.commands ++ command ∷ [] }) }) after
+    (record { phases = phases; place = WithinJob (record { name = job.name; priority = job.priority; rule = job.rule; commands = job.commands ++ command ∷ [] }) }) after
     (record {
-      lines = ap (λ (lines : List Line). flat_map phase_lines phases ++ BeginPhase ∷ BeginJob job.name job.priority ∷ lines) (map-append InJob job.commands (command ∷ []))
-          ∙ sym (append_assoc (flat_map phase_lines phases) (BeginPhase ∷ BeginJob job.name job.priority ∷ map InJob job.commands) (InJob command ∷ []));
+      lines = ap (λ (lines : List Line). flat_map phase_lines phases ++ BeginPhase ∷ BeginJob job.name job.priority job.rule ∷ lines) (map-append InJob job.commands (command ∷ []))
+          ∙ sym (append_assoc (flat_map phase_lines phases) (BeginPhase ∷ BeginJob job.name job.priority job.rule ∷ map InJob job.commands) (InJob command ∷ []));
       jobs = λ h. h;
     }) e
 next_at phases (WithinJob job) EndJob after e =
     next_from (record { phases = phases; place = WithinJob job }) EndJob (record { phases = phases; place = AfterJob job }) after
     (record {
-      lines = sym (append_assoc (flat_map phase_lines phases) (BeginPhase ∷ BeginJob job.name job.priority ∷ map InJob job.commands) (EndJob ∷ []));
+      lines = sym (append_assoc (flat_map phase_lines phases) (BeginPhase ∷ BeginJob job.name job.priority job.rule ∷ map InJob job.commands) (EndJob ∷ []));
       jobs = λ h. h;
     }) e
 next_at phases (AfterJob job) EndPhase after e =
@@ -152,7 +163,7 @@ jobs_kept before line after e = (next_at before.phases before.place line after e
 -- lines that close what is open
 abbrev pub closing : Place → List Line
 closing Outside = []
-closing BeforeJob = BeginJob (97 ∷ []) Interactive ∷ EndJob ∷ EndPhase ∷ []
+closing BeforeJob = BeginJob (97 ∷ []) Interactive [] ∷ EndJob ∷ EndPhase ∷ []
 closing (WithinJob job) = EndJob ∷ EndPhase ∷ []
 closing (AfterJob job) = EndPhase ∷ []
 
@@ -186,7 +197,7 @@ closes phases Outside h = record {
   lines = sym (append-nil (flat_map phase_lines phases)) ∙ sym (append-nil (flat_map phase_lines phases ++ []));
 }
 closes phases BeforeJob h =
-    closes_after (record { phases = phases; place = BeforeJob }) (record { name = 97 ∷ []; priority = Interactive; commands = [] })
-    (BeginJob (97 ∷ []) Interactive ∷ EndJob ∷ []) h refl refl
+    closes_after (record { phases = phases; place = BeforeJob }) (record { name = 97 ∷ []; priority = Interactive; rule = []; commands = [] })
+    (BeginJob (97 ∷ []) Interactive [] ∷ EndJob ∷ []) h refl refl
 closes phases (WithinJob job) h = closes_after (record { phases = phases; place = WithinJob job }) job (EndJob ∷ []) h refl refl
 closes phases (AfterJob job) h = closes_after (record { phases = phases; place = AfterJob job }) job [] h refl (append-nil (BeginPhase ∷ job_lines job))

@@ -1,23 +1,26 @@
 -- Lines one after another, and the lines that they say.
 use Rattle.std.proofs.Common.{◌≡◌, ◌⊎◌, inl, inr, ℕ, ◌+◌, ◌<◌, nat_le, Bool, true, false, List, [], ◌∷◌, ◌++◌, map, length, refl, sym, ◌∙◌, ap, subst, arith}
-use Rattle.std.specs.Prelude.{◌≢◌}
+use Rattle.std.specs.Prelude.{◌≢◌, Some, None, codes}
 use Rattle.std.proofs.lemmas.Bool.Decides.{nat_tests}
 use Rattle.res_path.proofs.Spelled.{both}
 use Rattle.std.specs.List.{list_all, AllByRecursion}
 use Rattle.res_path.specs.Paths.{path_text}
-use Rattle.ws_ops.specs.declared.op.Op.TheVariants.{Delete, Read}
-use Rattle.ws_ops.specs.declared.op.Want.TheVariants.{Show, Cat}
-use Rattle.script_lang.specs.declared.script.Command.TheVariants.{Operation, Batch, EndBatch, Checkpoint}
+use Rattle.std.specs.Prelude.{decimal}
+use Rattle.std.specs.Fmt.{signed_decimal}
+use Rattle.ws_ops.specs.declared.op.Op.TheVariants.{Delete, Sync, Read}
+use Rattle.ws_ops.specs.declared.op.Want.TheVariants.{Show, Cat, Tree, Digest}
+use Rattle.script_lang.specs.declared.script.Command.TheVariants.{Operation, Batch, EndBatch, Checkpoint, Begin, TryBegin, End}
 use Rattle.script_lang.specs.declared.line.Line.{Line}
 use Rattle.script_lang.specs.declared.line.Line.TheVariants.{BeginPhase, BeginJob, InJob, EndJob, EndPhase}
-use Rattle.script_lang.specs.Words.{Token, AreBytes, ReadsBack, printed, is_bare_byte}
+use Rattle.script_lang.specs.Words.{Token, AreBytes, ReadsBack, printed, is_bare_byte, is_bare}
 use Rattle.script_lang.specs.Lines.{is_skipped, unskipped, SpellsEach, SpellsLines, next_number}
-use Rattle.script_lang.specs.Commands.{Part, keyword, a_name, a_path, a_word, FitsParts, line_parts}
-use Rattle.script_lang.specs.Scripts.{FitsLines, part_word, line_text}
-use Rattle.script_lang.specs.Printed.{AreParts, AreLines}
+use Rattle.script_lang.specs.Commands.{Part, keyword, a_number, an_integer, a_name, a_path, a_text, a_word, FitsParts, rule_parts, line_parts}
+use Rattle.script_lang.specs.Scripts.{FitsLines, part_word, parts_text, line_text}
+use Rattle.script_lang.specs.Printed.{AreParts, AreWritten}
 use Rattle.script_lang.proofs.Coded.{same_line}
 use Rattle.script_lang.proofs.Lined.{keeps_line}
-use Rattle.script_lang.proofs.Printed.{line_spells, text_spells}
+use Rattle.script_lang.proofs.Printed.{line_spells, line_kept, text_spells}
+use Rattle.script_lang.proofs.Numbers.{bare_decimal, bare_signed}
 
 -- ---- in front, and what is left
 
@@ -76,32 +79,50 @@ line_tokens line = map printed (map part_word (line_parts line))
 
 some_parts : (line : Line) → map part_word (line_parts line) ≢ []
 some_parts BeginPhase = λ e. cc
-some_parts (BeginJob name priority) = λ e. cc
+some_parts (BeginJob name priority rule) = λ e. cc
 some_parts EndJob = λ e. cc
 some_parts EndPhase = λ e. cc
 some_parts (InJob Batch) = λ e. cc
 some_parts (InJob EndBatch) = λ e. cc
 some_parts (InJob Checkpoint) = λ e. cc
+some_parts (InJob (Begin rule)) = λ e. cc
+some_parts (InJob (TryBegin rule)) = λ e. cc
+some_parts (InJob (End rule)) = λ e. cc
 some_parts (InJob (Operation (Delete p))) = λ e. cc
+some_parts (InJob (Operation (Sync p name None))) = λ e. cc
+some_parts (InJob (Operation (Sync p name (Some bytes)))) = λ e. cc
 some_parts (InJob (Operation op)) = λ e. cc
 
-line_kept : (line : Line) → is_skipped (line_text line) ≡ false
-line_kept BeginPhase = refl
-line_kept (BeginJob name priority) = refl
-line_kept EndJob = refl
-line_kept EndPhase = refl
-line_kept (InJob Batch) = refl
-line_kept (InJob EndBatch) = refl
-line_kept (InJob Checkpoint) = refl
-line_kept (InJob (Operation (Read p Show))) = refl
-line_kept (InJob (Operation (Read p Cat))) = refl
-line_kept (InJob (Operation op)) = refl
+printed_kept : (verb : List ℕ) (parts : List Part) → is_bare verb ≡ true → is_skipped verb ≡ false → is_skipped (parts_text (keyword verb ∷ parts)) ≡ false
+printed_kept verb parts h g = line_kept verb (map part_word parts) h g
+
+text_kept : (line : Line) → is_skipped (line_text line) ≡ false
+text_kept BeginPhase = refl
+text_kept (BeginJob name priority rule) = refl
+text_kept EndJob = refl
+text_kept EndPhase = refl
+text_kept (InJob Batch) = refl
+text_kept (InJob EndBatch) = refl
+text_kept (InJob Checkpoint) = refl
+text_kept (InJob (Begin rule)) = printed_kept (codes "begin") (rule_parts rule) refl refl
+text_kept (InJob (TryBegin rule)) = printed_kept (codes "trybegin") (rule_parts rule) refl refl
+text_kept (InJob (End rule)) = printed_kept (codes "end") (rule_parts rule) refl refl
+text_kept (InJob (Operation (Sync p name None))) = refl
+text_kept (InJob (Operation (Sync p name (Some bytes)))) = refl
+text_kept (InJob (Operation (Read p Show))) = refl
+text_kept (InJob (Operation (Read p Cat))) = refl
+text_kept (InJob (Operation (Read p Tree))) = refl
+text_kept (InJob (Operation (Read p Digest))) = refl
+text_kept (InJob (Operation op)) = refl
 
 fits_printed : (parts : List Part) → AreParts parts → FitsParts (map printed (map part_word parts)) parts
 fits_printed [] h = tt
 fits_printed (keyword text ∷ parts) h = ((h.0, refl), fits_printed parts h.1)
+fits_printed (a_number bits least number ∷ parts) h = ((h.0.0, bare_decimal number h.0.1, refl), fits_printed parts h.1)
+fits_printed (an_integer integer ∷ parts) h = ((h.0, bare_signed integer h.0, refl), fits_printed parts h.1)
 fits_printed (a_name name ∷ parts) h = ((h.0.0, refl), fits_printed parts h.1)
 fits_printed (a_path path ∷ parts) h = ((h.0.0, refl), fits_printed parts h.1)
+fits_printed (a_text text ∷ parts) h = ((h.0.0, refl), fits_printed parts h.1)
 fits_printed (a_word word ∷ parts) h = (refl, fits_printed parts h.1)
 
 small_byte : (b : ℕ) → is_bare_byte b ≡ true → b < 256
@@ -111,26 +132,32 @@ bare_bytes : (text : List ℕ) → list_all is_bare_byte text ≡ true → AreBy
 bare_bytes [] h = tt
 bare_bytes (b ∷ text) h = let parts = both (is_bare_byte b) (list_all is_bare_byte text) h in (small_byte b parts.0, bare_bytes text parts.1)
 
+bare_back : (text : List ℕ) → is_bare text ≡ true → ReadsBack text
+bare_back text h = text_spells text (bare_bytes text (both (nat_le 1 (length text)) (list_all is_bare_byte text) h).1)
+
 -- the words of parts are read back
 part_words : (parts : List Part) → AreParts parts → AllByRecursion ReadsBack (map part_word parts)
 part_words [] h = tt
-part_words (keyword text ∷ parts) h = (text_spells text (bare_bytes text (both (nat_le 1 (length text)) (list_all is_bare_byte text) h.0).1), part_words parts h.1)
+part_words (keyword text ∷ parts) h = (bare_back text h.0, part_words parts h.1)
+part_words (a_number bits least number ∷ parts) h = (bare_back (decimal number) (bare_decimal number h.0.1), part_words parts h.1)
+part_words (an_integer integer ∷ parts) h = (bare_back (signed_decimal integer) (bare_signed integer h.0), part_words parts h.1)
 part_words (a_name name ∷ parts) h = (text_spells name h.0.1, part_words parts h.1)
 part_words (a_path path ∷ parts) h = (text_spells (path_text path) h.0.1, part_words parts h.1)
+part_words (a_text text ∷ parts) h = (text_spells text h.0.1, part_words parts h.1)
 part_words (a_word word ∷ parts) h = (text_spells word h.0, part_words parts h.1)
 
-each_printed : (lines : List Line) → AreLines lines → SpellsEach (map line_text lines) (map line_tokens lines)
+each_printed : (lines : List Line) → AreWritten lines → SpellsEach (map line_text lines) (map line_tokens lines)
 each_printed [] h = tt
-each_printed (line ∷ lines) h = (line_spells (map part_word (line_parts line)) (some_parts line) (part_words (line_parts line) h.0), each_printed lines h.1)
+each_printed (line ∷ lines) h = (line_spells (map part_word (line_parts line)) (some_parts line) (part_words (line_parts line) h.0.0), each_printed lines h.1)
 
 unskipped_printed : (lines : List Line) → unskipped (map line_text lines) ≡ map line_text lines
 unskipped_printed [] = refl
-unskipped_printed (line ∷ lines) = keeps_line (line_text line) (map line_text lines) (line_kept line) ∙ ap (λ (more : List (List ℕ)). line_text line ∷ more) (unskipped_printed lines)
+unskipped_printed (line ∷ lines) = keeps_line (line_text line) (map line_text lines) (text_kept line) ∙ ap (λ (more : List (List ℕ)). line_text line ∷ more) (unskipped_printed lines)
 
 -- printed lines spell what they say
-pub spells_printed : (lines : List Line) → AreLines lines → SpellsLines (map line_text lines) (map line_tokens lines)
+pub spells_printed : (lines : List Line) → AreWritten lines → SpellsLines (map line_text lines) (map line_tokens lines)
 spells_printed lines h = subst (λ (texts : List (List ℕ)). SpellsEach texts (map line_tokens lines)) (sym (unskipped_printed lines)) (each_printed lines h)
 
-pub says_printed : (lines : List Line) → AreLines lines → FitsLines (map line_tokens lines) lines
+pub says_printed : (lines : List Line) → AreWritten lines → FitsLines (map line_tokens lines) lines
 says_printed [] h = tt
-says_printed (line ∷ lines) h = (fits_printed (line_parts line) h.0, says_printed lines h.1)
+says_printed (line ∷ lines) h = (record { written = line; read = h.0.1; fits = fits_printed (line_parts line) h.0.0 }, says_printed lines h.1)

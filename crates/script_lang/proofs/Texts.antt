@@ -11,15 +11,18 @@ use Rattle.script_lang.specs.declared.script.Script.{Script}
 use Rattle.script_lang.specs.declared.line.Line.{Line}
 use Rattle.script_lang.specs.declared.line.Line.TheVariants.{BeginPhase, BeginJob, InJob, EndJob, EndPhase}
 use Rattle.script_lang.specs.Lines.{lines_of, SpellsLines}
-use Rattle.script_lang.specs.Commands.{command_parts, line_parts}
-use Rattle.script_lang.specs.Scripts.{HasOneJob, job_lines, phase_lines, script_lines, script_text, line_text, part_word, IsScript}
-use Rattle.script_lang.specs.Printed.{ended, AreParts, AreLines}
+use Rattle.script_lang.specs.Commands.{line_parts}
+use Rattle.script_lang.specs.Scripts.{HasOneJob, job_lines, phase_lines, script_lines, script_text, line_text, part_word, CanBeWritten, IsScript}
+use Rattle.script_lang.specs.Printed.{ended, IsLine, AreLines, AreWritten}
 use Rattle.script_lang.proofs.Printed.{has_no_line_feed, line_no_feed, lines_back}
 use Rattle.script_lang.proofs.Spelling.{line_tokens, spells_printed, says_printed}
 
 -- what a loop has taken at its end
 pub whole_taken : {X : Type 0} (n : ℕ) (xs all : List X) → length xs ≤ n → n ≤ length xs → xs ≡ all → take n xs ≡ all
 whole_taken n xs all h g e = let end : n ≡ length xs = omega (arith, h, g) in ap (λ (n : ℕ). take n xs) end ∙ take-length xs ∙ e
+
+pub all_taken : {X : Type 0} (n : ℕ) (xs : List X) → length xs ≤ n → n ≤ length xs → take n xs ≡ xs
+all_taken n xs h g = whole_taken n xs xs h g refl
 
 ended-append : (a b : List Line) → ended (a ++ b) ≡ ended a ++ ended b
 ended-append a b = flat_map-append (λ (line : Line). line_text line ++ 10 ∷ []) a b
@@ -41,22 +44,22 @@ lines_each : {X : Type 0} (f : X → List Line) (xs : List X) → AllByRecursion
 lines_each f [] h = tt
 lines_each f (x ∷ xs) h = lines_append (f x) (flat_map f xs) h.0 (lines_each f xs h.1)
 
-lines_commands : (commands : List Command) → AllByRecursion (λ (command : Command). AreParts (command_parts command)) commands → AreLines (map InJob commands)
+lines_commands : (commands : List Command) → AllByRecursion (λ (command : Command). IsLine (InJob command)) commands → AreLines (map InJob commands)
 lines_commands [] h = tt
 lines_commands (command ∷ commands) h = (h.0, lines_commands commands h.1)
 
 -- a job's text is that of its first line, of its commands and of its last line
 pub job_text : (job : Job) → ended (job_lines job)
-    ≡ ((line_text (BeginJob job.name job.priority) ++ 10 ∷ []) ++ flat_map (λ (command : Command). line_text (InJob command) ++ 10 ∷ []) job.commands) ++ ended (EndJob ∷ [])
+    ≡ ((line_text (BeginJob job.name job.priority job.rule) ++ 10 ∷ []) ++ flat_map (λ (command : Command). line_text (InJob command) ++ 10 ∷ []) job.commands) ++ ended (EndJob ∷ [])
 job_text job =
-    ended-append (BeginJob job.name job.priority ∷ map InJob job.commands) (EndJob ∷ [])
-    ∙ ap (λ (rest : List ℕ). ((line_text (BeginJob job.name job.priority) ++ 10 ∷ []) ++ rest) ++ ended (EndJob ∷ [])) (ended_commands job.commands)
+    ended-append (BeginJob job.name job.priority job.rule ∷ map InJob job.commands) (EndJob ∷ [])
+    ∙ ap (λ (rest : List ℕ). ((line_text (BeginJob job.name job.priority job.rule) ++ 10 ∷ []) ++ rest) ++ ended (EndJob ∷ [])) (ended_commands job.commands)
 
-pub job_built : (old begun within new : List ℕ) (job : Job) (commands : List Command) → begun ≡ old ++ (line_text (BeginJob job.name job.priority) ++ 10 ∷ [])
+pub job_built : (old begun within new : List ℕ) (job : Job) (commands : List Command) → begun ≡ old ++ (line_text (BeginJob job.name job.priority job.rule) ++ 10 ∷ [])
     → within ≡ begun ++ flat_map (λ (command : Command). line_text (InJob command) ++ 10 ∷ []) commands → commands ≡ job.commands → new ≡ within ++ ended (EndJob ∷ [])
     → new ≡ old ++ ended (job_lines job)
 job_built old begun within new job commands h g e f =
-    let head = line_text (BeginJob job.name job.priority) ++ 10 ∷ [] in
+    let head = line_text (BeginJob job.name job.priority job.rule) ++ 10 ∷ [] in
     let each = λ (command : Command). line_text (InJob command) ++ 10 ∷ [] in
     let body = flat_map each job.commands in
     f ∙ ap (λ (front : List ℕ). front ++ ended (EndJob ∷ [])) (g ∙ (λ i. h i ++ flat_map each (e i)))
@@ -64,16 +67,25 @@ job_built old begun within new job commands h g e f =
     ∙ append_assoc old (head ++ body) (ended (EndJob ∷ []))
     ∙ ap (λ (rest : List ℕ). old ++ rest) (sym (job_text job))
 
-pub job_parts : (job : Job) → AreParts (line_parts (BeginJob job.name job.priority)) → AllByRecursion (λ (command : Command). AreParts (command_parts command)) job.commands → AreLines (job_lines job)
-job_parts job h g = (h, lines_append (map InJob job.commands) (EndJob ∷ []) (lines_commands job.commands g) ((refl, tt), tt))
+pub job_parts : (job : Job) → IsLine (BeginJob job.name job.priority job.rule) → AllByRecursion (λ (command : Command). IsLine (InJob command)) job.commands → AreLines (job_lines job)
+job_parts job h g = (h, lines_append (map InJob job.commands) (EndJob ∷ []) (lines_commands job.commands g) ((λ _. ((refl, tt), refl)), tt))
 
 pub phase_text : (phase : Phase) → ended (phase_lines phase) ≡ (ended (BeginPhase ∷ []) ++ flat_map (λ (job : Job). ended (job_lines job)) phase.jobs) ++ ended (EndPhase ∷ [])
 phase_text phase =
     ended-append (BeginPhase ∷ flat_map job_lines phase.jobs) (EndPhase ∷ [])
     ∙ ap (λ (rest : List ℕ). (ended (BeginPhase ∷ []) ++ rest) ++ ended (EndPhase ∷ [])) (ended_each job_lines phase.jobs)
 
+pub phase_built : (old begun within new : List ℕ) (phase : Phase) (jobs : List Job) → begun ≡ old ++ ended (BeginPhase ∷ [])
+    → within ≡ begun ++ flat_map (λ (job : Job). ended (job_lines job)) jobs → jobs ≡ phase.jobs → new ≡ within ++ ended (EndPhase ∷ []) → new ≡ old ++ ended (phase_lines phase)
+phase_built old begun within new phase jobs h g e f =
+    let each = λ (job : Job). ended (job_lines job) in
+    f ∙ ap (λ (front : List ℕ). front ++ ended (EndPhase ∷ [])) (g ∙ (λ i. h i ++ flat_map each (e i)))
+    ∙ ap (λ (front : List ℕ). front ++ ended (EndPhase ∷ [])) (append_assoc old (ended (BeginPhase ∷ [])) (flat_map each phase.jobs))
+    ∙ append_assoc old (ended (BeginPhase ∷ []) ++ flat_map each phase.jobs) (ended (EndPhase ∷ []))
+    ∙ ap (λ (rest : List ℕ). old ++ rest) (sym (phase_text phase))
+
 pub phase_parts : (phase : Phase) → AllByRecursion (λ (job : Job). AreLines (job_lines job)) phase.jobs → AreLines (phase_lines phase)
-phase_parts phase h = ((refl, tt), lines_append (flat_map job_lines phase.jobs) (EndPhase ∷ []) (lines_each job_lines phase.jobs h) ((refl, tt), tt))
+phase_parts phase h = ((λ _. ((refl, tt), refl)), lines_append (flat_map job_lines phase.jobs) (EndPhase ∷ []) (lines_each job_lines phase.jobs h) ((λ _. ((refl, tt), refl)), tt))
 
 pub whole_text : (script : Script) → script_text script ≡ flat_map (λ (phase : Phase). ended (phase_lines phase)) script.phases
 whole_text script = ended_each phase_lines script.phases
@@ -92,11 +104,15 @@ no_feeds (line ∷ lines) = (line_no_feed (map part_word (line_parts line)), no_
 lines_again : (lines : List Line) → lines_of (ended lines) ≡ map line_text lines
 lines_again lines = ap lines_of (texts_of lines) ∙ lines_back (map line_text lines) (no_feeds lines)
 
+written : (lines : List Line) → AreLines lines → CanBeWritten lines → AreWritten lines
+written [] h w = tt
+written (line ∷ lines) h w = (h.0 w.0, written lines h.1 w.1)
+
 pub reads_back : (bytes : List ℕ) (script : Script) → bytes ≡ script_text script → AllByRecursion HasOneJob script.phases
-    → AllByRecursion (λ (phase : Phase). AreLines (phase_lines phase)) script.phases → IsScript bytes script
-reads_back bytes script e h g =
+    → AllByRecursion (λ (phase : Phase). AreLines (phase_lines phase)) script.phases → CanBeWritten (script_lines script) → IsScript bytes script
+reads_back bytes script e h g w =
     let lines = script_lines script in
-    let parts = lines_each phase_lines script.phases g in record {
+    let parts = written lines (lines_each phase_lines script.phases g) w in record {
       jobs = h;
       tokens = map line_tokens lines;
       spelled = subst (λ (texts : List (List ℕ)). SpellsLines texts (map line_tokens lines)) (sym (ap lines_of e ∙ lines_again lines)) (spells_printed lines parts);

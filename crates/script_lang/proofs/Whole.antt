@@ -1,11 +1,10 @@
 -- What the reading of a text shows of its scripts and of its first bad line.
-use Rattle.std.proofs.Common.{◌≡◌, ◌⊎◌, inl, inr, ℕ, ◌+◌, ◌-◌, Bool, true, false, List, [], ◌∷◌, ◌++◌, map, length, take, Some, None, Result, Err, refl, sym, ◌∙◌, ap, subst, append_assoc, append-nil, lit<, lit≤, arith}
+use Rattle.std.proofs.Common.{◌≡◌, ◌⊎◌, inl, inr, ℕ, ◌+◌, ◌-◌, Bool, true, false, List, [], ◌∷◌, ◌++◌, map, length, take, Some, None, Result, Err, refl, sym, ◌∙◌, ap, subst, append_assoc, append-nil, lit<, arith}
 use Rattle.std.specs.Prelude.{MatchResult}
 use Rattle.std.specs.List.{flat_map, AllByRecursion}
 use Rattle.std.proofs.lemmas.List.{length-append}
 use Rattle.std.proofs.Math.Seq.{take-append_seam, take-length}
 use Rattle.res_path.specs.Names.{IsName}
-use Rattle.res_path.specs.Paths.{IsPath}
 use Rattle.script_lang.specs.declared.script.Phase.{Phase}
 use Rattle.script_lang.specs.declared.script.Script.{Script}
 use Rattle.script_lang.specs.declared.error.ScriptError.{ScriptError}
@@ -16,10 +15,10 @@ use Rattle.script_lang.specs.declared.progress.Place.TheVariants.{Outside, Befor
 use Rattle.script_lang.specs.declared.progress.Progress.{Progress}
 use Rattle.script_lang.specs.Words.{Token, SpellsLine}
 use Rattle.script_lang.specs.Lines.{lines_of, unskipped, SpellsEach, SpellsLines, TakesLine, next_number, Skips}
-use Rattle.script_lang.specs.Commands.{FitsParts, line_parts}
+use Rattle.script_lang.specs.Commands.{FitsLine}
 use Rattle.script_lang.specs.Scripts.{FitsLines, HasOneJob, phase_lines, script_lines, IsScriptOf, IsBeginning, IsFirstBad, line_text}
 use Rattle.script_lang.specs.Reading.{goes, place_lines, read_lines, SaysNext, Steps, IsStuck, IsWhole}
-use Rattle.script_lang.specs.Printed.{AreLines}
+use Rattle.script_lang.specs.Printed.{AreWritten}
 use Rattle.script_lang.proofs.Runs.{runs, begun, runs-append, runs_script, runs_read, read_more, jobs_kept, closing, closes}
 use Rattle.script_lang.proofs.Coded.{same_line}
 use Rattle.script_lang.proofs.Lined.{keeps_line, unskipped_append}
@@ -161,7 +160,7 @@ short_none lines rest number progress h e open_place script s =
 
 -- the line says nothing that can stand there
 abbrev IsBlocked : Progress → List ℕ → Type 0
-IsBlocked progress next = (tokens : List Token) → SpellsLine next tokens → (line : Line) → FitsParts tokens (line_parts line) → goes progress line ≡ None
+IsBlocked progress next = (tokens : List Token) → SpellsLine next tokens → (line : Line) → FitsLine tokens line → goes progress line ≡ None
 
 -- behind a line that can't stand there nothing makes a script
 pub blocked_none : (lines rest more : List (List ℕ)) (next : List ℕ) (number : ℕ) (progress : Progress) → HasRead lines rest number progress → unskipped rest ≡ next ∷ more
@@ -188,14 +187,11 @@ a_name_is : IsName (97 ∷ [])
 unfolding lib.Utf8.encode
 a_name_is = record { utf8 = (97 ∷ [], (refl, refl)); form = refl }
 
-root_is : IsPath []
-root_is = record { names = tt; deep = lit≤ tt; long = lit≤ tt }
-
-closing_parts : (place : Place) → AreLines (closing place)
+closing_parts : (place : Place) → AreWritten (closing place)
 closing_parts Outside = tt
-closing_parts BeforeJob = ((refl, ((a_name_is, (lit< tt, tt)), (refl, (refl, ((root_is, (lit< tt, tt)), tt))))), ((refl, tt), ((refl, tt), tt)))
-closing_parts (WithinJob job) = ((refl, tt), ((refl, tt), tt))
-closing_parts (AfterJob job) = ((refl, tt), tt)
+closing_parts BeforeJob = (((refl, ((a_name_is, (lit< tt, tt)), (refl, (refl, tt)))), refl), (((refl, tt), refl), (((refl, tt), refl), tt)))
+closing_parts (WithinJob job) = (((refl, tt), refl), (((refl, tt), refl), tt))
+closing_parts (AfterJob job) = (((refl, tt), refl), tt)
 
 -- the lines in front are a beginning, whatever is left
 begins : (lines rest : List (List ℕ)) (number : ℕ) (progress : Progress) (passed : List (List ℕ)) → (h : HasRead lines rest number progress) → unskipped passed ≡ [] → IsBeginning (h.front ++ passed)
@@ -299,11 +295,11 @@ stuck_none lines rest read number progress h s w script = by (next_line read res
 
 -- at a line that says nothing
 pub unsaid : (read number : ℕ) (lines rest : List (List ℕ)) (tokens : List Token) → number ≡ next_number read lines → TakesLine lines tokens rest
-    → ((line : Line) → FitsParts tokens (line_parts line) → ⊥) → (progress : Progress) → IsStuck read lines progress number
+    → ((line : Line) → FitsLine tokens line → ⊥) → (progress : Progress) → IsStuck read lines progress number
 unsaid read number lines rest tokens n t u progress = record {
   number_is = n;
   none = λ next more e others s line f.
-      absurd (u line (subst (λ (tokens : List Token). FitsParts tokens (line_parts line)) (sym (taken_tokens lines rest more next tokens others t e s)) f));
+      absurd (u line (subst (λ (tokens : List Token). FitsLine tokens line) (sym (taken_tokens lines rest more next tokens others t e s)) f));
 }
 
 -- at a line that spells no words
@@ -319,7 +315,7 @@ barred read number lines rest line progress n s g = record {
   number_is = n;
   none = λ next more e others t other f.
       let same = taken_tokens lines rest more next s.tokens others s.taken e t in
-      ap (goes progress) (same_line others other line f (subst (λ (tokens : List Token). FitsParts tokens (line_parts line)) same s.fits)) ∙ g;
+      ap (goes progress) (same_line others other line f (subst (λ (tokens : List Token). FitsLine tokens line) same s.fits)) ∙ g;
 }
 
 pub err_same : {T E : Type 0} (x y : E) → ◌≡◌ {A = Result T E} (Err x) (Err y) → x ≡ y

@@ -1,12 +1,13 @@
 -- How lines are printed.
-use Rattle.std.specs.Prelude.{ℕ, List, [], ◌∷◌, ◌++◌, IsTrue}
+use Rattle.std.specs.Prelude.{◌≡◌, ℕ, ◌<◌, ◌^◌, List, [], ◌∷◌, ◌++◌, IsTrue, IsUtf8, FitsSigned}
+use Rattle.std.specs.Int.{w32}
 use Rattle.std.specs.List.{flat_map, AllByRecursion}
 use Rattle.res_path.specs.Names.{IsName}
 use Rattle.res_path.specs.Paths.{IsPath, path_text}
 use Rattle.script_lang.specs.declared.line.Line.{Line}
-use Rattle.script_lang.specs.Words.{is_bare, AreBytes}
-use Rattle.script_lang.specs.Commands.{Part, keyword, a_name, a_path, a_word, line_parts}
-use Rattle.script_lang.specs.Scripts.{line_text}
+use Rattle.script_lang.specs.Words.{is_bare, AreBytes, word_text}
+use Rattle.script_lang.specs.Commands.{Part, keyword, a_number, an_integer, a_name, a_path, a_text, a_word, IsNumber, line_parts, line_read}
+use Rattle.script_lang.specs.Scripts.{part_word, line_text, line_rule, HasLines}
 
 -- lines with LF after each
 abbrev pub ended : List Line → List ℕ
@@ -15,12 +16,30 @@ ended lines = flat_map (λ line. line_text line ++ 10 ∷ []) lines
 -- a part that its printed word stands for
 abbrev pub IsPart : Part → Type 0
 IsPart (keyword text) = IsTrue (is_bare text)
+IsPart (a_number bits least number) = IsNumber bits least number × (number < 2 ^ 64)
+IsPart (an_integer integer) = FitsSigned w32 integer
 IsPart (a_name name) = IsName name × AreBytes name
 IsPart (a_path path) = IsPath path × AreBytes (path_text path)
+IsPart (a_text text) = IsUtf8 text × AreBytes text
 IsPart (a_word word) = AreBytes word
 
 abbrev pub AreParts : List Part → Type 0
 AreParts parts = AllByRecursion IsPart parts
 
+-- the words of the parts, with a space in front of each
+abbrev pub spaced : List Part → List ℕ
+spaced parts = flat_map (λ part. 32 ∷ word_text (part_word part)) parts
+
+-- a line that its printed words stand for
+abbrev pub IsWrittenLine : Line → Type 0
+IsWrittenLine line = AreParts (line_parts line) × (line_read line ≡ line)
+
+abbrev pub AreWritten : List Line → Type 0
+AreWritten lines = AllByRecursion IsWrittenLine lines
+
+-- the same, if each range of lines of its rule has a line
+abbrev pub IsLine : Line → Type 0
+IsLine line = AllByRecursion HasLines (line_rule line) → IsWrittenLine line
+
 abbrev pub AreLines : List Line → Type 0
-AreLines lines = AllByRecursion (λ line. AreParts (line_parts line)) lines
+AreLines lines = AllByRecursion IsLine lines

@@ -1,8 +1,13 @@
 -- Scripts, the texts that spell them, and the first bad line of a text that spells none.
-use Rattle.std.specs.Prelude.{◌≡◌, ℕ, ◌+◌, ◌-◌, ◌≤◌, List, [], ◌∷◌, ◌++◌, map, length, take}
+use Rattle.std.specs.Prelude.{◌≡◌, ℕ, ◌+◌, ◌-◌, ◌≤◌, List, [], ◌∷◌, ◌++◌, map, length, take, decimal, ⊤}
+use Rattle.std.specs.Fmt.{signed_decimal}
 use Rattle.std.specs.List.{flat_map, join_with_byte, AllByRecursion}
 use Rattle.res_path.specs.Paths.{path_text}
+use Rattle.sched_rules.specs.declared.ws_atom.WsAtom.{WsAtom}
+use Rattle.sched_rules.specs.declared.ws_atom.WsAtom.TheVariants.{Path, Mutex, Lines}
 use Rattle.ws_ops.specs.declared.op.Op.{Op}
+use Rattle.script_lang.specs.declared.script.Command.{Command}
+use Rattle.script_lang.specs.declared.script.Command.TheVariants.{Operation, Batch, EndBatch, Checkpoint, Begin, TryBegin, End}
 use Rattle.script_lang.specs.declared.script.Job.{Job}
 use Rattle.script_lang.specs.declared.script.Phase.{Phase}
 use Rattle.script_lang.specs.declared.script.Script.{Script}
@@ -10,12 +15,12 @@ use Rattle.script_lang.specs.declared.line.Line.{Line}
 use Rattle.script_lang.specs.declared.line.Line.TheVariants.{BeginPhase, BeginJob, InJob, EndJob, EndPhase}
 use Rattle.script_lang.specs.Words.{Word, Token, word_text}
 use Rattle.script_lang.specs.Lines.{lines_of, SpellsLines}
-use Rattle.script_lang.specs.Commands.{Part, keyword, a_name, a_path, a_word, FitsParts, line_parts, operation_parts}
+use Rattle.script_lang.specs.Commands.{Part, keyword, a_number, an_integer, a_name, a_path, a_text, a_word, FitsLine, line_parts, command_parts, operation_parts}
 
 -- ---- the lines of a script
 
 abbrev pub job_lines : Job → List Line
-job_lines job = BeginJob job.name job.priority ∷ (map InJob job.commands ++ EndJob ∷ [])
+job_lines job = BeginJob job.name job.priority job.rule ∷ (map InJob job.commands ++ EndJob ∷ [])
 
 abbrev pub phase_lines : Phase → List Line
 phase_lines phase = BeginPhase ∷ (flat_map job_lines phase.jobs ++ EndPhase ∷ [])
@@ -28,7 +33,7 @@ script_lines script = flat_map phase_lines script.phases
 -- the tokens stand for the lines, one by one
 abbrev pub FitsLines : List (List Token) → List Line → Type 0
 FitsLines [] [] = Unit {0}
-FitsLines (tokens ∷ more) (line ∷ lines) = FitsParts tokens (line_parts line) × FitsLines more lines
+FitsLines (tokens ∷ more) (line ∷ lines) = FitsLine tokens line × FitsLines more lines
 FitsLines [] (line ∷ lines) = ⊥
 FitsLines (tokens ∷ more) [] = ⊥
 
@@ -68,8 +73,11 @@ pub record IsFirstBad (bytes : List ℕ) (number : ℕ) : Type 0 where
 -- the word that a part is
 abbrev pub part_word : Part → Word
 part_word (keyword text) = text
+part_word (a_number bits least number) = decimal number
+part_word (an_integer integer) = signed_decimal integer
 part_word (a_name name) = name
 part_word (a_path path) = path_text path
+part_word (a_text text) = text
 part_word (a_word word) = word
 
 -- the words of the parts, with one space between
@@ -86,3 +94,37 @@ script_text script = flat_map (λ line. line_text line ++ 10 ∷ []) (script_lin
 -- an operation's line, without its end
 abbrev pub operation_text : Op → List ℕ
 operation_text op = parts_text (operation_parts op)
+
+-- a command's line, without its end
+abbrev pub command_text : Command → List ℕ
+command_text command = parts_text (command_parts command)
+
+-- ---- which scripts can be written
+
+-- a range of lines has a line
+abbrev pub HasLines : WsAtom → Type 0
+HasLines (Path path) = ⊤
+HasLines (Mutex name) = ⊤
+HasLines (Lines file from to) = from ≤ to
+
+-- the rule of a command, without atoms where it has none
+abbrev pub command_rule : Command → List WsAtom
+command_rule (Operation op) = []
+command_rule Batch = []
+command_rule EndBatch = []
+command_rule Checkpoint = []
+command_rule (Begin rule) = rule
+command_rule (TryBegin rule) = rule
+command_rule (End rule) = rule
+
+-- the rule of a line, without atoms where it has none
+abbrev pub line_rule : Line → List WsAtom
+line_rule BeginPhase = []
+line_rule (BeginJob name priority rule) = rule
+line_rule (InJob command) = command_rule command
+line_rule EndJob = []
+line_rule EndPhase = []
+
+-- each range of lines of a rule has a line
+abbrev pub CanBeWritten : List Line → Type 0
+CanBeWritten lines = AllByRecursion (λ line. AllByRecursion HasLines (line_rule line)) lines

@@ -136,6 +136,12 @@ printed word = record { bare = is_bare word; word = word }
 abbrev pub ReadsBack : Word → Type 0
 ReadsBack word = SpellsToken (word_text word) (printed word)
 
+-- a text was appended that stands for the word
+pub record SpellsMore (old : List ℕ) (word : Word) (new : List ℕ) : Type 0 where
+  pub text : List ℕ
+  pub new_is : new ≡ old ++ text
+  pub spelled : SpellsToken text (printed word)
+
 -- bytes were appended, and what stood there before stays in front
 pub record Grows (old new : List ℕ) : Type 0 where
   pub more : List ℕ

@@ -19,7 +19,8 @@ use std::alloc::Global;
 /// The script that the text spells. Refused with the number of the first bad line where it spells none: the first
 /// one at which no continuation could make the lines so far the beginning of a script; one past the last where the
 /// text ends too early. Lines are counted from 1, also those that are skipped. The words share the text's bytes but
-/// for those with escapes. Costs one pass over the text.
+/// for those with escapes, and for the texts of markers, which are copied. Costs one pass over the text, and for each
+/// atom of a rule one over the rule of the atoms before it.
 pub fn parse(alloc: Global, text: Bytes) -> Result<Script, ScriptError>
     ensures found { IfOk result (IsScript text) }
     ensures all { (script : Script) → IsScript text script → MatchResult result (λ found. found ≡ script) (λ e. e ≡ Memory) }
@@ -66,7 +67,7 @@ fn next_line(reader: &mut Reader, alloc: Global) -> Result<Line, ScriptError>
     ensures bad { (number : ℕ) → result ≡ Err (BadLine number) → (progress : Progress) → IsStuck reader.old.number (lines_of reader.old.rest) progress number }
 {
     let tokens = reader.line(alloc)?;
-    let Some(line) = line_of(tokens.as_slice())? else {
+    let Some(line) = line_of(alloc, tokens.as_slice())? else {
         return Err(ScriptError::BadLine(reader.number));
     };
     Ok(line)

@@ -1,14 +1,15 @@
 //! What one line of a script says.
 use crate::script::{Command, Priority};
 use res_path::Name;
+use sched_rules::{Rule, WsAtom};
 
 /// What one line of a script says.
 #[derive(Debug, Drop)]
 pub enum Line {
     /// A phase begins.
     BeginPhase,
-    /// A job of this name and priority begins. Its rule is the root's.
-    BeginJob(Name, Priority),
+    /// A job of this name, priority and rule begins.
+    BeginJob(Name, Priority, Rule<WsAtom>),
     /// A command of a job.
     InJob(Command),
     /// The job ends.

@@ -82,11 +82,12 @@ fn after_phase(alloc: Global, phases: Phases, line: Line) -> Option<Progress>
     ensures { result ≡ goes (record { phases = phases; place = BeforeJob }) line }
 {
     match line {
-        Line::BeginJob(name, priority) => Some(Progress {
+        Line::BeginJob(name, priority, rule) => Some(Progress {
             phases,
             place: Place::WithinJob(Job {
                 name,
                 priority,
+                rule,
                 commands: Commands::new(alloc),
             }),
         }),

@@ -4,12 +4,13 @@ ghost use Rattle.script_lang.specs.Commands.{priority_number};
 
 use crate::NoMemory;
 use res_path::Name;
+use sched_rules::{Rule, WsAtom};
 use std::alloc::Global;
 use std::marker::Model;
 use ws_ops::Op;
 
 /// One command of a job.
-#[derive(Debug, PartialEq, Eq, Drop)]
+#[derive(Debug, Drop)]
 pub enum Command {
     /// An operation on resources is done.
     Operation(Op),
@@ -19,6 +20,12 @@ pub enum Command {
     EndBatch,
     /// Listeners are told what the batch changed so far (`IWorkspace.checkpoint`).
     Checkpoint,
+    /// A rule is begun (`IJobManager.beginRule`).
+    Begin(Rule<WsAtom>),
+    /// A rule is begun if that needs no waiting.
+    TryBegin(Rule<WsAtom>),
+    /// The rule that was begun last ends (`IJobManager.endRule`).
+    End(Rule<WsAtom>),
 }
 
 /// Commands in the order in which they are run. A contract sees the list.
@@ -92,11 +99,12 @@ impl Priority {
     }
 }
 
-/// A job: its name, its priority and its commands. Its rule is the root's.
+/// A job: its name, its priority, the rule that it asks for and its commands.
 #[derive(Debug, Drop)]
 pub struct Job {
     pub name: Name,
     pub priority: Priority,
+    pub rule: Rule<WsAtom>,
     pub commands: Commands,
 }
 

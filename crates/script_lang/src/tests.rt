@@ -1,10 +1,10 @@
 //! Scripts as their lines spell them, the first bad lines of texts, and the texts of scripts.
-use crate::{Command, Job, Priority, Script, ScriptError, parse, print, put_operation};
+use crate::{
+    Command, Job, Priority, Script, ScriptError, parse, print, put_command, put_operation,
+};
 use bytes::Bytes;
-use res_path::Path;
 use std::alloc::Global;
 use std::test::Fail;
-use ws_ops::{Op, Want};
 
 fn read(alloc: Global, text: &[u8]) -> Result<Script, ScriptError> {
     let Ok(bytes) = Bytes::copy_from_slice(alloc, text) else {
@@ -106,21 +106,6 @@ fn the_priorities_are_five_numbers(rt: HostRuntime) {
     }
 }
 
-fn path(alloc: Global, text: &str) -> Result<Path, Fail> {
-    Ok(Path::parse(alloc, text)?)
-}
-
-fn bytes(alloc: Global, text: &[u8]) -> Result<Bytes, Fail> {
-    Ok(Bytes::copy_from_slice(alloc, text)?)
-}
-
-/// Whether a job's line is read as the operation, and the operation is printed as the line.
-fn is_line_of(alloc: Global, line: &[u8], op: Op) -> Result<bool, Fail> {
-    let mut printed = Vec::new(alloc);
-    put_operation(&mut printed, &op)?;
-    Ok(printed.as_slice() == line && is_read_as(alloc, line, Command::Operation(op))?)
-}
-
 /// The command of a script that has one.
 fn only_command(script: &Script) -> Option<&Command> {
     match job(script)?.commands.as_slice() {
@@ -129,95 +114,164 @@ fn only_command(script: &Script) -> Option<&Command> {
     }
 }
 
-fn has_command(script: &Script, command: &Command) -> bool {
-    match only_command(script) {
-        Some(one) => one == command,
-        None => false,
-    }
-}
-
-fn is_read_as(alloc: Global, line: &[u8], command: Command) -> Result<bool, Fail> {
+/// The text of a job's line that was read.
+fn read_line(alloc: Global, line: &[u8]) -> Result<Vec<u8>, Fail> {
     let text = with_line(alloc, line)?;
     let script = read(alloc, text.as_slice())?;
-    Ok(has_command(&script, &command))
+    let mut printed = Vec::new(alloc);
+    match only_command(&script) {
+        Some(command) => put_command(&mut printed, command)?,
+        None => {}
+    }
+    Ok(printed)
+}
+
+/// Whether a job's line is printed as it was read.
+fn is_read_back(alloc: Global, line: &[u8]) -> Result<bool, Fail> {
+    is_read_as(alloc, line, line)
+}
+
+/// Whether a job's line is printed as another one.
+fn is_read_as(alloc: Global, line: &[u8], other: &[u8]) -> Result<bool, Fail> {
+    let printed = read_line(alloc, line)?;
+    Ok(printed.as_slice() == other)
 }
 
 #[test]
-fn a_creation_has_a_line(rt: HostRuntime) -> Result<(), Fail> {
-    let alloc = rt.alloc();
-    let project = Op::CreateProject(path(alloc, "/P")?);
-    assert!(rt; is_line_of(alloc, b"create project /P", project)?);
-    let folder = Op::CreateFolder(path(alloc, "/P/src")?);
-    assert!(rt; is_line_of(alloc, b"create folder /P/src", folder)?);
-    let file = Op::CreateFile(path(alloc, "/P/a b")?, bytes(alloc, b"hi\n")?);
-    assert!(rt; is_line_of(alloc, b"create file \"/P/a b\" \"hi\\n\"", file)?);
+fn a_change_of_resources_has_a_line(rt: HostRuntime) -> Result<(), Fail> {
+    let lines: [&[u8]; 15] = [
+        b"create project /P",
+        b"create folder /P/src",
+        b"create file \"/P/a b\" \"hi\\n\"",
+        b"delete /P/a",
+        b"write /P/a \"\"",
+        b"touch /",
+        b"derived /P/a on",
+        b"derived /P/a off",
+        b"move /P/a /P/b",
+        b"copy /P /Q",
+        b"open /P",
+        b"close /P",
+        b"describe /P {}",
+        b"show /P",
+        b"cat /P/a",
+    ];
+    for line in lines {
+        assert!(rt; is_read_back(rt.alloc(), line)?);
+    }
     Ok(())
 }
 
 #[test]
-fn a_change_of_one_resource_has_a_line(rt: HostRuntime) -> Result<(), Fail> {
-    let alloc = rt.alloc();
-    let delete = Op::Delete(path(alloc, "/P/a")?);
-    assert!(rt; is_line_of(alloc, b"delete /P/a", delete)?);
-    let write = Op::Write(path(alloc, "/P/a")?, bytes(alloc, b"")?);
-    assert!(rt; is_line_of(alloc, b"write /P/a \"\"", write)?);
-    let touch = Op::Touch(path(alloc, "/")?);
-    assert!(rt; is_line_of(alloc, b"touch /", touch)?);
-    let on = Op::Derived(path(alloc, "/P/a")?, true);
-    assert!(rt; is_line_of(alloc, b"derived /P/a on", on)?);
-    let off = Op::Derived(path(alloc, "/P/a")?, false);
-    assert!(rt; is_line_of(alloc, b"derived /P/a off", off)?);
+fn a_change_of_markers_has_a_line(rt: HostRuntime) -> Result<(), Fail> {
+    let lines: [&[u8]; 9] = [
+        b"mark /P/a t",
+        b"mark /P/a org.task severity int -2 done bool false \"\" text \"two words\"",
+        b"mark / \"\" none text \"\"",
+        b"attr /P/a 0 n int 0",
+        b"attr /P/a 7 int bool true",
+        b"attr /P/a 7 none none",
+        b"attr /P/a 7 n text none",
+        b"unmark /P 18446744073709551615",
+        b"clearmarks / \"\" 2",
+    ];
+    for line in lines {
+        assert!(rt; is_read_back(rt.alloc(), line)?);
+    }
     Ok(())
 }
 
 #[test]
-fn a_transfer_has_a_line_from_the_first_path_to_the_second(rt: HostRuntime) -> Result<(), Fail> {
-    let alloc = rt.alloc();
-    let moved = Op::Move(path(alloc, "/P/a")?, path(alloc, "/P/b")?);
-    assert!(rt; is_line_of(alloc, b"move /P/a /P/b", moved)?);
-    let copied = Op::Copy(path(alloc, "/P")?, path(alloc, "/Q")?);
-    assert!(rt; is_line_of(alloc, b"copy /P /Q", copied)?);
+fn synchronisation_bytes_trees_and_digests_have_lines(rt: HostRuntime) -> Result<(), Fail> {
+    let lines: [&[u8]; 6] = [
+        b"partner git",
+        b"sync /P/a git \"\\x00\\xff\"",
+        b"nosync /P/a git",
+        b"flush /P \"a b\" 1",
+        b"tree /",
+        b"digest /P",
+    ];
+    for line in lines {
+        assert!(rt; is_read_back(rt.alloc(), line)?);
+    }
     Ok(())
 }
 
 #[test]
-fn a_change_of_a_project_has_a_line(rt: HostRuntime) -> Result<(), Fail> {
-    let alloc = rt.alloc();
-    let open = Op::Open(path(alloc, "/P")?);
-    assert!(rt; is_line_of(alloc, b"open /P", open)?);
-    let close = Op::Close(path(alloc, "/P")?);
-    assert!(rt; is_line_of(alloc, b"close /P", close)?);
-    let describe = Op::Describe(path(alloc, "/P")?, bytes(alloc, b"{}")?);
-    assert!(rt; is_line_of(alloc, b"describe /P {}", describe)?);
+fn batches_and_rules_have_lines(rt: HostRuntime) -> Result<(), Fail> {
+    let lines: [&[u8]; 8] = [
+        b"batch",
+        b"endbatch",
+        b"checkpoint",
+        b"begin null",
+        b"trybegin path /P",
+        b"end mutex m",
+        b"begin path /Q mutex m lines /P/a 3 9",
+        b"end lines /P/a 0 4294967295",
+    ];
+    for line in lines {
+        assert!(rt; is_read_back(rt.alloc(), line)?);
+    }
+    Ok(())
+}
+
+/// The text of the operation of a job's line that was read.
+fn read_operation(alloc: Global, line: &[u8]) -> Result<Vec<u8>, Fail> {
+    let text = with_line(alloc, line)?;
+    let script = read(alloc, text.as_slice())?;
+    let mut printed = Vec::new(alloc);
+    match only_command(&script) {
+        Some(Command::Operation(op)) => put_operation(&mut printed, op)?,
+        _ => {}
+    }
+    Ok(printed)
+}
+
+#[test]
+fn an_operation_is_printed_as_its_command(rt: HostRuntime) -> Result<(), Fail> {
+    let printed = read_operation(rt.alloc(), b"delete \"/P/a\"")?;
+    assert!(rt; printed.as_slice() == b"delete /P/a".as_slice());
+    let none = read_operation(rt.alloc(), b"batch")?;
+    assert!(rt; none.is_empty());
     Ok(())
 }
 
 #[test]
-fn a_reading_has_a_line(rt: HostRuntime) -> Result<(), Fail> {
-    let alloc = rt.alloc();
-    let show = Op::Read(path(alloc, "/P")?, Want::Show);
-    assert!(rt; is_line_of(alloc, b"show /P", show)?);
-    let cat = Op::Read(path(alloc, "/P/a")?, Want::Cat);
-    assert!(rt; is_line_of(alloc, b"cat /P/a", cat)?);
+fn a_rule_is_read_without_the_atoms_that_others_contain(rt: HostRuntime) -> Result<(), Fail> {
+    let cases: [(&[u8], &[u8]); 6] = [
+        (b"begin path /P/a path /P", b"begin path /P"),
+        (b"end path /P path /P/a", b"end path /P"),
+        (b"begin mutex m path /P mutex m", b"begin path /P mutex m"),
+        (
+            b"begin lines /P/a 3 9 lines /P/a 4 4",
+            b"begin lines /P/a 3 9",
+        ),
+        (
+            b"begin lines /P/a 3 9 lines /P/a 8 12 path /Q",
+            b"begin path /Q lines /P/a 3 9 lines /P/a 8 12",
+        ),
+        (b"trybegin lines /P/a 3 9 path /", b"trybegin path /"),
+    ];
+    for (line, other) in cases {
+        assert!(rt; is_read_as(rt.alloc(), line, other)?);
+    }
     Ok(())
 }
 
 #[test]
 fn a_batch_begins_is_told_of_and_ends(rt: HostRuntime) -> Result<(), Fail> {
     let alloc = rt.alloc();
-    assert!(rt; is_read_as(alloc, b"batch", Command::Batch)?);
-    assert!(rt; is_read_as(alloc, b"endbatch", Command::EndBatch)?);
-    assert!(rt; is_read_as(alloc, b"checkpoint", Command::Checkpoint)?);
+    assert!(rt; is_read_back(alloc, b"batch")?);
+    assert!(rt; is_read_back(alloc, b"endbatch")?);
+    assert!(rt; is_read_back(alloc, b"checkpoint")?);
     Ok(())
 }
 
 #[test]
 fn a_line_of_no_form_is_bad(rt: HostRuntime) -> Result<(), Fail> {
-    let lines: [&[u8]; 20] = [
+    let lines: [&[u8]; 18] = [
         b"frob",
         b"forget /P",
-        b"mark /P t",
-        b"tree /P",
         b"delete",
         b"delete /P /Q",
         b"create /P",
@@ -260,6 +314,102 @@ fn a_line_of_other_words_is_bad(rt: HostRuntime) -> Result<(), Fail> {
         b"cat /\xc3\xa9",
         b"cat \"/\xc3\"",
         b"cat \"/\x7f\"",
+    ];
+    for line in lines {
+        assert!(rt; is_bad(rt.alloc(), line)?);
+    }
+    Ok(())
+}
+
+#[test]
+fn a_line_of_markers_of_another_form_is_bad(rt: HostRuntime) -> Result<(), Fail> {
+    let lines: [&[u8]; 28] = [
+        b"mark /P/a",
+        b"mark /P/a \"\\xff\"",
+        b"mark /P/a t severity",
+        b"mark /P/a t severity int",
+        b"mark /P/a t severity int 2147483648",
+        b"mark /P/a t severity int -2147483649",
+        b"mark /P/a t severity int -0",
+        b"mark /P/a t severity int 07",
+        b"mark /P/a t severity int +7",
+        b"mark /P/a t severity int \"7\"",
+        b"mark /P/a t severity int 1 2",
+        b"mark /P/a t severity 1",
+        b"mark /P/a t done bool yes",
+        b"mark /P/a t done bool \"true\"",
+        b"mark /P/a t text text \"\\xff\"",
+        b"mark /P/a t \"\\xff\" text x",
+        b"mark /P/a t a none",
+        b"attr /P/a 1 n",
+        b"attr /P/a 1 n int",
+        b"attr /P/a 1 n none 1",
+        b"attr /P/a 1 n \"none\"",
+        b"attr /P/a 01 n none",
+        b"attr /P/a -1 n none",
+        b"unmark /P 18446744073709551616",
+        b"unmark /P",
+        b"clearmarks /P t 3",
+        b"clearmarks /P t",
+        b"clearmarks /P t \"0\"",
+    ];
+    for line in lines {
+        assert!(rt; is_bad(rt.alloc(), line)?);
+    }
+    Ok(())
+}
+
+#[test]
+fn an_integer_has_32_bits_and_a_sign(rt: HostRuntime) -> Result<(), Fail> {
+    let lines: [&[u8]; 4] = [
+        b"mark /P/a t severity int 2147483647",
+        b"mark /P/a t severity int -2147483648",
+        b"mark /P/a t severity int 0",
+        b"attr /P/a 1 n int -1",
+    ];
+    for line in lines {
+        assert!(rt; is_read_back(rt.alloc(), line)?);
+    }
+    Ok(())
+}
+
+#[test]
+fn a_line_of_synchronisation_bytes_of_another_form_is_bad(rt: HostRuntime) -> Result<(), Fail> {
+    let lines: [&[u8]; 10] = [
+        b"partner",
+        b"partner a/b",
+        b"partner git git",
+        b"sync /P/a git",
+        b"sync /P/a \"\" x",
+        b"nosync /P/a",
+        b"nosync /P/a git x",
+        b"flush /P git",
+        b"flush /P git 02",
+        b"digest /P /Q",
+    ];
+    for line in lines {
+        assert!(rt; is_bad(rt.alloc(), line)?);
+    }
+    Ok(())
+}
+
+#[test]
+fn a_rule_of_another_form_is_bad(rt: HostRuntime) -> Result<(), Fail> {
+    let lines: [&[u8]; 14] = [
+        b"begin",
+        b"begin null null",
+        b"begin path /P null",
+        b"begin \"null\"",
+        b"begin path",
+        b"begin path P",
+        b"begin mutex a/b",
+        b"begin path /P mutex",
+        b"begin thing /P",
+        b"trybegin lines /P/a 3",
+        b"trybegin lines /P/a 9 3",
+        b"end lines /P/a 0 4294967296",
+        b"end lines /P/a 00 1",
+        b"end lines P 0 1",
     ];
     for line in lines {
         assert!(rt; is_bad(rt.alloc(), line)?);
@@ -372,18 +522,19 @@ fn a_name_has_255_bytes_at_most(rt: HostRuntime) -> Result<(), Fail> {
 
 #[test]
 fn a_job_line_of_another_form_is_bad(rt: HostRuntime) {
-    let texts: [&[u8]; 12] = [
+    let texts: [&[u8]; 13] = [
         b"phase\njob j 030 path /\nendjob\nendphase\n",
         b"phase\njob j 31 path /\nendjob\nendphase\n",
         b"phase\njob j \"30\" path /\nendjob\nendphase\n",
         b"phase\njob . 30 path /\nendjob\nendphase\n",
         b"phase\njob a/b 30 path /\nendjob\nendphase\n",
         b"phase\njob \"\" 30 path /\nendjob\nendphase\n",
-        b"phase\njob j 30 path /P\nendjob\nendphase\n",
-        b"phase\njob j 30 null\nendjob\nendphase\n",
+        b"phase\njob j 30\nendjob\nendphase\n",
+        b"phase\njob j 30 path /P lines /P/a 9 3\nendjob\nendphase\n",
         b"phase\njob j 30 asleep path /\nendjob\nendphase\n",
         b"phase\njob j 30 \"path\" /\nendjob\nendphase\n",
-        b"phase\njob j 30 path / path /\nendjob\nendphase\n",
+        b"phase\njob j 30 path / path\nendjob\nendphase\n",
+        b"phase\njob j 30 null path /\nendjob\nendphase\n",
         b"phase\nendphase\n",
     ];
     for text in texts {
@@ -393,7 +544,8 @@ fn a_job_line_of_another_form_is_bad(rt: HostRuntime) {
 
 #[test]
 fn the_first_bad_line_is_named(rt: HostRuntime) {
-    let cases: [(&[u8], u64); 14] = [
+    let cases: [(&[u8], u64); 15] = [
+        (b"phase\njob j 30 null\nfrob", 3),
         (b"endjob\n", 1),
         (b"endphase x\n", 1),
         (b"job j 30 path /\n", 1),
@@ -463,6 +615,17 @@ fn a_script_is_printed_line_by_line(rt: HostRuntime) -> Result<(), Fail> {
         b"phase\njob j 10 path /\nendbatch\nbatch\ncat /P/a\ncreate file /P/a \"x y\"\nendjob\nendphase\nphase\njob \"a b\" 50 path /\nendjob\nendphase\n";
     let again = printed(rt.alloc(), text)?;
     assert!(rt; again.as_slice() == text);
+    Ok(())
+}
+
+#[test]
+fn the_rule_of_a_job_is_printed_in_order(rt: HostRuntime) -> Result<(), Fail> {
+    let text: &[u8] =
+        b"phase\njob j 30 lines /P/a 9 12 mutex b path /Q lines /P/a 3 9 mutex a path /P/b\nbegin null\nend null\nendjob\nendphase\nphase\njob j 30 null\nendjob\nendphase\n";
+    let plain: &[u8] =
+        b"phase\njob j 30 path /P/b path /Q mutex a mutex b lines /P/a 3 9 lines /P/a 9 12\nbegin null\nend null\nendjob\nendphase\nphase\njob j 30 null\nendjob\nendphase\n";
+    let again = printed(rt.alloc(), text)?;
+    assert!(rt; again.as_slice() == plain);
     Ok(())
 }
 

@@ -3,17 +3,25 @@ ghost use Rattle.std.specs.Prelude.{◌≡◌, ◌<◌, ◌≤◌, ◌++◌, len
 ghost use Rattle.std.specs.List.{flat_map};
 ghost use Rattle.std.specs.Char.{digit_char};
 ghost use Rattle.std.specs.Str.Lossy.{utf8_valid_len};
-ghost use Rattle.script_lang.specs.Words.{hex_text, byte_text, quoted_text, word_text, ReadsBack, Grows};
+ghost use Rattle.script_lang.specs.Words.{hex_text, byte_text, quoted_text, word_text, SpellsMore, Grows};
 
 use crate::NoMemory;
 use crate::words::is_bare;
 use std::str::from_utf8;
 
 /// Appends a word as a script's text has it: bare where it can be, and else quoted. After want of memory a part of it
-/// may have been appended. Costs one pass over the word.
+/// may have been appended, and what stood there before stays in front. Costs one pass over the word.
 pub fn put_word(out: &mut Vec<u8>, word: &[u8]) -> Result<(), NoMemory>
     ensures text { OnOk result (out.new.items ≡ out.old.items ++ word_text word.now) }
-    ensures read { ReadsBack word.now }
+    ensures read { OnOk result (SpellsMore out.old.items word.now out.new.items) }
+    ensures kept { Grows out.old.items out.new.items }
+{
+    put_text(out, word)?;
+    Ok(())
+}
+
+fn put_text(out: &mut Vec<u8>, word: &[u8]) -> Result<(), NoMemory>
+    ensures text { OnOk result (out.new.items ≡ out.old.items ++ word_text word.now) }
     ensures kept { Grows out.old.items out.new.items }
 {
     if is_bare(word) {

@@ -12,7 +12,7 @@ use Rattle.ws_core.specs.declared.reply.Refusal.TheVariants.{NoBatch}
 use Rattle.ws_core.specs.declared.state.State.{State}
 use Rattle.ws_core.specs.Numbers.{has_number, without_number, without_place, without_newest}
 use Rattle.ws_core.specs.Refusals.{when}
-use Rattle.ws_core.specs.Steps.{acted, act, tells}
+use Rattle.ws_core.specs.Steps.{acted, act_admitted, tells}
 
 never : true ≡ false → ⊥
 never h = cc
@@ -59,7 +59,7 @@ newest_less k ns h =
     ∙ one_less (λ n. n == k) (reverse ns) (any_reverse (λ n. n == k) ns h) ∙ length-reverse ns
 
 -- the end of the only batch leaves none open
-pub end_tells : (s : State) (k : ℕ) → has_number k s.batches ≡ true → (length s.batches == 1) ≡ tells EndBatch (act s k EndBatch).0
+pub end_tells : (s : State) (k : ℕ) → has_number k s.batches ≡ true → (length s.batches == 1) ≡ tells EndBatch (act_admitted s k EndBatch).0
 end_tells s k h = by (has_number k s.batches) refl
   where
     less : length (without_newest k s.batches) + 1 ≡ length s.batches

@@ -5,3 +5,8 @@ pub mod Grown
 pub mod Operated
 pub mod SoundKept
 pub mod SessionsKept
+pub mod Admitted
+pub mod Taken
+pub mod Above
+pub mod Ended
+pub mod Stepped

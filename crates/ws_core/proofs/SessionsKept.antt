@@ -1,5 +1,6 @@
 -- An open workspace stays one.
 use Rattle.std.proofs.Common.{◌≡◌, ℕ, true, List, [], ◌∷◌, ◌++◌, refl, sym, ap, ◌∙◌, subst}
+use Rattle.std.specs.Prelude.{Result, Ok, Err, OnOk, OnErr}
 use Rattle.ws_elem.specs.Trees.{Tree, fresh_tree}
 use Rattle.ws_core.specs.declared.event.Event.{Event}
 use Rattle.ws_core.specs.declared.history.Entry.{Entry}
@@ -50,3 +51,15 @@ goes_on x k e s h is there after longer =
     let q : (step x.state k e).0 ≡ s = sym after in
     let path : ◌≡◌ {A = Session} (record { opened = x.opened; history = x.history ++ entry ∷ []; state = (step x.state k e).0 }) (record { opened = x.opened; history = h; state = s }) = λ i. record { opened = x.opened; history = p i; state = q i } in
     subst IsSession path next
+
+-- so is what a call leaves that makes a step and writes it down, or changes nothing
+pub goes_on_or_stays : {T E : Type 0} (r : Result T E) (x : Session) (k : ℕ) (e : Event) (s : State) (h : List Entry) → IsSession x → has_entered k x.state ≡ true
+    → OnOk r (s ≡ (step x.state k e).0) → OnOk r (h ≡ x.history ++ record { pass = k; event = e; reply = (step x.state k e).1 } ∷ [])
+    → OnErr r (s ≡ x.state) → OnErr r (h ≡ x.history)
+    → IsSession (record { opened = x.opened; history = h; state = s })
+goes_on_or_stays (Ok y) x k e s h is there after longer same none = goes_on x k e s h is there after longer
+goes_on_or_stays (Err y) x k e s h is there after longer same none =
+    let p : x.history ≡ h = sym none in
+    let q : x.state ≡ s = sym same in
+    let path : ◌≡◌ {A = Session} x (record { opened = x.opened; history = h; state = s }) = λ i. record { opened = x.opened; history = p i; state = q i } in
+    subst IsSession path is

@@ -5,7 +5,7 @@ use Rattle.std.specs.Option.{option_to_list}
 use Rattle.ws_elem.specs.Trees.{Tree}
 use Rattle.delta_kind.specs.Deltas.{delta}
 use Rattle.ws_core.specs.declared.event.Event.{Event}
-use Rattle.ws_core.specs.declared.event.Event.TheVariants.{Enter, Leave, Schedule, Take, Finish, Batch, EndBatch, Checkpoint, Operation}
+use Rattle.ws_core.specs.declared.event.Event.TheVariants.{Enter, Leave, Schedule, Take, Finish, Begin, TryBegin, End, Batch, EndBatch, Checkpoint, Operation}
 use Rattle.ws_core.specs.declared.history.Entry.{Entry}
 use Rattle.ws_core.specs.declared.reply.Answer.{Answer}
 use Rattle.ws_core.specs.declared.reply.Refusal.{Refusal}
@@ -14,15 +14,19 @@ use Rattle.ws_core.specs.declared.state.State.{State}
 use Rattle.ws_core.specs.Effects.{effect}
 use Rattle.ws_core.specs.Refusals.{refusal}
 use Rattle.ws_core.specs.Steps.{acted, act, tells, told, notice}
+use Rattle.ws_core.proofs.Taken.{after_take}
 use Rattle.ws_core.specs.Histories.{after, replies, Legal, unless_empty, notices_from, notices, told_of}
 
 -- no event by itself tells anything
 effect_told : (s : State) (k : ℕ) (e : Event) → (effect s k e).0.told ≡ s.told
 effect_told s k Enter = refl
 effect_told s k Leave = refl
-effect_told s k (Schedule name priority) = refl
-effect_told s k Take = refl
+effect_told s k (Schedule name priority rule) = refl
+effect_told s k Take = after_take (λ d. d.told ≡ s.told) s k s.waiting refl (λ job h. refl)
 effect_told s k Finish = refl
+effect_told s k (Begin rule) = refl
+effect_told s k (TryBegin rule) = refl
+effect_told s k (End rule) = refl
 effect_told s k Batch = refl
 effect_told s k EndBatch = refl
 effect_told s k Checkpoint = refl

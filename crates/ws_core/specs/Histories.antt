@@ -19,9 +19,12 @@ fresh = record {
   told = fresh_tree;
   next_node = 2;
   next_stamp = 1;
+  next_marker = 1;
   next_pass = 1;
+  partners = [];
   passes = 0 ∷ [];
   batches = [];
+  rules = [];
   waiting = None;
 }
 

@@ -1,6 +1,7 @@
 pub mod States
 pub mod Numbers
 pub mod Events
+pub mod Rules
 pub mod Refusals
 pub mod Operations
 pub mod Effects

@@ -1,6 +1,8 @@
 -- A workspace while it is open.
 use Rattle.std.specs.Prelude.{◌≡◌, List}
 use Rattle.ws_elem.specs.Trees.{Whole}
+use Rattle.sched_rules.specs.Atoms.{atom_contains, atom_conflicts}
+use Rattle.rule_table.specs.Tables.{IsApart}
 use Rattle.ws_ops.specs.Sound as ops
 use Rattle.ws_ops.specs.Stamps.{IsKnown}
 use Rattle.ws_core.specs.declared.history.Entry.{Entry}
@@ -21,6 +23,8 @@ pub record IsSound (s : State) : Type 0 where
   -- the told tree is whole, and agrees by its stamps with what is there
   pub told : Whole s.told
   pub told_known : IsKnown (resources_of s) s.told
+  -- each rule is within each non-null one that its pass began before, and no rules of two passes conflict
+  pub apart : IsApart atom_contains atom_conflicts s.rules
 
 -- what holds of an open workspace at every moment
 pub record IsSession (x : Session) : Type 0 where

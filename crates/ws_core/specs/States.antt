@@ -5,7 +5,11 @@ use Rattle.std.specs.FinMap as map
 use Rattle.ws_elem.specs.declared.element.Element.{Element}
 use Rattle.ws_elem.specs.RoomyTrees.{names_code}
 use Rattle.ws_elem.specs.Trees.{Tree}
+use Rattle.sched_rules.specs.declared.ws_atom.WsAtom.{WsAtom}
+use Rattle.rule_table.specs.declared.held.Held.{Held}
+use Rattle.ws_ops.specs.Partners.{Partners}
 use Rattle.ws_ops.specs.Resources.{Resources}
+use Rattle.ws_core.specs.declared.waiting.Waiting.{Waiting}
 
 -- a workspace at one moment
 pub record Workspace : Type 0 where
@@ -13,65 +17,122 @@ pub record Workspace : Type 0 where
   pub tree : Tree
   pub shelf : Tree
   pub told : Tree
-  -- the numbers that the next new resource, the next new contents or description, and the next new pass get
+  -- the numbers that the next new resource, the next new contents or description, the next new marker, and the next new
+  -- pass get
   pub next_node : ℕ
   pub next_stamp : ℕ
+  pub next_marker : ℕ
   pub next_pass : ℕ
+  -- the names of the synchronisation partners, by their numbers
+  pub partners : Partners
   -- the passes that have entered and haven't left
   pub passes : List ℕ
   -- the pass of each open batch, the newest last
   pub batches : List ℕ
+  -- the rules that passes hold, in the order in which they were begun
+  pub rules : List (Held WsAtom)
   -- the job that waits to be run
-  pub waiting : Option (List ℕ)
+  pub waiting : Option Waiting
 
 -- what operations see and change of it
 abbrev pub resources_of : Workspace → Resources
-resources_of s = record { tree = s.tree; shelf = s.shelf; next_node = s.next_node; next_stamp = s.next_stamp }
+resources_of s = record {
+  tree = s.tree;
+  shelf = s.shelf;
+  next_node = s.next_node;
+  next_stamp = s.next_stamp;
+  next_marker = s.next_marker;
+  partners = s.partners;
+}
 
 -- the workspace with these resources
 abbrev pub with_resources : Workspace → Resources → Workspace
-with_resources s r = record s { tree = r.tree; shelf = r.shelf; next_node = r.next_node; next_stamp = r.next_stamp }
+with_resources s r = record s {
+  tree = r.tree;
+  shelf = r.shelf;
+  next_node = r.next_node;
+  next_stamp = r.next_stamp;
+  next_marker = r.next_marker;
+  partners = r.partners;
+}
 
 -- the tree as it was last told: the tree itself, as long as it is unchanged since
 abbrev pub told_tree : Bool → Tree → Tree → Tree
 told_tree unchanged tree kept = if unchanged then tree else kept
 
 -- what is kept of a workspace
-abbrev pub seen : Bool → Tree → Resources → ℕ → List ℕ → List ℕ → Option (List ℕ) → Workspace
-seen unchanged kept r next_pass passes batches waiting = record {
+abbrev pub seen : Bool → Tree → Resources → ℕ → List ℕ → List ℕ → List (Held WsAtom) → Option Waiting → Workspace
+seen unchanged kept r next_pass passes batches rules waiting = record {
   tree = r.tree;
   shelf = r.shelf;
   told = told_tree unchanged r.tree kept;
   next_node = r.next_node;
   next_stamp = r.next_stamp;
+  next_marker = r.next_marker;
   next_pass = next_pass;
+  partners = r.partners;
   passes = passes;
   batches = batches;
+  rules = rules;
   waiting = waiting;
 }
-
-abbrev Fields : Type 0
-Fields = Tree × (Tree × (Tree × (ℕ × (ℕ × (ℕ × (List ℕ × (List ℕ × Option (List ℕ))))))))
 
 abbrev pub tree_code : Coded Element → Coded Tree
 tree_code e = map.code names_code e
 
+abbrev pub held_code : Coded WsAtom → Coded (Held WsAtom)
+held_code a = code_by (ℕ × List WsAtom) (coded× coded_ℕ (coded_list a)) (λ h. (h.holder, h.rule)) (λ p. record { holder = p.0; rule = p.1 }) (λ _. refl)
+
+abbrev pub waiting_code : Coded WsAtom → Coded Waiting
+waiting_code a = code_by (List ℕ × List WsAtom) (coded× (coded_list coded_ℕ) (coded_list a)) (λ w. (w.name, w.rule)) (λ p. record { name = p.0; rule = p.1 }) (λ _. refl)
+
+abbrev Fields : Type 0
+Fields = Tree × (Tree × (Tree × (ℕ × (ℕ × (ℕ × (ℕ × (Partners × (List ℕ × (List ℕ × (List (Held WsAtom) × Option Waiting))))))))))
+
 -- a workspace is stored as the tuple of its fields
-abbrev pub workspace_code : Coded Element → Coded Workspace
-workspace_code e = code_by
+abbrev pub workspace_code : Coded Element → Coded WsAtom → Coded Workspace
+workspace_code e a = code_by
     Fields
-    (coded× (tree_code e) (coded× (tree_code e) (coded× (tree_code e) (coded× coded_ℕ (coded× coded_ℕ (coded× coded_ℕ
-    (coded× (coded_list coded_ℕ) (coded× (coded_list coded_ℕ) (coded_option (coded_list coded_ℕ))))))))))
-    (λ s. (s.tree, (s.shelf, (s.told, (s.next_node, (s.next_stamp, (s.next_pass, (s.passes, (s.batches, s.waiting)))))))))
+    (coded× (tree_code e) (coded× (tree_code e) (coded× (tree_code e) (coded× coded_ℕ (coded× coded_ℕ (coded× coded_ℕ (coded× coded_ℕ
+    (coded× (coded_list (coded_list coded_ℕ))
+    (coded× (coded_list coded_ℕ) (coded× (coded_list coded_ℕ) (coded× (coded_list (held_code a)) (coded_option (waiting_code a)))))))))))))
+    (λ s. (
+      s.tree,
+      (
+        s.shelf,
+        (
+          s.told,
+          (
+            s.next_node,
+            (
+              s.next_stamp,
+              (
+                s.next_marker,
+                (
+                  s.next_pass,
+                  (
+                    s.partners,
+                    (s.passes, (s.batches, (s.rules, s.waiting))),
+                  ),
+                ),
+              ),
+            ),
+          ),
+        ),
+      ),
+    ))
     (λ p. record {
       tree = p.0;
       shelf = p.1.0;
       told = p.1.1.0;
       next_node = p.1.1.1.0;
       next_stamp = p.1.1.1.1.0;
-      next_pass = p.1.1.1.1.1.0;
-      passes = p.1.1.1.1.1.1.0;
-      batches = p.1.1.1.1.1.1.1.0;
-      waiting = p.1.1.1.1.1.1.1.1;
+      next_marker = p.1.1.1.1.1.0;
+      next_pass = p.1.1.1.1.1.1.0;
+      partners = p.1.1.1.1.1.1.1.0;
+      passes = p.1.1.1.1.1.1.1.1.0;
+      batches = p.1.1.1.1.1.1.1.1.1.0;
+      rules = p.1.1.1.1.1.1.1.1.1.1.0;
+      waiting = p.1.1.1.1.1.1.1.1.1.1.1;
     })
     (λ _. refl)

@@ -10,14 +10,18 @@ use Rattle.ws_core.specs.declared.reply.Reply.{Reply}
 use Rattle.ws_core.specs.declared.state.State.{State}
 use Rattle.ws_core.specs.Events.{is_checkpoint}
 use Rattle.ws_core.specs.Effects.{effect}
-use Rattle.ws_core.specs.Refusals.{refusal}
+use Rattle.ws_core.specs.Refusals.{own_refusal, refusal}
 
 -- a refused event changes nothing
 abbrev pub acted : Option Refusal → State → ℕ → Event → State × Answer
 acted None s pass event = effect s pass event
 acted (Some r) s pass event = (s, Refused r)
 
--- the state after an event, before anything is told, and the event's answer
+-- the state after an event that is admitted, before anything is told, and the event's answer
+abbrev pub act_admitted : State → ℕ → Event → State × Answer
+act_admitted s pass event = acted (own_refusal s pass event) s pass event
+
+-- the same after any event
 abbrev pub act : State → ℕ → Event → State × Answer
 act s pass event = acted (refusal s pass event) s pass event
 
@@ -39,6 +43,10 @@ abbrev pub told : Bool → State → Answer → State × Reply
 told true s answer = (record s { told = s.tree }, record { answer = answer; notice = notice s })
 told false s answer = (s, record { answer = answer; notice = None })
 
+-- what an event did is told where the event is a telling place
+abbrev pub tell : Event → State × Answer → State × Reply
+tell event done = told (tells event done.0) done.0 done.1
+
 -- the event of a pass gives a new state and a reply
 abbrev pub step : State → ℕ → Event → State × Reply
-step s pass event = let done = act s pass event in told (tells event done.0) done.0 done.1
+step s pass event = tell event (act s pass event)

@@ -3,22 +3,31 @@ ghost use Rattle.std.specs.Prelude.{◌≡◌, IfOk};
 ghost use Rattle.std.specs.Option.{option_copied};
 ghost use Rattle.ws_core.specs.Events.{change_of, is_read};
 
+use crate::WsRule;
 use res_path::{Name, NoMemory};
 use ws_ops::Op;
 
 /// What a pass may ask of the core.
-#[derive(Clone, Debug, PartialEq, Eq, Drop)]
+#[derive(Clone, Debug, Drop)]
 pub enum Event {
     /// A new pass enters, with the next number.
     Enter,
     /// The pass leaves.
     Leave,
-    /// The job of this name and priority waits. Its rule is the root's path.
-    Schedule(Name, u8),
-    /// The waiting job is to be run by the pass.
+    /// The job of this name and priority waits, and is to have this rule while it runs.
+    Schedule(Name, u8, WsRule),
+    /// The waiting job is to be run by the pass, which gets its rule. There is none where that rule conflicts with one
+    /// that is held, or isn't within the one that the pass has.
     Take,
-    /// The pass's job is over, and its batches are closed.
+    /// The pass's job is over, its batches are closed and its rules ended.
     Finish,
+    /// The pass is to have this rule until it ends it (`IJobManager.beginRule`). Rules are nested: each is within those
+    /// that the pass has.
+    Begin(WsRule),
+    /// The same, of who doesn't wait for it.
+    TryBegin(WsRule),
+    /// The pass gives back the rule that it began last (`IJobManager.endRule`).
+    End(WsRule),
     /// A batch begins: until it ends nothing is told but at checkpoints (`IWorkspace.run`).
     Batch,
     /// The pass's newest batch ends.
@@ -38,9 +47,12 @@ impl Event {
             Event::Operation(op) => change(op),
             Event::Enter
             | Event::Leave
-            | Event::Schedule(_, _)
+            | Event::Schedule(_, _, _)
             | Event::Take
             | Event::Finish
+            | Event::Begin(_)
+            | Event::TryBegin(_)
+            | Event::End(_)
             | Event::Batch
             | Event::EndBatch
             | Event::Checkpoint => None,
@@ -79,6 +91,13 @@ fn is_read(op: &Op) -> bool
         | Op::Copy(_, _)
         | Op::Open(_)
         | Op::Close(_)
-        | Op::Describe(_, _) => false,
+        | Op::Describe(_, _)
+        | Op::Mark(_, _, _)
+        | Op::Attr(_, _, _, _)
+        | Op::Unmark(_, _)
+        | Op::ClearMarks(_, _, _)
+        | Op::Partner(_)
+        | Op::Sync(_, _, _)
+        | Op::Flush(_, _, _) => false,
     }
 }

@@ -25,9 +25,13 @@ pub struct History {
 
 impl Model for History {
     ghost use Rattle.std.specs.Prelude.{List};
+    ghost use Rattle.std.specs.Coded.{coded_list};
     ghost use Rattle.ws_core.specs.declared.history.Entry.{Entry};
+    ghost use Rattle.ws_core.specs.contracts.history.Entry as of_entry;
 
     ghost Value = { List Entry };
+
+    ghost coded = { coded_list of_entry.the_row.coded };
 
     ghost view = { λ h. h.entries.items };
 }

@@ -3,15 +3,25 @@ ghost use Rattle.std.specs.Prelude.{◌≡◌};
 ghost use Rattle.ws_core.specs.Refusals.{refusal_number};
 ghost use Rattle.ws_core.specs.Operations.{answered};
 
+use crate::WsRule;
 use delta_kind::Delta;
 use res_path::Name;
-use ws_ops::{Entries, OpAnswer, OpRefusal};
+use ws_ops::{Entries, OpAnswer, OpRefusal, Partners};
 
 /// Why an event is refused. A refused event changes nothing.
-#[derive(Clone, Debug, PartialEq, Eq, Drop)]
+#[derive(Clone, Debug, Drop)]
 pub enum Refusal {
     /// The operation is refused.
     Operation(OpRefusal),
+    /// The event's rule isn't within the topmost rule of the pass that isn't null, which is this one.
+    NotContained(WsRule),
+    /// Another pass has this rule, which conflicts with the event's: of several the pass with the least number, and the
+    /// rule that it began first.
+    Conflict(u64, WsRule),
+    /// The pass began another rule last, and has so many.
+    NotLast(u64),
+    /// The pass has no rule.
+    HoldsNothing,
     /// A new pass's number would pass 2^63 - 1.
     NumbersUsed,
     /// The pass has no open batch.
@@ -19,13 +29,18 @@ pub enum Refusal {
 }
 
 impl Refusal {
-    /// The refusal's number: that of the operation's refusal, 18 for used numbers, 44 for no batch.
+    /// The refusal's number: that of the operation's refusal, 15 for a rule that isn't contained, 18 for used numbers, 19
+    /// for a rule that isn't the last, 20 for no rule, 30 for a conflict, 44 for no batch.
     pub fn number(&self) -> u8
         ensures { result ≡ refusal_number self.now }
     {
         match self {
             Refusal::Operation(refusal) => refusal.number(),
+            Refusal::NotContained(_) => 15,
             Refusal::NumbersUsed => 18,
+            Refusal::NotLast(_) => 19,
+            Refusal::HoldsNothing => 20,
+            Refusal::Conflict(_, _) => 30,
             Refusal::NoBatch => 44,
         }
     }
@@ -35,14 +50,16 @@ impl Refusal {
 #[derive(Clone, Debug, Drop)]
 pub enum Answer {
     Done,
-    /// The new pass's number.
+    /// The new pass's number, or the new marker's id.
     Id(u64),
+    /// How many markers went, or how many resources lost a partner's bytes.
+    Count(u64),
     /// No job waits.
     None,
     /// The job that is to be run.
     Job(Name),
-    /// What was read: elements with their paths.
-    Seen(Entries),
+    /// What was read: elements with their paths, and the names of the synchronisation partners by their numbers.
+    Seen(Entries, Partners),
     Refused(Refusal),
 }
 
@@ -53,7 +70,9 @@ impl Answer {
     {
         match answer {
             OpAnswer::Done => Answer::Done,
-            OpAnswer::Seen(entries) => Answer::Seen(entries),
+            OpAnswer::Id(id) => Answer::Id(id),
+            OpAnswer::Count(count) => Answer::Count(count),
+            OpAnswer::Seen(entries, partners) => Answer::Seen(entries, partners),
         }
     }
 

@@ -1,11 +1,13 @@
 //! An open workspace.
-ghost use Rattle.std.specs.Prelude.{◌≡◌, [], ◌∷◌, ◌++◌, true, IfOk, OnOk, OnErr};
+ghost use Rattle.std.specs.Prelude.{◌≡◌, ◌<◌, [], ◌∷◌, ◌++◌, true, IfOk, IsOk, IsErr, OnOk, OnErr, MatchResult, vec_len, vec_capacity};
+ghost use Rattle.sched_rules.specs.Atoms.{atom_contains, atom_conflicts};
+ghost use Rattle.rule_table.specs.Tables.{IsApart};
 ghost use Rattle.delta_kind.specs.Deltas.{delta};
 ghost use Rattle.ws_core.specs.Steps.{step};
 ghost use Rattle.ws_core.specs.Histories.{fresh, has_entered, Legal, notices, replay, told_of};
 ghost use Rattle.ws_core.specs.Sessions.{IsSound};
 
-use crate::{Entry, Event, History, NoMemory, State};
+use crate::{Entry, Event, History, NoMemory, Reply, State};
 use delta_kind::{Delta, compare};
 use std::alloc::Global;
 use std::marker::Model;
@@ -17,7 +19,8 @@ use ws_elem::ElemMap;
 ///
 /// At every moment the history is a legal one from the opened state, and the state is what it leads to. The tree and
 /// the told tree are whole, and the tree would be so with every closed project opened; files with equal stamps have
-/// equal contents, there, in closed projects and in the told tree; and each number is below its counter.
+/// equal contents, there, in closed projects and in the told tree; and each number is below its counter. Each rule that
+/// a pass holds is within each non-null one that it began before, and no rules of two passes conflict.
 #[derive(Drop)]
 pub struct Core {
     state: State,
@@ -79,10 +82,7 @@ impl Core {
             ≡ self.old.history ++ record { pass = pass; event = event; reply = (step self.old.state pass event).1 } ∷ []) }
         ensures err { OnErr result (self.new ≡ self.old) }
     {
-        self.entries.reserve(1)?;
-        let reply = self.state.step(alloc, pass, &event)?;
-        self.entries.push(Entry { pass, event, reply })?;
-        Ok(())
+        step_and_write(&mut self.state, &mut self.entries, alloc, pass, event)
     }
 
     /// What was done since the workspace was opened.
@@ -115,6 +115,7 @@ impl Core {
         ensures state { result.now ≡ self.now.state }
         ensures replayed { result.now ≡ replay self.now.opened self.now.history }
         ensures sound { IsSound result.now }
+        ensures apart { IsApart atom_contains atom_conflicts result.now.rules }
     {
         &self.state
     }
@@ -133,4 +134,71 @@ impl Core {
     {
         self.state.passes().contains(pass)
     }
+}
+
+/// Does the event, and adds it to the entries with its reply. Where memory wants, nothing was done.
+fn step_and_write(
+    state: &mut State,
+    entries: &mut Vec<Entry>,
+    alloc: Global,
+    pass: u64,
+    event: Event,
+) -> Result<(), NoMemory>
+    requires { IsSound state.old }
+    ensures state { OnOk result (state.new ≡ (step state.old pass event).0) }
+    ensures entries { OnOk result (entries.new.items
+        ≡ entries.old.items ++ record { pass = pass; event = event; reply = (step state.old pass event).1 } ∷ []) }
+    ensures same { OnErr result (state.new ≡ state.old) }
+    ensures no_entry { OnErr result (entries.new.items ≡ entries.old.items) }
+{
+    let reply = step_with_room(state, entries, alloc, pass, &event);
+    write(entries, pass, event, reply)
+}
+
+/// Does the event, with room for one entry more.
+fn step_with_room(
+    state: &mut State,
+    entries: &mut Vec<Entry>,
+    alloc: Global,
+    pass: u64,
+    event: &Event,
+) -> Result<Reply, NoMemory>
+    requires { IsSound state.old }
+    ensures state { OnOk result (state.new ≡ (step state.old pass event.now).0) }
+    ensures reply { IfOk result (λ reply. reply ≡ (step state.old pass event.now).1) }
+    ensures same { OnErr result (state.new ≡ state.old) }
+    ensures entries { entries.new.items ≡ entries.old.items }
+    ensures room { OnOk result (vec_len entries.new < vec_capacity entries.new) }
+{
+    entries.reserve(1)?;
+    state.step(alloc, pass, event)
+}
+
+/// Adds an entry for which there is room, where there is a reply.
+fn write(
+    entries: &mut Vec<Entry>,
+    pass: u64,
+    event: Event,
+    reply: Result<Reply, NoMemory>,
+) -> Result<(), NoMemory>
+    requires { IsOk reply → vec_len entries.old < vec_capacity entries.old }
+    ensures { MatchResult reply
+        (λ r. (entries.new.items ≡ entries.old.items ++ record { pass = pass; event = event; reply = r } ∷ []) × IsOk result)
+        (λ _. (entries.new.items ≡ entries.old.items) × IsErr result) }
+{
+    match reply {
+        Ok(reply) => {
+            push_entry(entries, pass, event, reply);
+            Ok(())
+        }
+        Err(wanted) => Err(wanted),
+    }
+}
+
+/// Adds an entry for which there is room.
+fn push_entry(entries: &mut Vec<Entry>, pass: u64, event: Event, reply: Reply)
+    requires { vec_len entries.old < vec_capacity entries.old }
+    ensures { entries.new.items ≡ entries.old.items ++ record { pass = pass; event = event; reply = reply } ∷ [] }
+{
+    let _ = entries.push(Entry { pass, event, reply });
 }

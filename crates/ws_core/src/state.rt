@@ -4,17 +4,20 @@ ghost use Rattle.std.specs.Option.{option_copied};
 ghost use Rattle.ws_core.specs.Histories.{fresh};
 ghost use Rattle.ws_core.specs.Sessions.{IsSound};
 
-use crate::{NoMemory, Numbers};
-use res_path::Name;
+use crate::{NoMemory, Numbers, Waiting};
+use rule_table::RuleTable;
+use sched_rules::WsAtom;
 use std::alloc::Global;
 use std::marker::Model;
 use tree_flat::FlatTree;
 use ws_elem::ElemMap;
-use ws_ops::Side;
+use ws_ops::{Partners, Side};
 
 /// The state of a workspace. A contract sees the record of its tree, the members of closed projects, the tree as it
-/// was last told, the counters that new resources, contents and passes are numbered from, the passes that have
-/// entered, those of the open batches, and the job that waits.
+/// was last told, the counters that new resources, contents, markers and passes are numbered from, the synchronisation partners,
+/// the passes that have
+/// entered, those of the open batches, the rules that passes hold in the order in which they were begun, and the job
+/// that waits.
 ///
 /// The told tree is kept only from the first change after a telling place to the next one.
 #[derive(Debug, Drop)]
@@ -28,19 +31,21 @@ pub struct State {
     pub(crate) next_pass: u64,
     pub(crate) passes: Numbers,
     pub(crate) batches: Numbers,
-    pub(crate) waiting: Option<Name>,
+    pub(crate) rules: RuleTable<WsAtom>,
+    pub(crate) waiting: Option<Waiting>,
 }
 
 impl Model for State {
     ghost use Rattle.ws_elem.specs.contracts.element.Element as element;
+    ghost use Rattle.sched_rules.specs.contracts.ws_atom.WsAtom as atom;
     ghost use Rattle.ws_ops.specs.Resources.{resources};
     ghost use Rattle.ws_core.specs.States.{Workspace, workspace_code, seen};
 
     ghost Value = { Workspace };
 
-    ghost coded = { workspace_code element.the_row.coded };
+    ghost coded = { workspace_code element.the_row.coded atom.the_row.coded };
 
-    ghost view = { λ s. seen s.unchanged s.told.map (resources s.tree.map s.side) s.next_pass s.passes s.batches s.waiting };
+    ghost view = { λ s. seen s.unchanged s.told.map (resources s.tree.map s.side) s.next_pass s.passes s.batches s.rules s.waiting };
 }
 
 impl State {
@@ -60,6 +65,7 @@ impl State {
             next_pass: 1,
             passes,
             batches: Numbers::empty(alloc),
+            rules: RuleTable::empty(alloc),
             waiting: None,
         })
     }
@@ -102,6 +108,20 @@ impl State {
         self.side.next_stamp
     }
 
+    /// The number that the next new marker gets.
+    pub fn next_marker(&self) -> u64
+        ensures { result ≡ self.now.next_marker }
+    {
+        self.side.next_marker
+    }
+
+    /// The synchronisation partners.
+    pub fn partners(&self) -> &Partners
+        ensures { result.now ≡ self.now.partners }
+    {
+        &self.side.partners
+    }
+
     /// The number that the next new pass gets.
     pub fn next_pass(&self) -> u64
         ensures { result ≡ self.now.next_pass }
@@ -123,8 +143,15 @@ impl State {
         &self.batches
     }
 
+    /// The rules that passes hold.
+    pub fn rules(&self) -> &RuleTable<WsAtom>
+        ensures { result.now ≡ self.now.rules }
+    {
+        &self.rules
+    }
+
     /// The job that waits to be run.
-    pub fn waiting(&self) -> Option<&Name>
+    pub fn waiting(&self) -> Option<&Waiting>
         ensures { option_copied result ≡ self.now.waiting }
     {
         self.waiting.as_ref()
@@ -143,6 +170,7 @@ impl State {
             next_pass: self.next_pass,
             passes: self.passes.copy()?,
             batches: self.batches.copy()?,
+            rules: self.rules.copy()?,
             waiting: self.waiting.clone()?,
         })
     }

@@ -1,14 +1,14 @@
 //! One step of a state.
 ghost use Rattle.std.specs.Prelude.{◌≡◌, IfOk, IfSome, OnOk, OnErr, Some, true, false, None as nothing};
-ghost use Rattle.std.specs.Option.{option_map};
 ghost use Rattle.ws_ops.specs.Refusals as ops;
 ghost use Rattle.ws_core.specs.declared.event.Event.TheVariants.{Operation};
+ghost use Rattle.ws_core.specs.declared.reply.Answer.TheVariants.{Refused};
 ghost use Rattle.ws_core.specs.Events.{change_of};
 ghost use Rattle.ws_core.specs.Operations.{act_operation};
-ghost use Rattle.ws_core.specs.Refusals.{refusal};
 ghost use Rattle.ws_core.specs.Sessions.{IsSound};
 ghost use Rattle.ws_core.specs.States.{resources_of, told_tree};
-ghost use Rattle.ws_core.specs.Steps.{act, step, tells, told, notice};
+ghost use Rattle.ws_core.specs.Rules.{admission, event_rule};
+ghost use Rattle.ws_core.specs.Steps.{act_admitted, step, tell, tells, told, notice};
 
 use crate::arranging::is_spent;
 use crate::operating::{operate, operate_and_tell, refusal_of};
@@ -35,6 +35,56 @@ impl State {
         ensures sound { IsSound self.new }
         ensures err { OnErr result (self.new ≡ self.old) }
     {
+        match self.admission(alloc, pass, event)? {
+            None => self.step_admitted(alloc, pass, event),
+            Some(refusal) => self.refuse(alloc, event, refusal),
+        }
+    }
+
+    /// Answers the event with this refusal, and tells what changed before where the event is a telling place.
+    fn refuse(&mut self, alloc: Global, event: &Event, refusal: Refusal) -> Result<Reply, NoMemory>
+        ensures state { OnOk result (self.new ≡ (tell event.now (self.old, Refused refusal)).0) }
+        ensures reply { IfOk result (λ reply. reply ≡ (tell event.now (self.old, Refused refusal)).1) }
+        ensures err { OnErr result (self.new ≡ self.old) }
+    {
+        let answer = Answer::Refused(refusal);
+        if self.is_told(event) {
+            return self.tell(alloc, answer);
+        }
+        Ok(Reply {
+            answer,
+            notice: None,
+        })
+    }
+
+    /// Whether the event is a telling place where it changes nothing.
+    fn is_told(&self, event: &Event) -> bool
+        ensures { result ≡ tells event.now self.now }
+    {
+        match event {
+            Event::Checkpoint => true,
+            Event::Enter
+            | Event::Leave
+            | Event::Schedule(_, _, _)
+            | Event::Take
+            | Event::Finish
+            | Event::Begin(_)
+            | Event::TryBegin(_)
+            | Event::End(_)
+            | Event::Operation(_)
+            | Event::Batch
+            | Event::EndBatch => self.batches.is_empty(),
+        }
+    }
+
+    /// Does an event that is admitted, or refuses it for a cause of its own, and tells.
+    fn step_admitted(&mut self, alloc: Global, pass: u64, event: &Event) -> Result<Reply, NoMemory>
+        requires sound { IsSound self.old }
+        requires admitted { admission self.old pass (event_rule event.now) ≡ nothing }
+        ensures state { OnOk result (self.new ≡ (tell event.now (act_admitted self.old pass event.now)).0) }
+        ensures reply { IfOk result (λ reply. reply ≡ (tell event.now (act_admitted self.old pass event.now)).1) }
+        ensures err { OnErr result (self.new ≡ self.old) }
+    {
         if !self.will_tell(pass, event) {
             return self.act_untold(alloc, pass, event);
         }
@@ -44,45 +94,9 @@ impl State {
         }
     }
 
-    /// Why the event of the pass is refused, if it is. An operation is tried, and taken back.
-    pub fn refusal(
-        &mut self,
-        alloc: Global,
-        pass: u64,
-        event: &Event,
-    ) -> Result<Option<Refusal>, NoMemory>
-        requires { IsSound self.old }
-        ensures refusal { IfOk result (λ r. r ≡ refusal self.old pass event.now) }
-        ensures same { self.new ≡ self.old }
-    {
-        match event {
-            Event::Operation(op) => self.operation_refusal(alloc, op),
-            Event::Enter if is_spent(self.next_pass) => Ok(Some(Refusal::NumbersUsed)),
-            Event::EndBatch if !self.batches.contains(pass) => Ok(Some(Refusal::NoBatch)),
-            Event::Enter
-            | Event::Leave
-            | Event::Schedule(_, _)
-            | Event::Take
-            | Event::Finish
-            | Event::Batch
-            | Event::EndBatch
-            | Event::Checkpoint => Ok(None),
-        }
-    }
-
-    /// Why the operation is refused, if it is.
-    fn operation_refusal(&mut self, alloc: Global, op: &Op) -> Result<Option<Refusal>, NoMemory>
-        requires { IsSound self.old }
-        ensures refusal { IfOk result (λ r. r ≡ option_map Refusal.Operation (ops.refusal (resources_of self.old) op.now)) }
-        ensures same { self.new ≡ self.old }
-    {
-        let refusal = refusal_of(alloc, &mut self.tree, &mut self.side, op)?;
-        Ok(refusal.map(Refusal::Operation))
-    }
-
     /// Whether the event is a telling place.
     fn will_tell(&self, pass: u64, event: &Event) -> bool
-        ensures { result ≡ tells event.now (act self.now pass event.now).0 }
+        ensures { result ≡ tells event.now (act_admitted self.now pass event.now).0 }
     {
         match event {
             Event::Checkpoint => true,
@@ -92,8 +106,11 @@ impl State {
             Event::EndBatch
             | Event::Enter
             | Event::Leave
-            | Event::Schedule(_, _)
+            | Event::Schedule(_, _, _)
             | Event::Take
+            | Event::Begin(_)
+            | Event::TryBegin(_)
+            | Event::End(_)
             | Event::Operation(_) => self.batches.is_empty(),
         }
     }
@@ -101,9 +118,10 @@ impl State {
     /// Does an event that is no telling place, or refuses it.
     fn act_untold(&mut self, alloc: Global, pass: u64, event: &Event) -> Result<Reply, NoMemory>
         requires sound { IsSound self.old }
-        requires untold { tells event.now (act self.old pass event.now).0 ≡ false }
-        ensures state { OnOk result (self.new ≡ (step self.old pass event.now).0) }
-        ensures reply { IfOk result (λ reply. reply ≡ (step self.old pass event.now).1) }
+        requires admitted { admission self.old pass (event_rule event.now) ≡ nothing }
+        requires untold { tells event.now (act_admitted self.old pass event.now).0 ≡ false }
+        ensures state { OnOk result (self.new ≡ (tell event.now (act_admitted self.old pass event.now)).0) }
+        ensures reply { IfOk result (λ reply. reply ≡ (tell event.now (act_admitted self.old pass event.now)).1) }
         ensures err { OnErr result (self.new ≡ self.old) }
     {
         let answer = self.act(alloc, pass, event)?;
@@ -115,9 +133,10 @@ impl State {
 
     /// Does the event, or refuses it, and tells nothing.
     fn act(&mut self, alloc: Global, pass: u64, event: &Event) -> Result<Answer, NoMemory>
-        requires { IsSound self.old }
-        ensures state { OnOk result (self.new ≡ (act self.old pass event.now).0) }
-        ensures answer { IfOk result (λ answer. answer ≡ (act self.old pass event.now).1) }
+        requires sound { IsSound self.old }
+        requires admitted { admission self.old pass (event_rule event.now) ≡ nothing }
+        ensures state { OnOk result (self.new ≡ (act_admitted self.old pass event.now).0) }
+        ensures answer { IfOk result (λ answer. answer ≡ (act_admitted self.old pass event.now).1) }
         ensures err { OnErr result (self.new ≡ self.old) }
     {
         match event.change() {
@@ -129,9 +148,10 @@ impl State {
     /// Does an event that changes no resources, or refuses it, and tells nothing.
     fn act_quietly(&mut self, alloc: Global, pass: u64, event: &Event) -> Result<Answer, NoMemory>
         requires sound { IsSound self.old }
+        requires admitted { admission self.old pass (event_rule event.now) ≡ nothing }
         requires quiet { change_of event.now ≡ nothing }
-        ensures state { OnOk result (self.new ≡ (act self.old pass event.now).0) }
-        ensures answer { IfOk result (λ answer. answer ≡ (act self.old pass event.now).1) }
+        ensures state { OnOk result (self.new ≡ (act_admitted self.old pass event.now).0) }
+        ensures answer { IfOk result (λ answer. answer ≡ (act_admitted self.old pass event.now).1) }
         ensures err { OnErr result (self.new ≡ self.old) }
     {
         match event {
@@ -139,10 +159,12 @@ impl State {
                 return Ok(Answer::Refused(Refusal::NumbersUsed));
             }
             Event::Enter => return self.enter(),
-            Event::Leave => self.passes.remove_all(pass),
-            Event::Schedule(name, _) => self.schedule(name)?,
-            Event::Take => return Ok(self.take_job()),
-            Event::Finish => self.batches.remove_all(pass),
+            Event::Leave => self.leave(pass),
+            Event::Schedule(name, _, rule) => self.schedule(name, rule)?,
+            Event::Take => return self.take_job(pass),
+            Event::Finish => self.finish(pass),
+            Event::Begin(rule) | Event::TryBegin(rule) => self.begin(pass, rule)?,
+            Event::End(rule) => return Ok(self.end(pass, rule)),
             Event::Batch => self.batches.push(pass)?,
             Event::EndBatch if !self.batches.contains(pass) => {
                 return Ok(Answer::Refused(Refusal::NoBatch));
@@ -233,10 +255,11 @@ impl State {
     /// Does an event that is a telling place and changes no resources, or refuses it. What it tells is made before.
     fn tell_and_act(&mut self, alloc: Global, pass: u64, event: &Event) -> Result<Reply, NoMemory>
         requires sound { IsSound self.old }
-        requires tells { tells event.now (act self.old pass event.now).0 ≡ true }
+        requires tells { tells event.now (act_admitted self.old pass event.now).0 ≡ true }
+        requires admitted { admission self.old pass (event_rule event.now) ≡ nothing }
         requires quiet { change_of event.now ≡ nothing }
-        ensures state { OnOk result (self.new ≡ (step self.old pass event.now).0) }
-        ensures reply { IfOk result (λ reply. reply ≡ (step self.old pass event.now).1) }
+        ensures state { OnOk result (self.new ≡ (tell event.now (act_admitted self.old pass event.now)).0) }
+        ensures reply { IfOk result (λ reply. reply ≡ (tell event.now (act_admitted self.old pass event.now)).1) }
         ensures err { OnErr result (self.new ≡ self.old) }
     {
         let notice = self.notice(alloc)?;

@@ -1,9 +1,11 @@
 -- Elements.
 use Rattle.std.specs.Prelude.{ℕ, false, []}
+use Rattle.std.specs.FinMap.{empty}
 use Rattle.ws_elem.specs.declared.kind.Kind.{Kind}
 use Rattle.ws_elem.specs.declared.element.Element.{Element}
 
--- an element with a kind and a node, and nothing else: no contents, closed, no description, not derived
+-- an element with a kind and a node, and nothing else: no contents, closed, no description, not derived, no markers and
+-- no synchronisation bytes
 abbrev pub bare : Kind → ℕ → Element
 bare kind node = record {
   kind = kind;
@@ -14,4 +16,6 @@ bare kind node = record {
   desc_stamp = 0;
   desc = [];
   bytes = [];
+  marks = empty;
+  syncs = empty;
 }

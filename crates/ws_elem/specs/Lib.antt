@@ -1,4 +1,5 @@
 pub mod Kinds
+pub mod Depths
 pub mod Elements
 pub mod Trees
 pub mod Walks

@@ -4,6 +4,8 @@ ghost use Rattle.ws_elem.specs.Elements.{bare};
 
 use crate::{Kind, NoMemory};
 use bytes::Bytes;
+use mark_set::MarkSet;
+use sync_set::SyncSet;
 
 /// What the workspace keeps of one resource. A contract sees its fields, a text as its bytes.
 #[derive(Clone, Debug, PartialEq, Eq, Drop)]
@@ -22,6 +24,10 @@ pub struct Element {
     pub desc: Bytes,
     /// The contents; empty but for files.
     pub bytes: Bytes,
+    /// The markers, by id.
+    pub marks: MarkSet,
+    /// What synchronisation partners keep with the resource, by partner number.
+    pub syncs: SyncSet,
 }
 
 impl Element {
@@ -38,6 +44,8 @@ impl Element {
             desc_stamp: 0,
             desc: Bytes::new(),
             bytes: Bytes::new(),
+            marks: MarkSet::empty(),
+            syncs: SyncSet::empty(),
         }
     }
 

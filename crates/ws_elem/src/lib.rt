@@ -1,11 +1,13 @@
 //! Elements of the workspace, and the trees that they stand in.
 //!
 //! - `kind`: a `Kind`, what sort of resource an element is.
+//! - `depth`: a `Depth`, how far below a resource something reaches.
 //! - `element`: an `Element`, what the workspace keeps of one resource.
 //! - `elem_map`: an `ElemMap`, elements by path.
 //! - `tree_rep`: `TreeRep`, what serves as a tree.
 #![tactic(auto)]
 
+mod depth;
 mod elem_map;
 mod element;
 mod entries;
@@ -17,6 +19,7 @@ mod slots;
 mod tests;
 mod tree_rep;
 
+pub use depth::Depth;
 pub use elem_map::ElemMap;
 pub use element::Element;
 pub use entries::Entries;

@@ -64,10 +64,7 @@ pub(crate) fn open_slot(
     ensures ok { OnOk result (SetsSlot slots.old.entries slots.new.entries path.now (opened (slot_at slots.old.entries path.now))) }
     ensures err { OnErr result (slots.new.entries ≡ slots.old.entries) }
 {
-    if slots.contains_key(path) {
-        return Ok(());
-    }
-    slots.insert(path.copy()?, None)?;
+    slots.entry(path.copy()?)?.or_insert(None);
     Ok(())
 }
 

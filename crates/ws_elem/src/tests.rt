@@ -1,4 +1,4 @@
-use crate::{ElemMap, Element, Kind};
+use crate::{Depth, ElemMap, Element, Kind};
 use bytes::Bytes;
 use res_path::Path;
 use std::alloc::Global;
@@ -138,6 +138,14 @@ fn an_element_that_is_put_takes_the_place_of_the_one_before(rt: HostRuntime) -> 
 }
 
 #[test]
+fn depths_have_the_platforms_numbers(rt: HostRuntime) -> Result<(), Fail> {
+    for (depth, number) in [(Depth::Zero, 0), (Depth::One, 1), (Depth::Infinite, 2)] {
+        assert_eq!(rt; depth.number(), number);
+    }
+    Ok(())
+}
+
+#[test]
 fn kinds_have_the_platforms_numbers_and_words(rt: HostRuntime) -> Result<(), Fail> {
     for (kind, number, word) in [
         (Kind::File, 1, "file"),
@@ -169,5 +177,20 @@ fn elements_are_equal_where_all_their_parts_are(rt: HostRuntime) -> Result<(), F
         ..copy
     };
     assert!(rt; other != file);
+    Ok(())
+}
+
+#[test]
+fn a_copy_of_an_element_has_its_markers_and_bytes(rt: HostRuntime) -> Result<(), Fail> {
+    let alloc = rt.alloc();
+    let mut file = Element::bare(Kind::File, 5);
+    assert!(rt; file.marks.is_empty());
+    assert!(rt; file.syncs.is_empty());
+    file.marks.create(alloc, 1, "problem", &[])?;
+    let bytes = Bytes::copy_from_slice(alloc, b"v1")?;
+    file.syncs.set(alloc, 0, Some(bytes))?;
+    let copy = file.copy()?;
+    assert!(rt; copy == file);
+    assert!(rt; copy != Element::bare(Kind::File, 5));
     Ok(())
 }

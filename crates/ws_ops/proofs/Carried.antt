@@ -1,6 +1,6 @@
 -- What is carried from one path to another.
 use Rattle.std.proofs.Common.{◌≡◌, suc, ◌+◌, ◌-◌, Bool, true, false, cond, ◌&&◌, [], ◌∷◌, ◌++◌, length, refl, ap, ◌∙◌, length-append, length-drop}
-use Rattle.std.specs.Prelude.{count_by, filter}
+use Rattle.std.specs.Prelude.{None, count_by, filter}
 use Rattle.std.specs.List.{list_all}
 use Rattle.std.specs.FinMap.{entries}
 use Rattle.std.proofs.lemmas.List.Sums.{sum_by-cons}
@@ -16,6 +16,7 @@ use Rattle.ws_ops.specs.Members.{branch, rebased, carried, put_all}
 use Rattle.ws_ops.specs.Numbers.{has_stamp, stamps_of, stamps_of_all}
 use Rattle.ws_ops.specs.Effects.{effect, copies}
 use Rattle.ws_ops.specs.Changes.{changed, taken, put}
+use Rattle.ws_ops.specs.Partners.{with_partner}
 use Rattle.ws_ops.specs.Plans.{planned}
 use Rattle.ws_ops.proofs.Effected.{changed-append, changed_put, taken_branch, copies_carried}
 
@@ -40,23 +41,23 @@ branch_under t p es h = ap (list_all (λ e. is_prefix p e.0)) h ∙ all_filtered
 
 -- what is carried is moved
 pub move_planned : (r : Resources) (from to : Names) (plan : Plan) → plan.tree ≡ taken (branch r.tree from) ++ put (carried from to (branch r.tree from)) → plan.shelf ≡ []
-    → plan.next_node ≡ r.next_node → plan.next_stamp ≡ r.next_stamp → plan.answer ≡ Done → planned r plan ≡ effect r (Move from to)
-move_planned r from to plan tree shelf node stamp answer =
+    → plan.next_node ≡ r.next_node → plan.next_stamp ≡ r.next_stamp → plan.next_marker ≡ r.next_marker → plan.partner ≡ None → plan.answer ≡ Done → planned r plan ≡ effect r (Move from to)
+move_planned r from to plan tree shelf node stamp marker partner answer =
     let es = branch r.tree from in
     let t : changed r.tree plan.tree ≡ put_all (without r.tree from) (carried from to es) =
     ap (changed r.tree) tree ∙ changed-append r.tree (taken es) (put (carried from to es)) ∙ ap (λ u. changed u (put (carried from to es))) (taken_branch r.tree from)
     ∙ changed_put (without r.tree from) (carried from to es) in
-    λ i. (record { tree = t i; shelf = changed r.shelf (shelf i); next_node = node i; next_stamp = stamp i }, answer i)
+    λ i. (record { tree = t i; shelf = changed r.shelf (shelf i); next_node = node i; next_stamp = stamp i; next_marker = marker i; partners = with_partner r.partners (partner i) }, answer i)
 
 -- copies of what is carried
 pub copy_planned : (r : Resources) (from to : Names) (plan : Plan) → plan.tree ≡ put (copies r.next_node r.next_stamp (carried from to (branch r.tree from))) → plan.shelf ≡ []
-    → plan.next_node ≡ r.next_node + length (branch r.tree from) → plan.next_stamp ≡ r.next_stamp + stamps_of_all (branch r.tree from) → plan.answer ≡ Done
+    → plan.next_node ≡ r.next_node + length (branch r.tree from) → plan.next_stamp ≡ r.next_stamp + stamps_of_all (branch r.tree from) → plan.next_marker ≡ r.next_marker → plan.partner ≡ None → plan.answer ≡ Done
     → planned r plan ≡ effect r (Copy from to)
-copy_planned r from to plan tree shelf node stamp answer =
+copy_planned r from to plan tree shelf node stamp marker partner answer =
     let es = branch r.tree from in
     let t : changed r.tree plan.tree ≡ put_all r.tree (carried from to (copies r.next_node r.next_stamp es)) =
     ap (changed r.tree) tree ∙ changed_put r.tree (copies r.next_node r.next_stamp (carried from to es)) ∙ ap (put_all r.tree) (copies_carried from to r.next_node r.next_stamp es) in
-    λ i. (record { tree = t i; shelf = changed r.shelf (shelf i); next_node = node i; next_stamp = stamp i }, answer i)
+    λ i. (record { tree = t i; shelf = changed r.shelf (shelf i); next_node = node i; next_stamp = stamp i; next_marker = marker i; partners = with_partner r.partners (partner i) }, answer i)
 
 -- carrying changes neither how many there are nor what they draw
 pub carried_count : (from to : Names) (es : Entries) → length (carried from to es) ≡ length es

@@ -1,10 +1,14 @@
 pub mod Above
+pub mod BadValues
 pub mod Carried
 pub mod Causes
 pub mod Effected
+pub mod Lost
 pub mod Made
 pub mod Named
 pub mod Opened
+pub mod Reached
+pub mod Skipped
 pub mod SoundCarried
 pub mod SoundCases
 pub mod SoundChange
@@ -15,6 +19,7 @@ pub mod SoundGrafts
 pub mod SoundKept
 pub mod SoundLooks
 pub mod SoundMove
+pub mod SoundNotes
 pub mod SoundOpen
 pub mod SoundParts
 pub mod SoundPaths

@@ -1,14 +1,15 @@
 -- Changes and the room that they take.
-use Rattle.std.proofs.Common.{◌≡◌, ℕ, ◌+◌, ◌<◌, true, [], ◌∷◌, ◌++◌, length, take, get_or, sym, ap, ◌∙◌, subst, add-one}
-use Rattle.std.specs.Prelude.{Option}
+use Rattle.std.proofs.Common.{◌≡◌, ℕ, ◌+◌, ◌<◌, true, List, [], ◌∷◌, ◌++◌, length, take, get_or, sym, ap, ◌∙◌, subst, add-one}
+use Rattle.std.specs.Prelude.{Option, Some, None}
 use Rattle.std.proofs.lemmas.List.{append-nil}
 use Rattle.std.specs.FinMap.{get}
-use Rattle.std.proofs.Math.Seq.{take-suc}
+use Rattle.std.proofs.Math.Seq.{take-suc, take-length, take-append_seam}
 use Rattle.res_path.specs.Paths.{Names}
 use Rattle.ws_elem.specs.declared.element.Element.{Element}
 use Rattle.ws_elem.specs.Rooms.{Room, has_room, with_room}
 use Rattle.ws_elem.proofs.Rooms.{room_added, room_kept}
 use Rattle.ws_elem.specs.Trees.{Tree}
+use Rattle.ws_ops.specs.Partners.{Partners, with_partner}
 use Rattle.ws_ops.specs.Changes.{Changes, HasRooms, KeepsRoom, set_entry, undoing}
 
 pub rooms_kept : (r s : Room) (cs : Changes) → KeepsRoom r s → HasRooms r cs → HasRooms s cs
@@ -31,6 +32,12 @@ rooms_more r s cs i c lt is e h =
 pub keeps_more : (o r s : Room) (p : Names) → KeepsRoom o r → s ≡ with_room r p → KeepsRoom o s
 keeps_more o r s p k e q h = subst (λ z. has_room z q ≡ true) (sym e) (room_kept r p q (k q h))
 
+pub keeps_itself : (r : Room) → KeepsRoom r r
+keeps_itself r p h = h
+
+pub keeps_same : (o r s : Room) → s ≡ r → KeepsRoom o r → KeepsRoom o s
+keeps_same o r s e k p h = subst (λ z. has_room z p ≡ true) (sym e) (k p h)
+
 -- what was added to nothing is all there is
 pub all_undone : (t : Tree) (cs : Changes) → undoing t cs ++ [] ≡ undoing t cs
 all_undone t cs = append-nil (undoing t cs)
@@ -43,3 +50,8 @@ rooms_push_all r (c ∷ cs) ds h g = (h.0, rooms_push_all r cs ds h.1 g)
 pub rooms_undoing : (r : Room) (t : Tree) (cs : Changes) → HasRooms r cs → HasRooms r (undoing t cs)
 rooms_undoing r t [] h = tt
 rooms_undoing r t (c ∷ cs) h = rooms_push_all r (undoing (set_entry t c.0 c.1) cs) ((c.0, get t c.0) ∷ []) (rooms_undoing r (set_entry t c.0 c.1) cs h.1) (h.0, tt)
+
+-- a partner that was registered as the last is taken away
+pub partners_back : (partners : Partners) (partner : Option (List ℕ)) → take (length partners) (with_partner partners partner) ≡ partners
+partners_back partners None = take-length partners
+partners_back partners (Some name) = take-append_seam partners (name ∷ [])

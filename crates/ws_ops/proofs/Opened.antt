@@ -12,6 +12,7 @@ use Rattle.ws_ops.specs.declared.op.Op.TheVariants.{Open, Close}
 use Rattle.ws_ops.specs.declared.plan.Plan.{Plan}
 use Rattle.ws_ops.specs.Effects.{effect, set_open}
 use Rattle.ws_ops.specs.Places.{is_shut}
+use Rattle.ws_ops.specs.Partners.{with_partner}
 use Rattle.ws_ops.specs.Plans.{planned}
 use Rattle.ws_ops.specs.Resources.{Resources}
 use Rattle.ws_ops.specs.Changes.{changed, taken, put}
@@ -43,32 +44,32 @@ closes t p e h =
 
 pub open_planned : (r : Resources) (p : Names) (e : Element) (plan : Plan) → is_shut r.tree p ≡ true → get r.tree p ≡ Some e
     → plan.tree ≡ (p, Some (record e { opened = true })) ∷ [] ++ put (members r.shelf p) → plan.shelf ≡ taken (members r.shelf p)
-    → plan.next_node ≡ r.next_node → plan.next_stamp ≡ r.next_stamp → plan.answer ≡ Done → planned r plan ≡ effect r (Open p)
-open_planned r p e plan shut there tree shelf node stamp answer =
+    → plan.next_node ≡ r.next_node → plan.next_stamp ≡ r.next_stamp → plan.next_marker ≡ r.next_marker → plan.partner ≡ None → plan.answer ≡ Done → planned r plan ≡ effect r (Open p)
+open_planned r p e plan shut there tree shelf node stamp marker partner answer =
     let t : changed r.tree plan.tree ≡ put_all (set_open r.tree p true) (members r.shelf p) = ap (changed r.tree) tree ∙ opens r.tree r.shelf p e there in
     let s : changed r.shelf plan.shelf ≡ without_members r.shelf p = ap (changed r.shelf) shelf ∙ taken_members r.shelf p in
     let whole : planned r plan ≡ (record r { tree = put_all (set_open r.tree p true) (members r.shelf p); shelf = without_members r.shelf p }, Done) =
-    λ i. (record { tree = t i; shelf = s i; next_node = node i; next_stamp = stamp i }, answer i) in
+    λ i. (record { tree = t i; shelf = s i; next_node = node i; next_stamp = stamp i; next_marker = marker i; partners = with_partner r.partners (partner i) }, answer i) in
     whole ∙ sym (ap (λ b. (cond b (record r { tree = put_all (set_open r.tree p true) (members r.shelf p); shelf = without_members r.shelf p }) r, Done)) shut)
 
 pub open_already : (r : Resources) (p : Names) (plan : Plan) → is_shut r.tree p ≡ false → plan.tree ≡ [] → plan.shelf ≡ []
-    → plan.next_node ≡ r.next_node → plan.next_stamp ≡ r.next_stamp → plan.answer ≡ Done → planned r plan ≡ effect r (Open p)
-open_already r p plan shut tree shelf node stamp answer =
-    let whole : planned r plan ≡ (r, Done) = λ i. (record { tree = changed r.tree (tree i); shelf = changed r.shelf (shelf i); next_node = node i; next_stamp = stamp i }, answer i) in
+    → plan.next_node ≡ r.next_node → plan.next_stamp ≡ r.next_stamp → plan.next_marker ≡ r.next_marker → plan.partner ≡ None → plan.answer ≡ Done → planned r plan ≡ effect r (Open p)
+open_already r p plan shut tree shelf node stamp marker partner answer =
+    let whole : planned r plan ≡ (r, Done) = λ i. (record { tree = changed r.tree (tree i); shelf = changed r.shelf (shelf i); next_node = node i; next_stamp = stamp i; next_marker = marker i; partners = with_partner r.partners (partner i) }, answer i) in
     whole ∙ sym (ap (λ b. (cond b (record r { tree = put_all (set_open r.tree p true) (members r.shelf p); shelf = without_members r.shelf p }) r, Done)) shut)
 
 pub close_planned : (r : Resources) (p : Names) (e : Element) (plan : Plan) → is_shut r.tree p ≡ false → get r.tree p ≡ Some e
     → plan.tree ≡ taken (members r.tree p) ++ (p, Some (record e { opened = false })) ∷ [] → plan.shelf ≡ put (members r.tree p)
-    → plan.next_node ≡ r.next_node → plan.next_stamp ≡ r.next_stamp → plan.answer ≡ Done → planned r plan ≡ effect r (Close p)
-close_planned r p e plan shut there tree shelf node stamp answer =
+    → plan.next_node ≡ r.next_node → plan.next_stamp ≡ r.next_stamp → plan.next_marker ≡ r.next_marker → plan.partner ≡ None → plan.answer ≡ Done → planned r plan ≡ effect r (Close p)
+close_planned r p e plan shut there tree shelf node stamp marker partner answer =
     let t : changed r.tree plan.tree ≡ set_open (without_members r.tree p) p false = ap (changed r.tree) tree ∙ closes r.tree p e there in
     let s : changed r.shelf plan.shelf ≡ put_all r.shelf (members r.tree p) = ap (changed r.shelf) shelf ∙ changed_put r.shelf (members r.tree p) in
     let whole : planned r plan ≡ (record r { tree = set_open (without_members r.tree p) p false; shelf = put_all r.shelf (members r.tree p) }, Done) =
-    λ i. (record { tree = t i; shelf = s i; next_node = node i; next_stamp = stamp i }, answer i) in
+    λ i. (record { tree = t i; shelf = s i; next_node = node i; next_stamp = stamp i; next_marker = marker i; partners = with_partner r.partners (partner i) }, answer i) in
     whole ∙ sym (ap (λ b. (cond b r (record r { tree = set_open (without_members r.tree p) p false; shelf = put_all r.shelf (members r.tree p) }), Done)) shut)
 
 pub closed_already : (r : Resources) (p : Names) (plan : Plan) → is_shut r.tree p ≡ true → plan.tree ≡ [] → plan.shelf ≡ []
-    → plan.next_node ≡ r.next_node → plan.next_stamp ≡ r.next_stamp → plan.answer ≡ Done → planned r plan ≡ effect r (Close p)
-closed_already r p plan shut tree shelf node stamp answer =
-    let whole : planned r plan ≡ (r, Done) = λ i. (record { tree = changed r.tree (tree i); shelf = changed r.shelf (shelf i); next_node = node i; next_stamp = stamp i }, answer i) in
+    → plan.next_node ≡ r.next_node → plan.next_stamp ≡ r.next_stamp → plan.next_marker ≡ r.next_marker → plan.partner ≡ None → plan.answer ≡ Done → planned r plan ≡ effect r (Close p)
+closed_already r p plan shut tree shelf node stamp marker partner answer =
+    let whole : planned r plan ≡ (r, Done) = λ i. (record { tree = changed r.tree (tree i); shelf = changed r.shelf (shelf i); next_node = node i; next_stamp = stamp i; next_marker = marker i; partners = with_partner r.partners (partner i) }, answer i) in
     whole ∙ sym (ap (λ b. (cond b r (record r { tree = set_open (without_members r.tree p) p false; shelf = put_all r.shelf (members r.tree p) }), Done)) shut)

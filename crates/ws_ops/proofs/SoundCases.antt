@@ -66,3 +66,8 @@ map_if f A (Some e) h = h
 pub map_some : (f : Element → Element) (A : Element → Type 0) (x : Option Element) → IsSomeAnd x (λ e. A (f e)) → IsSomeAnd (option_map f x) A
 map_some f A None h = h
 map_some f A (Some e) h = h
+
+-- ---- of any kind
+
+pub absent_if : {X : Type 0} (A : X → Type 0) (x : Option X) → x ≡ None → IfSome x A
+absent_if A x h = subst (λ y. IfSome y A) (sym h) tt

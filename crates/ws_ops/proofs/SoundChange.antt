@@ -21,7 +21,7 @@ use Rattle.ws_ops.proofs.SoundCases.{if_as, some_same, at_cond, if_there, at_som
 use Rattle.ws_ops.proofs.SoundLooks.{is_at, get-change_at, changed_at}
 use Rattle.ws_ops.proofs.SoundParts.{is_kept, short_kept, whole_of, whole_parts, whole_fits}
 use Rattle.ws_ops.proofs.SoundGrafts.{Alike, fits_as, parts_as, changed_fits, changed_parts}
-use Rattle.ws_ops.proofs.SoundStamps.{Same, Comes, IsOld, old_tree, stays_tree, stays_shelf}
+use Rattle.ws_ops.proofs.SoundStamps.{Same, Comes, IsOld, IsLater, old_tree, stays_tree, stays_shelf}
 use Rattle.ws_ops.proofs.SoundSteps.{Keeps, passed}
 use Rattle.ws_ops.proofs.SoundCreate.{one_name}
 
@@ -42,20 +42,20 @@ change_keeps : (Fresh : Element → Type 0) (r : Resources) (p : Names) (change 
 change_keeps Fresh r p change stamps x beside shown more comes late same = record {
   whole = change_at (whole_of r x) p change;
   fits = fits_as (changed_at (get (whole_of r x)) p change) (get (change_at (whole_of r x) p change)) (get-change_at (whole_of r x) p change)
-      (changed_fits (get (whole_of r x)) p change beside.alike (whole_fits r x));
+      (changed_fits (get (whole_of r x)) (λ q. is_at q p) change beside.alike (whole_fits r x));
   parts = parts_as (changed_at (get r.tree) p change) (get (change_at r.tree p change)) (get r.shelf) (get r.shelf)
       (changed_at (get (whole_of r x)) p change) (get (change_at (whole_of r x) p change))
       (λ q. sym (get-change_at r.tree p change q)) (λ _. refl) (λ q. sym (get-change_at (whole_of r x) p change q))
-      (changed_parts (get r.tree) (get r.shelf) (get (whole_of r x)) p change beside.alike beside.turns shown (whole_parts r x));
+      (changed_parts (get r.tree) (get r.shelf) (get (whole_of r x)) (λ q. is_at q p) change beside.alike beside.turns
+      (λ q same. ap (is_kept (get r.tree)) (same_at q p same) ∙ shown) (whole_parts r x));
   grows = record {
-    nodes = omega arith;
-    stamps = more;
+    later = later;
     tree = λ q. if_as (Comes Fresh r after) (get (change_at r.tree p change) q) (changed_at (get r.tree) p change q) (get-change_at r.tree p change q)
         (at_cond (λ z. IfSome z (Comes Fresh r after)) (is_at q p) (option_map change (get r.tree q)) (get r.tree q)
         (λ at. map_if change (Comes Fresh r after) (get r.tree q)
         (if_there (λ e. Comes Fresh r after (change e)) (get r.tree q) (λ e h. comes e (ap (get r.tree) (sym (same_at q p at)) ∙ h))))
-        (λ _. stays_tree Fresh r after (omega arith) more x.tree_known q));
-    shelf = stays_shelf Fresh r after (omega arith) more x.shelf_known;
+        (λ _. stays_tree Fresh r after later x.tree_known q));
+    shelf = stays_shelf Fresh r after later x.shelf_known;
     late = late;
     same = same;
   };
@@ -63,6 +63,9 @@ change_keeps Fresh r p change stamps x beside shown more comes late same = recor
   where
     after : Resources
     after = changed_to r p change stamps
+
+    later : IsLater r after
+    later = (omega arith, more, omega arith, omega arith)
 
 -- ---- contents
 
@@ -83,7 +86,7 @@ contents_keeps : (r : Resources) (p : Names) (bytes : List ℕ → List ℕ) →
 contents_keeps r p bytes x h = change_keeps (IsChanged r p change) r p change (r.next_stamp + 1) x record { alike = λ e. record { kind = refl; node = refl; opened = refl }; turns = turns }
     (passed (is_in_shut r.tree p) (ProjectClosed (project_of p)) _ h).0 (omega arith)
     (λ e is. record {
-      drawn = later e (at_some (IsDrawn r.next_node r.next_stamp) (get r.tree p) e is (x.tree_known.drawn p));
+      drawn = later e (at_some (IsDrawn r) (get r.tree p) e is (x.tree_known.drawn p));
       whence = inr (ap (option_map change) is);
     })
     (λ e is _. all_changed (λ g. r.next_stamp ≤ g.stamp) change (λ g. omega arith) (get r.tree p) e is)
@@ -97,11 +100,13 @@ contents_keeps r p bytes x h = change_keeps (IsChanged r p change) r p change (r
         cond b (record (rewrite_with r.next_stamp bytes e) { opened = true }) (rewrite_with r.next_stamp bytes e)
         ≡ rewrite_with r.next_stamp bytes (cond b (record e { opened = true }) e)) [ true ↦ refl | false ↦ refl ]
 
-    later : (e : Element) → IsDrawn r.next_node r.next_stamp e → IsDrawn r.next_node (r.next_stamp + 1) (rewrite_with r.next_stamp bytes e)
+    later : (e : Element) → IsDrawn r e → IsDrawn (changed_to r p change (r.next_stamp + 1)) (rewrite_with r.next_stamp bytes e)
     later e d = record {
       node = d.node;
       stamp = omega arith;
       desc_stamp = let less : e.desc_stamp < r.next_stamp = d.desc_stamp in omega arith;
+      marks = d.marks;
+      syncs = d.syncs;
     }
 
 pub write_keeps : (r : Resources) (p : Names) (bytes : List ℕ) → IsSound r → first_cause (contents_causes r p) ≡ None
@@ -118,10 +123,10 @@ pub derive_keeps : (r : Resources) (p : Names) (on : Bool) → IsSound r → fir
 derive_keeps r p on x h = change_keeps (λ _. ⊥) r p (λ e. record e { derived = on }) r.next_stamp x record { alike = λ e. record { kind = refl; node = refl; opened = refl }; turns = turns }
     (passed (is_in_shut r.tree p) (ProjectClosed (project_of p)) _ h).0 (omega arith)
     (λ e is.
-    let d : IsDrawn r.next_node r.next_stamp e = at_some (IsDrawn r.next_node r.next_stamp) (get r.tree p) e is (x.tree_known.drawn p) in
+    let d : IsDrawn r e = at_some (IsDrawn r) (get r.tree p) e is (x.tree_known.drawn p) in
     let old : IsOld r e = old_tree r p e is in
     record {
-      drawn = record { node = d.node; stamp = d.stamp; desc_stamp = d.desc_stamp };
+      drawn = record { node = d.node; stamp = d.stamp; desc_stamp = d.desc_stamp; marks = d.marks; syncs = d.syncs };
       whence = inl (record { from = old.from; stood = old.stood; kind = old.kind; stamp = old.stamp; bytes = old.bytes });
     })
     (λ _ none. absurd none) (λ _ _ none. absurd none)
@@ -136,11 +141,11 @@ describe_keeps r p text x h = change_keeps (λ _. ⊥) r p (λ e. record e { des
     record { alike = λ e. record { kind = refl; node = refl; opened = refl }; turns = turns (unwrap_or (canonical_of text) []) }
     (short_kept (get r.tree) p (one_short p (one_name p (passed (not (is_project_path p)) (WrongKind p) _ h).0))) (omega arith)
     (λ e is.
-    let d : IsDrawn r.next_node r.next_stamp e = at_some (IsDrawn r.next_node r.next_stamp) (get r.tree p) e is (x.tree_known.drawn p) in
+    let d : IsDrawn r e = at_some (IsDrawn r) (get r.tree p) e is (x.tree_known.drawn p) in
     let old : IsOld r e = old_tree r p e is in
     let less : e.stamp < r.next_stamp = d.stamp in
     record {
-      drawn = record { node = d.node; stamp = omega arith; desc_stamp = omega arith };
+      drawn = record { node = d.node; stamp = omega arith; desc_stamp = omega arith; marks = d.marks; syncs = d.syncs };
       whence = inl (record { from = old.from; stood = old.stood; kind = old.kind; stamp = old.stamp; bytes = old.bytes });
     })
     (λ _ none. absurd none) (λ _ _ none. absurd none)

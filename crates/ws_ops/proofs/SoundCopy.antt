@@ -21,7 +21,7 @@ use Rattle.ws_ops.proofs.SoundLooks.{find_at, sorted-branch}
 use Rattle.ws_ops.proofs.SoundParts.{whole_of, whole_parts, whole_fits}
 use Rattle.ws_ops.proofs.SoundGrafts.{fits_as, parts_as, graft, IsGraft, graft_fits, graft_parts}
 use Rattle.ws_ops.proofs.SoundCarried.{Draws, get-carried, branch_below, node_at, stamp_at, find-copies, copies_below, sorted-copies, node_range, stamp_range, node_apart, stamp_apart}
-use Rattle.ws_ops.proofs.SoundStamps.{Same, Comes, stays_tree, stays_shelf}
+use Rattle.ws_ops.proofs.SoundStamps.{Same, Comes, IsLater, no_marks, no_bytes, stays_tree, stays_shelf}
 use Rattle.ws_ops.proofs.SoundSteps.{Keeps, whole_above, whole_free, tree_free, whole_nodes}
 use Rattle.ws_ops.proofs.SoundMove.{Transfer, transferred, rebased_one, brought, brought_graft, find-brought}
 
@@ -47,16 +47,18 @@ project_stamps e h = ap (λ b. cond b 1 0) (by (is_file e.kind) (is_project e.ki
     by false b g = g
 
 -- the numbers of a copy are drawn
-copy_drawn : (r : Resources) (n s nodes stamps : ℕ) (e : Element) → IsDrawn r.next_node r.next_stamp e → n + 1 ≤ nodes → s + stamps_of e ≤ stamps → r.next_stamp ≤ stamps
-    → IsDrawn nodes stamps (renumbered n s e)
-copy_drawn r n s nodes stamps e d less room more = record {
+copy_drawn : (r after : Resources) (n s : ℕ) (e : Element) → IsDrawn r e → n + 1 ≤ after.next_node → s + stamps_of e ≤ after.next_stamp → r.next_stamp ≤ after.next_stamp
+    → IsDrawn after (renumbered n s e)
+copy_drawn r after n s e d less room more = record {
   node = omega arith;
-  stamp = at_cond (λ z. z < stamps) (is_file e.kind) s e.stamp
+  stamp = at_cond (λ z. z < after.next_stamp) (is_file e.kind) s e.stamp
       (λ h. let one : stamps_of e ≡ 1 = file_stamps e h in omega arith)
       (λ _. let drawn : e.stamp < r.next_stamp = d.stamp in omega arith);
-  desc_stamp = at_cond (λ z. z < stamps) (is_project e.kind) s e.desc_stamp
+  desc_stamp = at_cond (λ z. z < after.next_stamp) (is_project e.kind) s e.desc_stamp
       (λ h. let one : stamps_of e ≡ 1 = project_stamps e h in omega arith)
       (λ _. let drawn : e.desc_stamp < r.next_stamp = d.desc_stamp in omega arith);
+  marks = no_marks after.next_marker;
+  syncs = no_bytes (length after.partners);
 }
 
 -- a copied file's stamp is fresh
@@ -143,12 +145,15 @@ module _ (r : Resources) (from to : Names) (x : IsSound r) (at : Transfer r.tree
   copy_comes q = map_if (copy_of q) (Comes (IsCopy r copied) r (copy r from to)) (get r.tree (rebased to from q))
       (if_there (λ e. Comes (IsCopy r copied) r (copy r from to) (copy_of q e)) (get r.tree (rebased to from q)) (λ e is.
       record {
-        drawn = copy_drawn r (node q) (stamp q) (r.next_node + length copied) (r.next_stamp + stamps_of_all copied) e
-            (at_some (IsDrawn r.next_node r.next_stamp) (get r.tree (rebased to from q)) e is (x.tree_known.drawn (rebased to from q)))
+        drawn = copy_drawn r (copy r from to) (node q) (stamp q) e
+            (at_some (IsDrawn r) (get r.tree (rebased to from q)) e is (x.tree_known.drawn (rebased to from q)))
             (at_some (λ _. Draws r.next_node (node q) 1 (r.next_node + length copied)) (get r.tree (rebased to from q)) e is (in_nodes q)).1
             (at_some (λ g. Draws r.next_stamp (stamp q) (stamps_of g) (r.next_stamp + stamps_of_all copied)) (get r.tree (rebased to from q)) e is (in_stamps q)).1 (omega arith);
         whence = inr record { path = rebased to from q; from = e; there = find-brought r.tree from to q ∙ is; is = refl };
       }))
+
+  later : IsLater r (copy r from to)
+  later = (omega arith, omega arith, omega arith, omega arith)
 
   copied_keeps : Keeps (IsCopy r copied) r (copy r from to)
   copied_keeps = record {
@@ -161,13 +166,12 @@ module _ (r : Resources) (from to : Names) (x : IsSound r) (at : Transfer r.tree
         (λ q. sym (get-copied r.tree (tree_free r x to at.place) q)) (λ _. refl) (λ q. sym (get-copied (whole_of r x) (whole_free r x to at.place) q))
         (graft_parts (get r.tree) (get r.shelf) (get (whole_of r x)) (brought (get r.tree) from to copy_of) to at.place.below at.place.shown copy_graft.opened (whole_parts r x));
     grows = record {
-      nodes = omega arith;
-      stamps = omega arith;
+      later = later;
       tree = λ q. if_as (Comes (IsCopy r copied) r (copy r from to)) (get (copy r from to).tree q) (graft (get r.tree) (brought (get r.tree) from to copy_of) to q)
           (get-copied r.tree (tree_free r x to at.place) q)
           (at_cond (λ z. IfSome z (Comes (IsCopy r copied) r (copy r from to))) (is_prefix to q) (brought (get r.tree) from to copy_of q) (get r.tree q)
-          (λ _. copy_comes q) (λ _. stays_tree (IsCopy r copied) r (copy r from to) (omega arith) (omega arith) x.tree_known q));
-      shelf = stays_shelf (IsCopy r copied) r (copy r from to) (omega arith) (omega arith) x.shelf_known;
+          (λ _. copy_comes q) (λ _. stays_tree (IsCopy r copied) r (copy r from to) later x.tree_known q));
+      shelf = stays_shelf (IsCopy r copied) r (copy r from to) later x.shelf_known;
       late = copy_late r copied;
       same = copy_same r copied;
     };

@@ -21,7 +21,7 @@ use Rattle.ws_ops.proofs.SoundCases.{if_as, at_cond, if_map}
 use Rattle.ws_ops.proofs.SoundLooks.{Look, is_at, get-put, get-without, cut}
 use Rattle.ws_ops.proofs.SoundParts.{IsOpen, whole_of, whole_parts, whole_fits}
 use Rattle.ws_ops.proofs.SoundGrafts.{fits_as, parts_as, cut_fits, cut_parts, graft, IsGraft, graft_fits, graft_parts}
-use Rattle.ws_ops.proofs.SoundStamps.{Comes, stays_tree, stays_shelf}
+use Rattle.ws_ops.proofs.SoundStamps.{Comes, IsLater, still, no_marks, no_bytes, stays_tree, stays_shelf}
 use Rattle.ws_ops.proofs.SoundSteps.{Keeps, passed, some_names, names_at_least, Place, free_place, whole_above, whole_free, tree_free, whole_nodes}
 
 -- ---- creations
@@ -47,7 +47,7 @@ pub record IsNew (r : Resources) (p : Names) (e : Element) : Type 0 where
   pub no_root : e.kind ≢ Root
   pub node : e.node ≡ r.next_node
   pub stamp : e.kind ≡ File → e.stamp ≡ r.next_stamp
-  pub drawn : IsDrawn (r.next_node + 1) (r.next_stamp + stamps_of e) e
+  pub drawn : IsDrawn (create r p e) e
 
 single_graft : (r : Resources) (f : Look) (p : Names) (e : Element) → Place (get r.tree) p → IsSomeAnd (f (parent p)) (λ g. g.kind ≢ File)
     → ((q : Names) → IfSome (f q) (λ g. g.node < r.next_node)) → IsNew r p e
@@ -73,17 +73,19 @@ create_keeps r p e x at new = record {
       (λ q. sym (is_put r.tree (tree_free r x p at) q)) (λ _. refl) (λ q. sym (is_put (whole_of r x) (whole_free r x p at) q))
       (graft_parts (get r.tree) (get r.shelf) (get (whole_of r x)) (single p e) p at.below at.shown put.opened (whole_parts r x));
   grows = record {
-    nodes = omega arith;
-    stamps = omega arith;
+    later = later;
     tree = λ q. if_as (Comes (λ g. g ≡ e) r (create r p e)) (get (insert r.tree p e) q) (cond (is_at q p) (Some e) (get r.tree q)) (get-put r.tree p e q)
         (at_cond (λ z. IfSome z (Comes (λ g. g ≡ e) r (create r p e))) (is_at q p) (Some e) (get r.tree q)
-        (λ _. record { drawn = new.drawn; whence = inr refl }) (λ _. stays_tree (λ g. g ≡ e) r (create r p e) (omega arith) (omega arith) x.tree_known q));
-    shelf = stays_shelf (λ g. g ≡ e) r (create r p e) (omega arith) (omega arith) x.shelf_known;
+        (λ _. record { drawn = new.drawn; whence = inr refl }) (λ _. stays_tree (λ g. g ≡ e) r (create r p e) later x.tree_known q));
+    shelf = stays_shelf (λ g. g ≡ e) r (create r p e) later x.shelf_known;
     late = λ g same file. let is : g.stamp ≡ r.next_stamp = ap (λ z. z.stamp) same ∙ new.stamp (sym (ap (λ z. z.kind) same) ∙ file) in omega arith;
     same = λ g h same also _ _ _. ap (λ z. z.bytes) (same ∙ sym also);
   };
 }
   where
+    later : IsLater r (create r p e)
+    later = (omega arith, omega arith, omega arith, omega arith)
+
     is_put : (t : Tree) → ((q : Names) → is_prefix p q ≡ true → get t q ≡ None) → (q : Names) → get (insert t p e) q ≡ graft (get t) (single p e) p q
     is_put t free q = get-put t p e q ∙ put_is (get t) p e free q
 
@@ -94,7 +96,7 @@ create_keeps r p e x at new = record {
 some_stamp : (r : Resources) → IsSound r → 1 ≤ r.next_stamp
 some_stamp r x = by (get r.tree []) x.tree.root (x.tree_known.drawn [])
   where
-    by : (y : Option Element) → IsSomeAnd y (λ e. e.kind ≡ Root) → IfSome y (IsDrawn r.next_node r.next_stamp) → 1 ≤ r.next_stamp
+    by : (y : Option Element) → IsSomeAnd y (λ e. e.kind ≡ Root) → IfSome y (IsDrawn r) → 1 ≤ r.next_stamp
     by None h d = absurd h
     by (Some e) h d = let less : e.stamp < r.next_stamp = d.stamp in omega arith
 
@@ -121,7 +123,7 @@ file_keeps r p bytes x h =
       no_root = λ e. cc;
       node = refl;
       stamp = λ _. refl;
-      drawn = record { node = omega arith; stamp = omega arith; desc_stamp = omega arith };
+      drawn = record { node = omega arith; stamp = omega arith; desc_stamp = omega arith; marks = no_marks r.next_marker; syncs = no_bytes (length r.partners) };
     }
 
 pub folder_keeps : (r : Resources) (p : Names) → IsSound r → first_cause (when (not (is_member_path p)) (WrongKind p) ∷ creation_causes r p 0) ≡ None
@@ -136,7 +138,7 @@ folder_keeps r p x h =
       no_root = λ e. cc;
       node = refl;
       stamp = λ e. cc;
-      drawn = record { node = omega arith; stamp = omega arith; desc_stamp = omega arith };
+      drawn = record { node = omega arith; stamp = omega arith; desc_stamp = omega arith; marks = no_marks r.next_marker; syncs = no_bytes (length r.partners) };
     }
 
 pub project_keeps : (r : Resources) (p : Names) → IsSound r → first_cause (when (not (is_project_path p)) (WrongKind p) ∷ creation_causes r p 1) ≡ None
@@ -151,7 +153,7 @@ project_keeps r p x h =
       no_root = λ e. cc;
       node = refl;
       stamp = λ e. cc;
-      drawn = record { node = omega arith; stamp = omega arith; desc_stamp = omega arith };
+      drawn = record { node = omega arith; stamp = omega arith; desc_stamp = omega arith; marks = no_marks r.next_marker; syncs = no_bytes (length r.partners) };
     }
 
 -- ---- deletions
@@ -164,10 +166,9 @@ delete_keeps r p x h = record {
       (λ q. sym (get-without r.tree p q)) (λ q. sym (get-without r.shelf p q)) (λ q. sym (get-without (whole_of r x) p q))
       (cut_parts (get r.tree) (get r.shelf) (get (whole_of r x)) p (whole_parts r x));
   grows = record {
-    nodes = omega arith;
-    stamps = omega arith;
-    tree = left r.tree (stays_tree (λ _. ⊥) r (delete r p) (omega arith) (omega arith) x.tree_known);
-    shelf = left r.shelf (stays_shelf (λ _. ⊥) r (delete r p) (omega arith) (omega arith) x.shelf_known);
+    later = still r;
+    tree = left r.tree (stays_tree (λ _. ⊥) r (delete r p) (still r) x.tree_known);
+    shelf = left r.shelf (stays_shelf (λ _. ⊥) r (delete r p) (still r) x.shelf_known);
     late = λ _ none. absurd none;
     same = λ _ _ none. absurd none;
   };

@@ -14,7 +14,7 @@ use Rattle.ws_ops.specs.Stamps.{IsDrawn, IsKnown}
 use Rattle.ws_ops.proofs.SoundCases.{if_there, none_if}
 use Rattle.ws_ops.proofs.SoundParts.{IsOpen, Fits, Parts, open_kept, open_split, is_kept, open_not_closed, parts_sound}
 use Rattle.ws_ops.proofs.SoundGrafts.{opened_all}
-use Rattle.ws_ops.proofs.SoundStamps.{Same}
+use Rattle.ws_ops.proofs.SoundStamps.{Same, no_marks, no_bytes}
 
 -- nothing is on the shelf
 abbrev pub fresh_shelf : Tree
@@ -22,7 +22,7 @@ fresh_shelf = empty
 
 -- the root alone, an empty shelf, and the counters after the root's node
 abbrev pub fresh_resources : Resources
-fresh_resources = record { tree = fresh_tree; shelf = fresh_shelf; next_node = 2; next_stamp = 1 }
+fresh_resources = record { tree = fresh_tree; shelf = fresh_shelf; next_node = 2; next_stamp = 1; next_marker = 1; partners = [] }
 
 -- what is there is the root
 root_at : (A : Element → Type 0) → ((e : Element) → e.kind ≡ Root → A e) → (p : Names) → IfSome (get fresh_tree p) A
@@ -40,15 +40,15 @@ parts q = open_split (is_kept (get fresh_tree) q) (get fresh_tree q) (get fresh_
     none_closed p = open_not_closed (get fresh_tree p) (root_at IsOpen open_root p)
 
 -- the root's numbers are drawn
-drawn : (p : Names) → IfSome (get fresh_tree p) (IsDrawn 2 1)
-drawn [] = subst (λ x. IfSome x (IsDrawn 2 1)) (sym (get-fresh_tree [])) record { node = omega arith; stamp = omega arith; desc_stamp = omega arith }
-drawn (n ∷ p) = none_if (IsDrawn 2 1) (get fresh_tree (n ∷ p)) (get-fresh_tree (n ∷ p))
+drawn : (p : Names) → IfSome (get fresh_tree p) (IsDrawn fresh_resources)
+drawn [] = subst (λ x. IfSome x (IsDrawn fresh_resources)) (sym (get-fresh_tree [])) record { node = omega arith; stamp = omega arith; desc_stamp = omega arith; marks = no_marks 1; syncs = no_bytes 0 }
+drawn (n ∷ p) = none_if (IsDrawn fresh_resources) (get fresh_tree (n ∷ p)) (get-fresh_tree (n ∷ p))
 
 nothing : (A : Element → Type 0) (p : Names) → IfSome (get fresh_shelf p) A
 nothing A p = none_if A (get fresh_shelf p) (get-empty path_cmp p)
 
 -- where nothing but a root is there is no file
-known : (t : Tree) → ((p : Names) → IfSome (get t p) (IsDrawn 2 1)) → ((A : Element → Type 0) → ((e : Element) → e.kind ≡ Root → A e) → (p : Names) → IfSome (get t p) A)
+known : (t : Tree) → ((p : Names) → IfSome (get t p) (IsDrawn fresh_resources)) → ((A : Element → Type 0) → ((e : Element) → e.kind ≡ Root → A e) → (p : Names) → IfSome (get t p) A)
     → IsKnown fresh_resources t
 known t d no_file = record {
   drawn = d;
@@ -57,7 +57,7 @@ known t d no_file = record {
 }
 
 pub fresh_sound : IsSound fresh_resources
-fresh_sound = parts_sound fresh_resources fresh_tree fits parts (known fresh_tree drawn root_at) (known fresh_shelf (nothing (IsDrawn 2 1)) (λ A _. nothing A))
+fresh_sound = parts_sound fresh_resources fresh_tree fits parts (known fresh_tree drawn root_at) (known fresh_shelf (nothing (IsDrawn fresh_resources)) (λ A _. nothing A))
   where
     fits : Fits (get fresh_tree)
     fits = record {

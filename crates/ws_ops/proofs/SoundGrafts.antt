@@ -10,7 +10,7 @@ use Rattle.ws_ops.specs.Places.{project_of, is_member_path, has_closed}
 use Rattle.ws_ops.specs.Sound.{opened}
 use Rattle.ws_ops.proofs.SoundPaths.{never, root_above, not_true, prefix_parent, parent_below, parent_above, prefix_project, project_below}
 use Rattle.ws_ops.proofs.SoundCases.{at_cond, cond_false, if_map}
-use Rattle.ws_ops.proofs.SoundLooks.{Look, is_at, not_at, cut, changed_at}
+use Rattle.ws_ops.proofs.SoundLooks.{Look, is_at, not_at, cut}
 use Rattle.ws_ops.proofs.SoundParts.{IsOpen, opened_same, open_not_closed, Fits, Parts, Split, is_kept, open_kept, split_false, open_split}
 
 same_look : (f g : Look) → ((q : Names) → f q ≡ g q) → f ≡ g
@@ -180,11 +180,15 @@ like_map : (change : Element → Element) → ((e : Element) → Alike e (change
 like_map change l None = tt
 like_map change l (Some e) = l e
 
-changed_alike : (f : Look) (p : Names) (change : Element → Element) → ((e : Element) → Alike e (change e)) → (q : Names) → AllAlike (f q) (changed_at f p change q)
-changed_alike f p change l q = at_cond (λ y. AllAlike (f q) y) (is_at q p) (option_map change (f q)) (f q) (λ _. like_map change l (f q)) (λ _. like_itself (f q))
+-- what is at some paths is changed so
+abbrev pub changed_where : Look → (Names → Bool) → (Element → Element) → Look
+changed_where f test change q = cond (test q) (option_map change (f q)) (f q)
 
-pub changed_fits : (f : Look) (p : Names) (change : Element → Element) → ((e : Element) → Alike e (change e)) → Fits f → Fits (changed_at f p change)
-changed_fits f p change l = like_fits f (changed_at f p change) (changed_alike f p change l)
+changed_alike : (f : Look) (test : Names → Bool) (change : Element → Element) → ((e : Element) → Alike e (change e)) → (q : Names) → AllAlike (f q) (changed_where f test change q)
+changed_alike f test change l q = at_cond (λ y. AllAlike (f q) y) (test q) (option_map change (f q)) (f q) (λ _. like_map change l (f q)) (λ _. like_itself (f q))
+
+pub changed_fits : (f : Look) (test : Names → Bool) (change : Element → Element) → ((e : Element) → Alike e (change e)) → Fits f → Fits (changed_where f test change)
+changed_fits f test change l = like_fits f (changed_where f test change) (changed_alike f test change l)
 
 like_closed : (x y : Option Element) → AllAlike x y → has_closed x ≡ has_closed y
 like_closed None None l = refl
@@ -204,9 +208,9 @@ changed_split true b d x s y change turns same shown h =
     both_ways None = refl
     both_ways (Some e) = ap (λ k. Some k) (turns e)
 
-pub changed_parts : (a s f : Look) (p : Names) (change : Element → Element) → ((e : Element) → Alike e (change e))
-    → ((e : Element) → opened (change e) ≡ change (opened e)) → is_kept a p ≡ false → Parts a s f
-    → Parts (changed_at a p change) s (changed_at f p change)
-changed_parts a s f p change l turns shown x q = changed_split (is_at q p) (is_kept a q) (is_kept (changed_at a p change) q) (a q) (s q) (f q) change turns
-    (ap (λ b. is_member_path q && b) (sym (like_closed (a (project_of q)) (changed_at a p change (project_of q)) (changed_alike a p change l (project_of q)))))
-    (λ same. ap (is_kept a) (same_at q p same) ∙ shown) (x q)
+pub changed_parts : (a s f : Look) (test : Names → Bool) (change : Element → Element) → ((e : Element) → Alike e (change e))
+    → ((e : Element) → opened (change e) ≡ change (opened e)) → ((q : Names) → test q ≡ true → is_kept a q ≡ false) → Parts a s f
+    → Parts (changed_where a test change) s (changed_where f test change)
+changed_parts a s f test change l turns shown x q = changed_split (test q) (is_kept a q) (is_kept (changed_where a test change) q) (a q) (s q) (f q) change turns
+    (ap (λ b. is_member_path q && b) (sym (like_closed (a (project_of q)) (changed_where a test change (project_of q)) (changed_alike a test change l (project_of q)))))
+    (shown q) (x q)

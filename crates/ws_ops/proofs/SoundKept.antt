@@ -4,7 +4,7 @@ use Rattle.std.specs.Prelude.{None}
 use Rattle.ws_elem.specs.Trees.{Tree}
 use Rattle.ws_elem.specs.declared.element.Element.{Element}
 use Rattle.ws_ops.specs.declared.op.Op.{Op}
-use Rattle.ws_ops.specs.declared.op.Op.TheVariants.{CreateFile, CreateFolder, CreateProject, Delete, Write, Touch, Derived, Move, Copy, Open, Close, Describe, Read}
+use Rattle.ws_ops.specs.declared.op.Op.TheVariants.{CreateFile, CreateFolder, CreateProject, Delete, Write, Touch, Derived, Move, Copy, Open, Close, Describe, Mark, Attr, Unmark, ClearMarks, Partner, Sync, Flush, Read}
 use Rattle.ws_ops.specs.Resources.{Resources}
 use Rattle.ws_ops.specs.Members.{branch}
 use Rattle.ws_ops.specs.Refusals.{refusal}
@@ -17,6 +17,7 @@ use Rattle.ws_ops.proofs.SoundChange.{IsChanged, rewrite_with, write_keeps, touc
 use Rattle.ws_ops.proofs.SoundOpen.{read_keeps, open_keeps, close_keeps}
 use Rattle.ws_ops.proofs.SoundMove.{move_keeps}
 use Rattle.ws_ops.proofs.SoundCopy.{IsCopy, copy_keeps}
+use Rattle.ws_ops.proofs.SoundNotes.{mark_keeps, attribute_keeps, unmark_keeps, clear_keeps, register_keeps, sync_keeps, flush_keeps}
 
 -- the elements to which an operation gives fresh stamps
 abbrev Fresh : Resources → Op → Element → Type 0
@@ -32,6 +33,13 @@ Fresh r (Copy from to) e = IsCopy r (branch r.tree from) e
 Fresh r (Open p) e = ⊥
 Fresh r (Close p) e = ⊥
 Fresh r (Describe p text) e = ⊥
+Fresh r (Mark p mark_type attributes) e = ⊥
+Fresh r (Attr p id name value) e = ⊥
+Fresh r (Unmark p id) e = ⊥
+Fresh r (ClearMarks p mark_type depth) e = ⊥
+Fresh r (Partner name) e = ⊥
+Fresh r (Sync p name bytes) e = ⊥
+Fresh r (Flush p name depth) e = ⊥
 Fresh r (Read p want) e = ⊥
 
 keeps : (r : Resources) (op : Op) → IsSound r → refusal r op ≡ None → Keeps (Fresh r op) r (effect r op).0
@@ -47,6 +55,13 @@ keeps r (Copy from to) x h = copy_keeps r from to x h
 keeps r (Open p) x h = open_keeps r p x h
 keeps r (Close p) x h = close_keeps r p x h
 keeps r (Describe p text) x h = describe_keeps r p text x h
+keeps r (Mark p mark_type attributes) x h = mark_keeps r p mark_type attributes x
+keeps r (Attr p id name value) x h = attribute_keeps r p id name value x
+keeps r (Unmark p id) x h = unmark_keeps r p id x
+keeps r (ClearMarks p mark_type depth) x h = clear_keeps r p mark_type depth x
+keeps r (Partner name) x h = register_keeps r name x
+keeps r (Sync p name bytes) x h = sync_keeps r p name bytes x h
+keeps r (Flush p name depth) x h = flush_keeps r p name depth x
 keeps r (Read p want) x h = read_keeps r x
 
 -- what is sound stays so

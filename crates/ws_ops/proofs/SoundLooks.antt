@@ -130,7 +130,7 @@ not_tied Less h = refl
 not_tied Equal h = absurd h
 not_tied Greater h = absurd h
 
-none_above : (q : Names) (es : Entries) → T (below_all path_cmp q es) → find_at q es ≡ None
+pub none_above : (q : Names) (es : Entries) → T (below_all path_cmp q es) → find_at q es ≡ None
 none_above q [] h = refl
 none_above q (e ∷ es) h = cond_false (is_at q e.0) (Some e.1) (find_at q es) (not_tied (path_cmp q e.0) (first (is_lt (path_cmp q e.0)) (below_all path_cmp q es) h))
     ∙ none_above q es (second (is_lt (path_cmp q e.0)) (below_all path_cmp q es) h)

@@ -26,7 +26,7 @@ use Rattle.ws_ops.proofs.SoundLooks.{Look, cut, get-without, find_at, find-branc
 use Rattle.ws_ops.proofs.SoundParts.{IsOpen, project_true, opened_node, is_kept, open_kept, split_false, in_whole, whole_of, whole_parts, whole_fits}
 use Rattle.ws_ops.proofs.SoundGrafts.{fits_as, parts_as, cut_fits, cut_parts, graft, IsGraft, graft_fits, graft_parts}
 use Rattle.ws_ops.proofs.SoundCarried.{rebased_back, get-carried, branch_below}
-use Rattle.ws_ops.proofs.SoundStamps.{Comes, stays_tree, stays_shelf}
+use Rattle.ws_ops.proofs.SoundStamps.{Comes, still, stays_tree, stays_shelf}
 use Rattle.ws_ops.proofs.SoundSteps.{Keeps, passed, either, is_there, some_names, Place, free_place, whole_above, whole_free, tree_free}
 
 -- ---- what isn't refused
@@ -237,14 +237,13 @@ moves r from to x at = record {
       (at_cond (λ z. has_closed z ≡ false) (is_prefix from (project_of to)) None (get r.tree (project_of to)) (λ _. refl) (λ _. at.place.shown))
       (moved_graft r from to x at).opened (cut_parts (get r.tree) (get r.shelf) (get (whole_of r x)) from (whole_parts r x)));
   grows = record {
-    nodes = omega arith;
-    stamps = omega arith;
+    later = still r;
     tree = λ q. if_as (Comes (λ _. ⊥) r (move r from to)) (get (move r from to).tree q) (graft (cut (get r.tree) from) (brought (get r.tree) from to as_was) to q)
         (is_moved r.tree (tree_free r x to at.place) q)
         (at_cond (λ z. IfSome z (Comes (λ _. ⊥) r (move r from to))) (is_prefix to q) (brought (get r.tree) from to as_was q) (cut (get r.tree) from q)
         (λ _. map_if (λ e. e) (Comes (λ _. ⊥) r (move r from to)) (get r.tree (rebased to from q)) (was (rebased to from q)))
         (λ _. at_cond (λ z. IfSome z (Comes (λ _. ⊥) r (move r from to))) (is_prefix from q) None (get r.tree q) (λ _. tt) (λ _. was q)));
-    shelf = stays_shelf (λ _. ⊥) r (move r from to) (omega arith) (omega arith) x.shelf_known;
+    shelf = stays_shelf (λ _. ⊥) r (move r from to) (still r) x.shelf_known;
     late = λ _ none. absurd none;
     same = λ _ _ none. absurd none;
   };
@@ -256,7 +255,7 @@ moves r from to x at = record {
         ∙ (λ i. cond (is_prefix to q) (sym (map_itself (get r.tree (rebased to from q))) i) (get-without t from q i))
 
     was : (q : Names) → IfSome (get r.tree q) (Comes (λ _. ⊥) r (move r from to))
-    was = stays_tree (λ _. ⊥) r (move r from to) (omega arith) (omega arith) x.tree_known
+    was = stays_tree (λ _. ⊥) r (move r from to) (still r) x.tree_known
 
 pub move_keeps : (r : Resources) (from to : Names) → IsSound r → first_cause (transfer_causes r.tree from to) ≡ None → Keeps (λ _. ⊥) r (move r from to)
 move_keeps r from to x h = moves r from to x (transferred r.tree from to _ h)

@@ -10,6 +10,7 @@ use Rattle.ws_elem.specs.declared.element.Element.{Element}
 use Rattle.ws_elem.specs.declared.kind.Kind.TheVariants.{Project}
 use Rattle.ws_elem.proofs.Cuts.{same_at}
 use Rattle.ws_ops.specs.declared.refusal.OpRefusal.TheVariants.{NotFound, WrongKind}
+use Rattle.ws_ops.specs.Partners.{Partners}
 use Rattle.ws_ops.specs.Resources.{Resources}
 use Rattle.ws_ops.specs.Places.{project_of, is_project_path, is_member_path, has_closed, is_shut}
 use Rattle.ws_ops.specs.Members.{is_below, members, without_members, put_all}
@@ -21,7 +22,7 @@ use Rattle.ws_ops.proofs.SoundCases.{if_as, at_cond, cond_true, cond_false, if_m
 use Rattle.ws_ops.proofs.SoundLooks.{Look, is_at, at_itself, at_other, get-change_at, changed_at, get-put_all, last_is, find-members, sorted-members, get-without_members}
 use Rattle.ws_ops.proofs.SoundParts.{IsOpen, project_true, open_not_closed, Fits, Parts, Split, is_kept, short_kept, open_kept, member_below, member_kept, short_path, split_true, split_false, open_split, kept_split, long_path, whole_of, whole_fits, whole_parts}
 use Rattle.ws_ops.proofs.SoundGrafts.{opened_all, parts_as}
-use Rattle.ws_ops.proofs.SoundStamps.{Comes, IsOld, stays_tree, stays_shelf}
+use Rattle.ws_ops.proofs.SoundStamps.{Comes, IsOld, IsLater, still, stays_tree, stays_shelf}
 use Rattle.ws_ops.proofs.SoundSteps.{Keeps, passed, is_there, is_away}
 use Rattle.ws_ops.proofs.SoundCreate.{one_name}
 
@@ -127,28 +128,30 @@ project_there r p h =
 kind_there : (r : Resources) (p : Names) → IsSound r → length p ≡ 1 → IfSome (get r.tree p) (λ e. e.kind ≡ Project)
 kind_there r p x one = if_map (λ e. (e.kind ≡ Project) ↔ (length p ≡ 1)) (λ e. e.kind ≡ Project) (get r.tree p) (λ e h. h.1 one) (x.tree.projects p)
 
--- what neither comes nor goes
-stays : (r : Resources) → IsSound r → Keeps (λ _. ⊥) r r
-stays r x = record {
+-- what neither comes nor goes, whatever partners come
+pub stays : (r : Resources) (partners : Partners) → IsSound r → length r.partners ≤ length partners → Keeps (λ _. ⊥) r (record r { partners = partners })
+stays r partners x more = record {
   whole = whole_of r x;
   fits = whole_fits r x;
   parts = whole_parts r x;
   grows = record {
-    nodes = omega arith;
-    stamps = omega arith;
-    tree = stays_tree (λ _. ⊥) r r (omega arith) (omega arith) x.tree_known;
-    shelf = stays_shelf (λ _. ⊥) r r (omega arith) (omega arith) x.shelf_known;
+    later = later;
+    tree = stays_tree (λ _. ⊥) r (record r { partners = partners }) later x.tree_known;
+    shelf = stays_shelf (λ _. ⊥) r (record r { partners = partners }) later x.shelf_known;
     late = λ _ none. absurd none;
     same = λ _ _ none. absurd none;
   };
 }
+  where
+    later : IsLater r (record r { partners = partners })
+    later = (omega arith, omega arith, omega arith, more)
 
 pub read_keeps : (r : Resources) → IsSound r → Keeps (λ _. ⊥) r r
-read_keeps = stays
+read_keeps r x = stays r r.partners x (omega arith)
 
 -- being open or not is neither contents nor a number
 set_comes : (r after : Resources) (on : Bool) (e : Element) → Comes (λ _. ⊥) r after e → Comes (λ _. ⊥) r after (set_to on e)
-set_comes r after on e c = record { drawn = record { node = c.drawn.node; stamp = c.drawn.stamp; desc_stamp = c.drawn.desc_stamp }; whence = by c.whence }
+set_comes r after on e c = record { drawn = record { node = c.drawn.node; stamp = c.drawn.stamp; desc_stamp = c.drawn.desc_stamp; marks = c.drawn.marks; syncs = c.drawn.syncs }; whence = by c.whence }
   where
     by : IsOld r e ⊎ ⊥ → IsOld r (set_to on e) ⊎ ⊥
     by (inl old) = inl record { from = old.from; stood = old.stood; kind = old.kind; stamp = old.stamp; bytes = old.bytes }
@@ -182,12 +185,11 @@ sided_keeps r tree shelf g h p on x at is_tree is_shelf moved come go = record {
       (λ q. sym (is_tree q)) (λ q. sym (is_shelf q)) (λ _. refl)
       (sided_parts (get r.tree) (get r.shelf) (get (whole_of r x)) g h p on at.one (kind_there r p x at.one) (whole_fits r x) (whole_parts r x) moved);
   grows = record {
-    nodes = omega arith;
-    stamps = omega arith;
+    later = still r;
     tree = λ q. if_as (Comes (λ _. ⊥) r after) (get tree q) (sided (get r.tree) g p on q) (is_tree q)
-        (sided_comes r after g p on (stays_tree (λ _. ⊥) r after (omega arith) (omega arith) x.tree_known) come q);
+        (sided_comes r after g p on (stays_tree (λ _. ⊥) r after (still r) x.tree_known) come q);
     shelf = λ q. if_as (Comes (λ _. ⊥) r after) (get shelf q) (beside (get r.shelf) h p q) (is_shelf q)
-        (beside_comes r after h p (stays_shelf (λ _. ⊥) r after (omega arith) (omega arith) x.shelf_known) go q);
+        (beside_comes r after h p (stays_shelf (λ _. ⊥) r after (still r) x.shelf_known) go q);
     late = λ _ none. absurd none;
     same = λ _ _ none. absurd none;
   };
@@ -207,7 +209,7 @@ opens r p x at shut = sided_keeps r (put_all (set_open r.tree p true) (members r
     (λ q under. open_split (has_closed (option_map (set_to true) (get r.tree p))) (get r.shelf q) None (get (whole_of r x) q)
     (open_not_closed (option_map (set_to true) (get r.tree p)) (map_if (set_to true) IsOpen (get r.tree p) (if_there (λ e. IsOpen (set_to true e)) (get r.tree p) (λ e _ _. refl))))
     (refl, ap (option_map opened) (member q under).1 ∙ opened_all (get (whole_of r x) q) ((whole_fits r x).opened q) ∙ refl))
-    (stays_shelf (λ _. ⊥) r after (omega arith) (omega arith) x.shelf_known) (λ _. tt)
+    (stays_shelf (λ _. ⊥) r after (still r) x.shelf_known) (λ _. tt)
   where
     after : Resources
     after = record r { tree = put_all (set_open r.tree p true) (members r.shelf p); shelf = without_members r.shelf p }
@@ -226,7 +228,7 @@ opens r p x at shut = sided_keeps r (put_all (set_open r.tree p true) (members r
 
 pub open_keeps : (r : Resources) (p : Names) → IsSound r → first_cause (project_causes r.tree p) ≡ None → Keeps (λ _. ⊥) r (open_project r p)
 open_keeps r p x h = at_cond (Keeps (λ _. ⊥) r) (is_shut r.tree p) (record r { tree = put_all (set_open r.tree p true) (members r.shelf p); shelf = without_members r.shelf p }) r
-    (opens r p x (project_there r p h)) (λ _. stays r x)
+    (opens r p x (project_there r p h)) (λ _. read_keeps r x)
 
 -- ---- closing
 
@@ -249,7 +251,7 @@ closes r p x at shown = sided_keeps r (set_open (without_members r.tree p) p fal
     (λ q under. kept_split (has_closed (option_map (set_to false) (get r.tree p))) None (get r.tree q) (get (whole_of r x) q)
     (closed_now (get r.tree p) at.there (kind_there r p x at.one))
     (refl, sym (opened_all (get r.tree q) (no_project q under)) ∙ (member q under).1))
-    (λ _. tt) (stays_tree (λ _. ⊥) r after (omega arith) (omega arith) x.tree_known)
+    (λ _. tt) (stays_tree (λ _. ⊥) r after (still r) x.tree_known)
   where
     after : Resources
     after = record r { tree = set_open (without_members r.tree p) p false; shelf = put_all r.shelf (members r.tree p) }
@@ -270,4 +272,4 @@ closes r p x at shown = sided_keeps r (set_open (without_members r.tree p) p fal
 
 pub close_keeps : (r : Resources) (p : Names) → IsSound r → first_cause (project_causes r.tree p) ≡ None → Keeps (λ _. ⊥) r (close_project r p)
 close_keeps r p x h = at_cond (Keeps (λ _. ⊥) r) (is_shut r.tree p) r (record r { tree = set_open (without_members r.tree p) p false; shelf = put_all r.shelf (members r.tree p) })
-    (λ _. stays r x) (closes r p x (project_there r p h))
+    (λ _. read_keeps r x) (closes r p x (project_there r p h))

@@ -1,14 +1,16 @@
 -- Equal stamps stay for equal contents where each element stood there before with its contents, or draws a fresh stamp.
-use Rattle.std.proofs.Common.{◌≡◌, ℕ, ◌<◌, ◌≤◌, refl, sym, ◌∙◌, arith, ◌⊎◌, inl, inr}
-use Rattle.std.specs.Prelude.{Option, Some, IfSome}
-use Rattle.std.specs.FinMap.{get}
+use Rattle.std.proofs.Common.{◌≡◌, ℕ, ◌<◌, ◌≤◌, List, length, refl, sym, ◌∙◌, arith, ◌⊎◌, inl, inr}
+use Rattle.std.specs.Prelude.{Option, Some, None, IfSome}
+use Rattle.std.specs.FinMap.{get, empty, get-empty}
+use Rattle.std.specs.Ordering.{nat_cmp}
+use Rattle.mark_set.specs.declared.marker.Marker.{Marker}
 use Rattle.res_path.specs.Paths.{Names}
 use Rattle.ws_elem.specs.Trees.{Tree}
 use Rattle.ws_elem.specs.declared.element.Element.{Element}
 use Rattle.ws_elem.specs.declared.kind.Kind.TheVariants.{File}
 use Rattle.ws_ops.specs.Resources.{Resources}
 use Rattle.ws_ops.specs.Stamps.{SameContents, IsDrawn, IsKnown}
-use Rattle.ws_ops.proofs.SoundCases.{if_map, if_there, at_some}
+use Rattle.ws_ops.proofs.SoundCases.{if_map, if_there, at_some, absent_if}
 
 -- two files with equal stamps have equal contents
 abbrev pub Same : Element → Element → Type 0
@@ -29,13 +31,20 @@ pub record IsOld (r : Resources) (e : Element) : Type 0 where
 
 -- the element's numbers are drawn, and it is old or fresh
 pub record Comes (Fresh : Element → Type 0) (r after : Resources) (e : Element) : Type 0 where
-  pub drawn : IsDrawn after.next_node after.next_stamp e
+  pub drawn : IsDrawn after e
   pub whence : IsOld r e ⊎ Fresh e
+
+-- the counters are no lower
+abbrev pub IsLater : Resources → Resources → Type 0
+IsLater r after =
+    (r.next_node ≤ after.next_node) × (r.next_stamp ≤ after.next_stamp) × (r.next_marker ≤ after.next_marker) × (length r.partners ≤ length after.partners)
+
+pub still : (r : Resources) → IsLater r r
+still r = (omega arith, omega arith, omega arith, omega arith)
 
 -- the resources after an operation have old elements and fresh ones
 pub record Grows (Fresh : Element → Type 0) (r after : Resources) : Type 0 where
-  pub nodes : r.next_node ≤ after.next_node
-  pub stamps : r.next_stamp ≤ after.next_stamp
+  pub later : IsLater r after
   pub tree : (p : Names) → IfSome (get after.tree p) (Comes Fresh r after)
   pub shelf : (p : Names) → IfSome (get after.shelf p) (Comes Fresh r after)
   -- fresh files have fresh stamps, and differ in them or are equal
@@ -48,13 +57,27 @@ old_tree r p e h = record { from = e; stood = record { path = p; there = inl h }
 pub old_shelf : (r : Resources) (p : Names) (e : Element) → get r.shelf p ≡ Some e → IsOld r e
 old_shelf r p e h = record { from = e; stood = record { path = p; there = inr h }; kind = refl; stamp = refl; bytes = refl }
 
-pub drawn_later : (nodes stamps more_nodes more_stamps : ℕ) (e : Element) → nodes ≤ more_nodes → stamps ≤ more_stamps → IsDrawn nodes stamps e
-    → IsDrawn more_nodes more_stamps e
-drawn_later nodes stamps more_nodes more_stamps e h g d = record {
-  node = let n : e.node < nodes = d.node in omega arith;
-  stamp = let n : e.stamp < stamps = d.stamp in omega arith;
-  desc_stamp = let n : e.desc_stamp < stamps = d.desc_stamp in omega arith;
+-- ---- drawn numbers
+
+pub below_more : {X : Type 0} (x : Option X) (n low high : ℕ) → low ≤ high → IfSome x (λ _. n < low) → IfSome x (λ _. n < high)
+below_more None n low high l h = tt
+below_more (Some y) n low high l h = omega arith
+
+pub drawn_later : (r after : Resources) (e : Element) → IsLater r after → IsDrawn r e → IsDrawn after e
+drawn_later r after e l d = record {
+  node = let n : e.node < r.next_node = d.node in let m : r.next_node ≤ after.next_node = l.0 in omega arith;
+  stamp = let n : e.stamp < r.next_stamp = d.stamp in let m : r.next_stamp ≤ after.next_stamp = l.1 in omega arith;
+  desc_stamp = let n : e.desc_stamp < r.next_stamp = d.desc_stamp in let m : r.next_stamp ≤ after.next_stamp = l.1 in omega arith;
+  marks = λ id. below_more (get e.marks id) id r.next_marker after.next_marker l.2 (d.marks id);
+  syncs = λ number. below_more (get e.syncs number) number (length r.partners) (length after.partners) l.3 (d.syncs number);
 }
+
+-- what has no markers and no bytes has none that aren't drawn
+pub no_marks : (n id : ℕ) → IfSome (get {X = Marker} {R = nat_cmp} empty id) (λ _. id < n)
+no_marks n id = absent_if (λ _. id < n) (get {X = Marker} {R = nat_cmp} empty id) (get-empty nat_cmp id)
+
+pub no_bytes : (n number : ℕ) → IfSome (get {X = List ℕ} {R = nat_cmp} empty number) (λ _. number < n)
+no_bytes n number = absent_if (λ _. number < n) (get {X = List ℕ} {R = nat_cmp} empty number) (get-empty nat_cmp number)
 
 -- ---- what a known tree has against what stands there
 
@@ -76,15 +99,15 @@ against Fresh r after w e drawn same g (inr fresh) k l is = let late : r.next_st
 
 pub known_kept : (Fresh : Element → Type 0) (r after : Resources) (t : Tree) → Grows Fresh r after → IsKnown r t → IsKnown after t
 known_kept Fresh r after t w k = record {
-  drawn = λ p. if_map (IsDrawn r.next_node r.next_stamp) (IsDrawn after.next_node after.next_stamp) (get t p)
-      (λ e. drawn_later r.next_node r.next_stamp after.next_node after.next_stamp e w.nodes w.stamps) (k.drawn p);
+  drawn = λ p. if_map (IsDrawn r) (IsDrawn after) (get t p)
+      (λ e. drawn_later r after e w.later) (k.drawn p);
   tree = λ p q. if_there (λ e. IfSome (get after.tree q) (λ g. Same e g)) (get t p) (λ e h. in_one p e h (get after.tree q) (w.tree q));
   shelf = λ p q. if_there (λ e. IfSome (get after.shelf q) (λ g. Same e g)) (get t p) (λ e h. in_one p e h (get after.shelf q) (w.shelf q));
 }
   where
     in_one : (p : Names) (e : Element) → get t p ≡ Some e → (x : Option Element) → IfSome x (Comes Fresh r after) → IfSome x (λ g. Same e g)
     in_one p e h x = if_map (Comes Fresh r after) (λ g. Same e g) x (λ g c.
-        let d : IsDrawn r.next_node r.next_stamp e = at_some (IsDrawn r.next_node r.next_stamp) (get t p) e h (k.drawn p) in
+        let d : IsDrawn r e = at_some (IsDrawn r) (get t p) e h (k.drawn p) in
         against Fresh r after w e d.stamp (known_same r t k p e h) g c.whence)
 
 -- ---- and what stands there now against itself
@@ -96,8 +119,8 @@ stands_drawn : (r : Resources) → IsKnown r r.tree → IsKnown r r.shelf → (e
 stands_drawn r k l e s = by s.there
   where
     by : (get r.tree s.path ≡ Some e) ⊎ (get r.shelf s.path ≡ Some e) → e.stamp < r.next_stamp
-    by (inl h) = let d : IsDrawn r.next_node r.next_stamp e = at_some (IsDrawn r.next_node r.next_stamp) (get r.tree s.path) e h (k.drawn s.path) in d.stamp
-    by (inr h) = let d : IsDrawn r.next_node r.next_stamp e = at_some (IsDrawn r.next_node r.next_stamp) (get r.shelf s.path) e h (l.drawn s.path) in d.stamp
+    by (inl h) = let d : IsDrawn r e = at_some (IsDrawn r) (get r.tree s.path) e h (k.drawn s.path) in d.stamp
+    by (inr h) = let d : IsDrawn r e = at_some (IsDrawn r) (get r.shelf s.path) e h (l.drawn s.path) in d.stamp
 
 stands_same : (r : Resources) → IsKnown r r.tree → IsKnown r r.shelf → (e : Element) → Stands r e → (f : Element) → Stands r f → Same e f
 stands_same r k l e s = by s.there
@@ -120,7 +143,7 @@ pairs Fresh r after w k l e g (inr fresh) (inr also) = w.same e g fresh also
 stays_known : (Fresh : Element → Type 0) (r after : Resources) → Grows Fresh r after → IsKnown r r.tree → IsKnown r r.shelf → (t : Tree)
     → ((p : Names) → IfSome (get t p) (Comes Fresh r after)) → IsKnown after t
 stays_known Fresh r after w k l t c = record {
-  drawn = λ p. if_map (Comes Fresh r after) (IsDrawn after.next_node after.next_stamp) (get t p) (λ e x. x.drawn) (c p);
+  drawn = λ p. if_map (Comes Fresh r after) (IsDrawn after) (get t p) (λ e x. x.drawn) (c p);
   tree = λ p q. in_one p (get after.tree q) (w.tree q);
   shelf = λ p q. in_one p (get after.shelf q) (w.shelf q);
 }
@@ -137,16 +160,16 @@ shelf_known Fresh r after w k l = stays_known Fresh r after w k l after.shelf w.
 
 -- ---- what stays as it was
 
-pub stays_tree : (Fresh : Element → Type 0) (r after : Resources) → r.next_node ≤ after.next_node → r.next_stamp ≤ after.next_stamp → IsKnown r r.tree → (p : Names)
+pub stays_tree : (Fresh : Element → Type 0) (r after : Resources) → IsLater r after → IsKnown r r.tree → (p : Names)
     → IfSome (get r.tree p) (Comes Fresh r after)
-stays_tree Fresh r after h g k p = if_there (Comes Fresh r after) (get r.tree p) (λ e is. record {
-  drawn = drawn_later r.next_node r.next_stamp after.next_node after.next_stamp e h g (at_some (IsDrawn r.next_node r.next_stamp) (get r.tree p) e is (k.drawn p));
+stays_tree Fresh r after l k p = if_there (Comes Fresh r after) (get r.tree p) (λ e is. record {
+  drawn = drawn_later r after e l (at_some (IsDrawn r) (get r.tree p) e is (k.drawn p));
   whence = inl (old_tree r p e is);
 })
 
-pub stays_shelf : (Fresh : Element → Type 0) (r after : Resources) → r.next_node ≤ after.next_node → r.next_stamp ≤ after.next_stamp → IsKnown r r.shelf → (p : Names)
+pub stays_shelf : (Fresh : Element → Type 0) (r after : Resources) → IsLater r after → IsKnown r r.shelf → (p : Names)
     → IfSome (get r.shelf p) (Comes Fresh r after)
-stays_shelf Fresh r after h g k p = if_there (Comes Fresh r after) (get r.shelf p) (λ e is. record {
-  drawn = drawn_later r.next_node r.next_stamp after.next_node after.next_stamp e h g (at_some (IsDrawn r.next_node r.next_stamp) (get r.shelf p) e is (k.drawn p));
+stays_shelf Fresh r after l k p = if_there (Comes Fresh r after) (get r.shelf p) (λ e is. record {
+  drawn = drawn_later r after e l (at_some (IsDrawn r) (get r.shelf p) e is (k.drawn p));
   whence = inl (old_shelf r p e is);
 })

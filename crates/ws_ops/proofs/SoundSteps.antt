@@ -133,15 +133,15 @@ place_free : (a s f : Look) (p : Names) → Fits f → Parts a s f → Place a p
 place_free a s f p w x at = nothing_below f w p (in_tree a s f w x p (open_kept a p at.shown) ∙ ap (option_map opened) at.absent)
 
 -- the numbers of the whole tree are drawn, too
-nodes_drawn : (r : Resources) (f : Look) → Fits f → Parts (get r.tree) (get r.shelf) f → AllDrawn r.next_node r.next_stamp r.tree
-    → AllDrawn r.next_node r.next_stamp r.shelf
+nodes_drawn : (r : Resources) (f : Look) → Fits f → Parts (get r.tree) (get r.shelf) f → AllDrawn r r.tree
+    → AllDrawn r r.shelf
     → (q : Names) → IfSome (f q) (λ e. e.node < r.next_node)
 nodes_drawn r f w x k l q = by (is_kept (get r.tree) q) (x q)
   where
     by : (b : Bool) → Split b (get r.tree q) (get r.shelf q) (f q) → IfSome (f q) (λ e. e.node < r.next_node)
-    by true h = subst (λ y. IfSome y (λ e. e.node < r.next_node)) h.1 (if_map (IsDrawn r.next_node r.next_stamp) (λ e. e.node < r.next_node) (get r.shelf q) (λ e d. d.node) (l q))
+    by true h = subst (λ y. IfSome y (λ e. e.node < r.next_node)) h.1 (if_map (IsDrawn r) (λ e. e.node < r.next_node) (get r.shelf q) (λ e d. d.node) (l q))
     by false h = subst (λ y. IfSome y (λ e. e.node < r.next_node)) h.1 (map_if opened (λ e. e.node < r.next_node) (get r.tree q)
-        (if_map (IsDrawn r.next_node r.next_stamp) (λ e. (opened e).node < r.next_node) (get r.tree q) (λ e d. subst (λ n. n < r.next_node) (sym (opened_node e)) d.node) (k q)))
+        (if_map (IsDrawn r) (λ e. (opened e).node < r.next_node) (get r.tree q) (λ e d. subst (λ n. n < r.next_node) (sym (opened_node e)) d.node) (k q)))
 
 -- ---- the same of sound resources
 

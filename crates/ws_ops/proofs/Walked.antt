@@ -121,7 +121,7 @@ not_under : (p q : Names) → is_prefix p q ≡ false → is_below p q ≡ false
 not_under p q h = ap (λ b. b && not (is_prefix q p)) h
 
 -- what is above p and begins with it is below it
-under : (p q : Names) → path_cmp p q ≡ Less → is_prefix p q ≡ true → is_below p q ≡ true
+pub under : (p q : Names) → path_cmp p q ≡ Less → is_prefix p q ≡ true → is_below p q ≡ true
 under p q l h = ap (λ b. b && not (is_prefix q p)) h ∙ by (is_prefix q p) refl
   where
     by : (b : Bool) → is_prefix q p ≡ b → not b ≡ true

@@ -1,6 +1,6 @@
 -- What an operation does that isn't refused.
-use Rattle.std.specs.Prelude.{ℕ, ◌+◌, Bool, true, false, if◌then◌else◌, List, [], ◌∷◌, length, Option, Some, None, unwrap_or, codes}
-use Rattle.std.specs.FinMap.{insert, get}
+use Rattle.std.specs.Prelude.{ℕ, ◌+◌, Bool, true, false, if◌then◌else◌, List, [], ◌∷◌, ◌++◌, length, Option, Some, None, unwrap_or, codes}
+use Rattle.std.specs.FinMap.{empty, insert, remove, get}
 use Rattle.std.specs.Option.{option_map}
 use Rattle.res_path.specs.Paths.{Names}
 use Rattle.ws_elem.specs.declared.element.Element.{Element}
@@ -8,11 +8,19 @@ use Rattle.ws_elem.specs.declared.kind.Kind.TheVariants.{File, Folder, Project}
 use Rattle.ws_elem.specs.Elements.{bare}
 use Rattle.ws_elem.specs.Kinds.{is_file, is_project}
 use Rattle.ws_elem.specs.Trees.{Tree, without}
+use Rattle.mark_set.specs.declared.value.RawValue.{RawValue}
+use Rattle.mark_set.specs.Markers.{Marks}
+use Rattle.sync_set.specs.Syncs.{with_bytes}
+use Rattle.ws_elem.specs.declared.depth.Depth.{Depth}
 use Rattle.proj_desc.specs.Canonical.{canonical_of}
 use Rattle.ws_ops.specs.declared.answer.OpAnswer.{OpAnswer}
-use Rattle.ws_ops.specs.declared.answer.OpAnswer.TheVariants.{Done, Seen}
+use Rattle.ws_ops.specs.declared.answer.OpAnswer.TheVariants.{Done, Id, Count, Seen}
 use Rattle.ws_ops.specs.declared.op.Op.{Op}
-use Rattle.ws_ops.specs.declared.op.Op.TheVariants.{CreateFile, CreateFolder, CreateProject, Delete, Write, Touch, Derived, Move, Copy, Open, Close, Describe, Read}
+use Rattle.ws_ops.specs.declared.op.Op.TheVariants.{CreateFile, CreateFolder, CreateProject, Delete, Write, Touch, Derived, Move, Copy, Open, Close, Describe, Mark, Attr, Unmark, ClearMarks, Partner, Sync, Flush, Read}
+use Rattle.ws_ops.specs.declared.op.Want.{Want}
+use Rattle.ws_ops.specs.declared.op.Want.TheVariants.{Show, Cat, Tree as AsTree, Digest}
+use Rattle.ws_ops.specs.Marking.{with_marker, with_attribute_of, unmarked, count_marks, unsynced, count_bytes, reached, change_within, count_all}
+use Rattle.ws_ops.specs.Partners.{is_partner, number_of}
 use Rattle.ws_ops.specs.Resources.{Resources}
 use Rattle.ws_ops.specs.Places.{is_shut}
 use Rattle.ws_ops.specs.Entries.{Entries}
@@ -70,12 +78,15 @@ derive r p on = record r { tree = change_at r.tree p (λ e. record e { derived =
 abbrev pub move : Resources → Names → Names → Resources
 move r from to = record r { tree = put_all (without r.tree from) (carried from to (branch r.tree from)) }
 
--- an element with this node, and with this stamp for its contents or its description
+-- an element with this node, and with this stamp for its contents or its description; without markers and
+-- synchronisation bytes
 abbrev pub renumbered : ℕ → ℕ → Element → Element
 renumbered node stamp e = record e {
   node = node;
   stamp = if is_file e.kind then stamp else e.stamp;
   desc_stamp = if is_project e.kind then stamp else e.desc_stamp;
+  marks = empty;
+  syncs = empty;
 }
 
 -- the elements with fresh numbers, drawn in their order
@@ -118,6 +129,47 @@ describe r p text = record r {
   next_stamp = r.next_stamp + 1;
 }
 
+-- the markers of what is at p are changed so
+abbrev pub change_marks : Tree → Names → (Marks → Marks) → Tree
+change_marks t p change = change_at t p (λ e. record e { marks = change e.marks })
+
+-- a marker with the next id
+abbrev pub mark : Resources → Names → List ℕ → List (List ℕ × RawValue) → Resources
+mark r p mark_type attributes = record r {
+  tree = change_marks r.tree p (λ marks. with_marker marks r.next_marker mark_type attributes);
+  next_marker = r.next_marker + 1;
+}
+
+-- one attribute of a marker gets this value, or goes
+abbrev pub set_attribute : Resources → Names → ℕ → List ℕ → Option RawValue → Resources
+set_attribute r p id name value = record r { tree = change_marks r.tree p (λ marks. with_attribute_of marks id name value) }
+
+abbrev pub unmark : Resources → Names → ℕ → Resources
+unmark r p id = record r { tree = change_marks r.tree p (λ marks. remove marks id) }
+
+-- the markers of this type at p and below it are gone, to the depth
+abbrev pub clear_marks : Resources → Names → List ℕ → Depth → Resources
+clear_marks r p mark_type depth = record r { tree = change_within r.tree p depth (unmarked mark_type) }
+
+-- the partner is registered; one that is there stays
+abbrev pub register : Resources → List ℕ → Resources
+register r name = if is_partner r.partners name then r else record r { partners = r.partners ++ name ∷ [] }
+
+-- the partner keeps these bytes at p, or none
+abbrev pub sync : Resources → Names → List ℕ → Option (List ℕ) → Resources
+sync r p name bytes = record r { tree = change_at r.tree p (λ e. record e { syncs = with_bytes e.syncs (number_of r.partners name) bytes }) }
+
+-- the partner's bytes at p and below it are gone, to the depth
+abbrev pub flush : Resources → Names → List ℕ → Depth → Resources
+flush r p name depth = record r { tree = change_within r.tree p depth (unsynced (number_of r.partners name)) }
+
+-- what is read: what is at p, or all at and below it
+abbrev pub read : Want → Tree → Names → Entries
+read Show t p = found_at p (get t p)
+read Cat t p = found_at p (get t p)
+read AsTree t p = branch t p
+read Digest t p = branch t p
+
 -- the resources after an operation, and its answer
 abbrev pub effect : Resources → Op → Resources × OpAnswer
 effect r (CreateFile p bytes) = (create r p (new_file r.next_node r.next_stamp bytes), Done)
@@ -132,4 +184,13 @@ effect r (Copy from to) = (copy r from to, Done)
 effect r (Open p) = (open_project r p, Done)
 effect r (Close p) = (close_project r p, Done)
 effect r (Describe p text) = (describe r p text, Done)
-effect r (Read p want) = (r, Seen (found_at p (get r.tree p)))
+effect r (Mark p mark_type attributes) = (mark r p mark_type attributes, Id r.next_marker)
+effect r (Attr p id name value) = (set_attribute r p id name value, Done)
+effect r (Unmark p id) = (unmark r p id, Done)
+effect r (ClearMarks p mark_type depth) =
+    (clear_marks r p mark_type depth, Count (count_all (count_marks mark_type) (reached r.tree p depth)))
+effect r (Partner name) = (register r name, Done)
+effect r (Sync p name bytes) = (sync r p name bytes, Done)
+effect r (Flush p name depth) =
+    (flush r p name depth, Count (count_all (count_bytes (number_of r.partners name)) (reached r.tree p depth)))
+effect r (Read p want) = (r, Seen (read want r.tree p) r.partners)

@@ -1,8 +1,10 @@
 pub mod Entries
+pub mod Partners
 pub mod Resources
 pub mod Places
 pub mod Members
 pub mod Numbers
+pub mod Marking
 pub mod Refusals
 pub mod Effects
 pub mod Changes

@@ -8,6 +8,7 @@ use Rattle.ws_ops.specs.declared.side.Side.{Side}
 use Rattle.ws_ops.specs.Changes.{changed}
 use Rattle.ws_ops.specs.Effects.{effect}
 use Rattle.ws_ops.specs.Judging.{IfRefused}
+use Rattle.ws_ops.specs.Partners.{with_partner}
 use Rattle.ws_ops.specs.Refusals.{refusal}
 use Rattle.ws_ops.specs.Resources.{Resources}
 
@@ -19,6 +20,8 @@ planned r plan = (
     shelf = changed r.shelf plan.shelf;
     next_node = plan.next_node;
     next_stamp = plan.next_stamp;
+    next_marker = plan.next_marker;
+    partners = with_partner r.partners plan.partner;
   },
   plan.answer,
 )

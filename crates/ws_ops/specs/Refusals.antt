@@ -1,5 +1,5 @@
 -- Why an operation is refused.
-use Rattle.std.specs.Prelude.{ℕ, ◌+◌, ◌-◌, ◌^◌, Bool, false, not, ◌||◌, nat_lt, if◌then◌else◌, List, [], ◌∷◌, ◌++◌, length, Option, Some, None}
+use Rattle.std.specs.Prelude.{ℕ, ◌+◌, ◌-◌, ◌^◌, Bool, false, not, ◌&&◌, ◌||◌, nat_lt, nat_le, if◌then◌else◌, List, [], ◌∷◌, ◌++◌, length, Option, Some, None}
 use Rattle.std.specs.Bool.{beq}
 use Rattle.std.specs.List.{list_any}
 use Rattle.std.specs.Option.{option_map}
@@ -8,18 +8,22 @@ use Rattle.res_path.specs.Paths.{Names, parent, is_prefix, path_text}
 use Rattle.ws_elem.specs.declared.element.Element.{Element}
 use Rattle.ws_elem.specs.Kinds.{is_project}
 use Rattle.ws_elem.specs.Trees.{Tree}
+use Rattle.mark_set.specs.Causes.{marker_cause, change_cause}
+use Rattle.mark_set.specs.declared.value.RawValue.{RawValue}
 use Rattle.proj_desc.specs.Causes.{desc_cause}
 use Rattle.ws_ops.specs.declared.op.Op.{Op}
-use Rattle.ws_ops.specs.declared.op.Op.TheVariants.{CreateFile, CreateFolder, CreateProject, Delete, Write, Touch, Derived, Move, Copy, Open, Close, Describe, Read}
+use Rattle.ws_ops.specs.declared.op.Op.TheVariants.{CreateFile, CreateFolder, CreateProject, Delete, Write, Touch, Derived, Move, Copy, Open, Close, Describe, Mark, Attr, Unmark, ClearMarks, Partner, Sync, Flush, Read}
 use Rattle.ws_ops.specs.declared.op.Want.{Want}
-use Rattle.ws_ops.specs.declared.op.Want.TheVariants.{Show, Cat}
+use Rattle.ws_ops.specs.declared.op.Want.TheVariants.{Show, Cat, Tree as AsTree, Digest}
 use Rattle.ws_ops.specs.declared.refusal.OpRefusal.{OpRefusal}
-use Rattle.ws_ops.specs.declared.refusal.OpRefusal.TheVariants.{TooDeep, TooLong, NotFound, Exists, NotContainer, WrongKind, ProjectClosed, TreeFull, NumbersUsed, IntoItself, BadDescription}
+use Rattle.ws_ops.specs.declared.refusal.OpRefusal.TheVariants.{TooDeep, TooLong, NotFound, Exists, NotContainer, WrongKind, ProjectClosed, TreeFull, NumbersUsed, PartnerUnknown, MarkerUnknown, BadValue, IntoItself, BadDescription}
 use Rattle.ws_ops.specs.Resources.{Resources}
 use Rattle.ws_ops.specs.Places.{project_of, project_name, is_root_path, is_project_path, is_member_path, has_file, is_shut, is_in_shut}
 use Rattle.ws_ops.specs.Members.{branch, rebased}
 use Rattle.ws_ops.specs.Entries.{Entries}
 use Rattle.ws_ops.specs.Numbers.{stamps_of_all}
+use Rattle.ws_ops.specs.Marking.{has_marker}
+use Rattle.ws_ops.specs.Partners.{is_partner}
 
 -- the platform's number of a refusal
 abbrev pub refusal_number : OpRefusal → ℕ
@@ -32,6 +36,9 @@ refusal_number (WrongKind path) = 13
 refusal_number (ProjectClosed path) = 14
 refusal_number TreeFull = 17
 refusal_number NumbersUsed = 18
+refusal_number PartnerUnknown = 21
+refusal_number (MarkerUnknown id) = 22
+refusal_number (BadValue cause) = 23
 refusal_number IntoItself = 24
 refusal_number (BadDescription cause) = 25
 
@@ -170,10 +177,49 @@ describe_causes r p text =
 abbrev pub cannot_be_read : Want → Option Element → Bool
 cannot_be_read Show x = false
 cannot_be_read Cat x = not (has_file x)
+cannot_be_read AsTree x = false
+cannot_be_read Digest x = false
 
 -- why p can't be read
 abbrev pub read_causes : Tree → Names → Want → List (Option OpRefusal)
 read_causes t p want = member_closed t p ∷ missing t p ∷ when (cannot_be_read want (get t p)) (WrongKind p) ∷ []
+
+-- why neither markers nor synchronisation bytes of p can change: it is a closed project or a member of one, or isn't there
+abbrev pub marking_causes : Tree → Names → List (Option OpRefusal)
+marking_causes t p = closed t p ∷ missing t p ∷ []
+
+-- no marker at p has the id
+abbrev pub marker_missing : Tree → Names → ℕ → Option OpRefusal
+marker_missing t p id = when (not (has_marker id (get t p))) (MarkerUnknown id)
+
+-- no partner of this name is registered
+abbrev pub partner_missing : Resources → List ℕ → Option OpRefusal
+partner_missing r name = when (not (is_partner r.partners name)) PartnerUnknown
+
+-- why no marker of this type with these attributes can be made at p
+abbrev pub mark_causes : Resources → Names → List ℕ → List (List ℕ × RawValue) → List (Option OpRefusal)
+mark_causes r p mark_type attributes =
+    marking_causes r.tree p ++ option_map BadValue (marker_cause mark_type attributes) ∷ when (is_spent r.next_marker 1) NumbersUsed ∷ []
+
+-- why an attribute of the marker can't get this value, or go
+abbrev pub attr_causes : Tree → Names → ℕ → List ℕ → Option RawValue → List (Option OpRefusal)
+attr_causes t p id name value = marking_causes t p ++ marker_missing t p id ∷ option_map BadValue (change_cause name value) ∷ []
+
+-- the most partners that there may be
+abbrev pub max_partners : ℕ
+max_partners = 2 ^ 32 - 1
+
+-- why the partner can't be registered
+abbrev pub partner_causes : Resources → List ℕ → List (Option OpRefusal)
+partner_causes r name = when (not (is_partner r.partners name) && nat_le max_partners (length r.partners)) NumbersUsed ∷ []
+
+-- why the partner's bytes at p can't change
+abbrev pub sync_causes : Resources → Names → List ℕ → List (Option OpRefusal)
+sync_causes r p name = when (is_root_path p) (WrongKind p) ∷ marking_causes r.tree p ++ partner_missing r name ∷ []
+
+-- why the partner's bytes at and below p can't go
+abbrev pub flush_causes : Resources → Names → List ℕ → List (Option OpRefusal)
+flush_causes r p name = marking_causes r.tree p ++ partner_missing r name ∷ []
 
 -- why an operation is refused, the causes in their order
 abbrev pub causes : Resources → Op → List (Option OpRefusal)
@@ -189,6 +235,13 @@ causes r (Copy from to) = copy_causes r from to
 causes r (Open p) = project_causes r.tree p
 causes r (Close p) = project_causes r.tree p
 causes r (Describe p text) = describe_causes r p text
+causes r (Mark p mark_type attributes) = mark_causes r p mark_type attributes
+causes r (Attr p id name value) = attr_causes r.tree p id name value
+causes r (Unmark p id) = marking_causes r.tree p ++ marker_missing r.tree p id ∷ []
+causes r (ClearMarks p mark_type depth) = marking_causes r.tree p
+causes r (Partner name) = partner_causes r name
+causes r (Sync p name bytes) = sync_causes r p name
+causes r (Flush p name depth) = flush_causes r p name
 causes r (Read p want) = read_causes r.tree p want
 
 -- why an operation is refused, if it is

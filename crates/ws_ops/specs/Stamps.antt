@@ -1,5 +1,5 @@
 -- Numbers that tell resources and contents apart.
-use Rattle.std.specs.Prelude.{◌≡◌, ℕ, ◌<◌, IfSome}
+use Rattle.std.specs.Prelude.{◌≡◌, ℕ, ◌<◌, length, IfSome}
 use Rattle.std.specs.FinMap.{get}
 use Rattle.res_path.specs.Paths.{Names}
 use Rattle.ws_elem.specs.Trees.{Tree}
@@ -12,19 +12,21 @@ abbrev pub SameContents : Tree → Tree → Type 0
 SameContents a b = (p q : Names)
     → IfSome (get a p) (λ e. IfSome (get b q) (λ f. e.kind ≡ File → f.kind ≡ File → e.stamp ≡ f.stamp → e.bytes ≡ f.bytes))
 
--- the element's numbers are below the counters that they were drawn from
-pub record IsDrawn (nodes stamps : ℕ) (e : Element) : Type 0 where
-  pub node : e.node < nodes
-  pub stamp : e.stamp < stamps
-  pub desc_stamp : e.desc_stamp < stamps
+-- the element's numbers are below the counters that they were drawn from, and its partners are registered
+pub record IsDrawn (r : Resources) (e : Element) : Type 0 where
+  pub node : e.node < r.next_node
+  pub stamp : e.stamp < r.next_stamp
+  pub desc_stamp : e.desc_stamp < r.next_stamp
+  pub marks : (id : ℕ) → IfSome (get e.marks id) (λ _. id < r.next_marker)
+  pub syncs : (number : ℕ) → IfSome (get e.syncs number) (λ _. number < length r.partners)
 
 -- so are those of all elements
-abbrev pub AllDrawn : ℕ → ℕ → Tree → Type 0
-AllDrawn nodes stamps t = (p : Names) → IfSome (get t p) (IsDrawn nodes stamps)
+abbrev pub AllDrawn : Resources → Tree → Type 0
+AllDrawn r t = (p : Names) → IfSome (get t p) (IsDrawn r)
 
 -- a tree of these resources, now or before: its numbers are drawn, and where its files and those that are there now
 -- have equal stamps they have equal contents
 pub record IsKnown (r : Resources) (t : Tree) : Type 0 where
-  pub drawn : AllDrawn r.next_node r.next_stamp t
+  pub drawn : AllDrawn r t
   pub tree : SameContents t r.tree
   pub shelf : SameContents t r.shelf

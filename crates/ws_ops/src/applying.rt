@@ -2,9 +2,10 @@
 ghost use Rattle.std.specs.Prelude.{◌≡◌, None, Some, IfOk, IfErr, OnOk, OnErr};
 ghost use Rattle.ws_elem.specs.Trees.{Tree};
 ghost use Rattle.ws_ops.specs.Backs.{HasWay, taken_back};
-ghost use Rattle.ws_ops.specs.Changes.{HasRooms};
+ghost use Rattle.ws_ops.specs.Changes.{HasRooms, KeepsRoom};
 ghost use Rattle.ws_ops.specs.Effects.{effect};
 ghost use Rattle.ws_ops.specs.Judging.{IfRefused};
+ghost use Rattle.ws_ops.specs.Partners.{with_partner};
 ghost use Rattle.ws_ops.specs.Plans.{Plans, planned};
 ghost use Rattle.ws_ops.specs.Refusals.{refusal};
 ghost use Rattle.ws_ops.specs.Resources.{resources};
@@ -14,20 +15,24 @@ ghost use Rattle.ws_ops.specs.Stamps.{IsKnown};
 use crate::changes::{Earlier, room_for};
 use crate::plan::Plan;
 use crate::{
-    NoMemory, Op, OpAnswer, OpError, Side, contents, creation, deletion, projects, reading,
-    transfer,
+    NoMemory, Op, OpAnswer, OpError, Side, contents, creation, deletion, marking, projects,
+    reading, syncing, transfer,
 };
+use res_path::Name;
 use std::alloc::Global;
 use std::marker::Model;
 use ws_elem::TreeRep;
 
-/// The way back before an operation: what stood at the paths that it changed, and the earlier counters.
+/// The way back before an operation: what stood at the paths that it changed, the earlier counters, and
+/// how many partners there were.
 #[derive(Debug, Drop)]
 pub struct Back {
     tree: Earlier,
     shelf: Earlier,
     next_node: u64,
     next_stamp: u64,
+    next_marker: u64,
+    partners: usize,
 }
 
 impl Model for Back {
@@ -39,7 +44,7 @@ impl Model for Back {
 
     ghost coded = { way_code (coded_list (coded× (coded_list (coded_list coded_ℕ)) (coded_option element.the_row.coded))) };
 
-    ghost view = { λ b. record { tree = b.tree; shelf = b.shelf; next_node = b.next_node; next_stamp = b.next_stamp } };
+    ghost view = { λ b. record { tree = b.tree; shelf = b.shelf; next_node = b.next_node; next_stamp = b.next_stamp; next_marker = b.next_marker; partners = b.partners } };
 }
 
 /// What a done operation is answered, and the way back before it.
@@ -50,11 +55,13 @@ pub struct Applied {
 }
 
 /// Does the operation, or refuses it with the first cause in the order of its list. After a refusal, and where memory
-/// wants, tree, shelf and counters are as before.
+/// wants, tree, shelf, counters and partners are as before.
 ///
 /// Room is made for all paths that change, and all new elements are made, before the first change; the room is left for
 /// `take_back`, and the caller drops it. Costs a few look-ups, and some more for each element that changes: never a walk
-/// of the whole tree. Contents are shared, and never copied.
+/// of the whole tree. `ClearMarks` and `Flush` look at each element at and below the path, or at that of the path alone.
+/// Contents are shared, and never copied.
+#[tactic(auto, using(crate::proofs::Made::keeps_itself))]
 pub fn apply<T: TreeRep>(
     alloc: Global,
     tree: &mut T,
@@ -68,6 +75,9 @@ pub fn apply<T: TreeRep>(
     ensures answer { IfOk result (λ done. done.answer ≡ (effect (resources (T.tree tree.old) side.old) op.now).1) }
     ensures back { IfOk result (λ done. HasWay done.back (T.room tree.new) side.new.shelf.room
         (resources (T.tree tree.new) side.new) (resources (T.tree tree.old) side.old)) }
+    // What had room has it still.
+    ensures room { KeepsRoom (T.room tree.old) (T.room tree.new) }
+    ensures shelf_room { KeepsRoom side.old.shelf.room side.new.shelf.room }
     ensures sound { IsSound (resources (T.tree tree.new) side.new) }
     // A remembered tree still agrees with the contents that are there.
     ensures known { (t : Tree) → IsKnown (resources (T.tree tree.old) side.old) t → IsKnown (resources (T.tree tree.new) side.new) t }
@@ -78,8 +88,8 @@ pub fn apply<T: TreeRep>(
     Ok(perform(alloc, tree, side, plan)?)
 }
 
-/// Takes an operation back, after which nothing has changed and no room was dropped: tree, shelf and counters are as
-/// before it. It takes no memory.
+/// Takes an operation back, after which nothing has changed and no room was dropped: tree, shelf, counters and
+/// partners are as before it. It takes no memory.
 pub fn take_back<T: TreeRep>(tree: &mut T, side: &mut Side, back: Back)
     requires tree { HasRooms (T.room tree.old) back.tree }
     requires shelf { HasRooms side.old.shelf.room back.shelf }
@@ -92,11 +102,15 @@ pub fn take_back<T: TreeRep>(tree: &mut T, side: &mut Side, back: Back)
         shelf: shelf_entries,
         next_node,
         next_stamp,
+        next_marker,
+        partners,
     } = back;
     tree_entries.put_back(tree);
     shelf_entries.put_back(&mut side.shelf);
     side.next_node = next_node;
     side.next_stamp = next_stamp;
+    side.next_marker = next_marker;
+    side.partners.cut(partners);
 }
 
 /// What the operation is going to change, or why it is refused.
@@ -116,11 +130,25 @@ fn plan<T: TreeRep>(alloc: Global, tree: &T, side: &Side, op: &Op) -> Result<Pla
         Op::Open(path) => projects::open(alloc, tree, side, path),
         Op::Close(path) => projects::close(alloc, tree, side, path),
         Op::Describe(path, text) => projects::describe(alloc, tree, side, path, text),
+        Op::Mark(path, mark_type, attrs) => {
+            marking::mark(alloc, tree, side, path, mark_type, attrs)
+        }
+        Op::Attr(path, id, name, value) => {
+            marking::set_attribute(alloc, tree, side, path, *id, name, value)
+        }
+        Op::Unmark(path, id) => marking::unmark(alloc, tree, side, path, *id),
+        Op::ClearMarks(path, mark_type, depth) => {
+            marking::clear_marks(alloc, tree, side, path, mark_type, *depth)
+        }
+        Op::Partner(name) => syncing::register(alloc, tree, side, name),
+        Op::Sync(path, name, bytes) => syncing::sync(alloc, tree, side, path, name, bytes),
+        Op::Flush(path, name, depth) => { syncing::flush(alloc, tree, side, path, name, *depth) }
         Op::Read(path, want) => reading::read(alloc, tree, side, path, *want),
     }
 }
 
 /// Does what is planned. Where memory wants, nothing was done.
+#[tactic(auto, using(crate::proofs::Made::keeps_itself, crate::proofs::Made::keeps_same))]
 fn perform<T: TreeRep>(
     alloc: Global,
     tree: &mut T,
@@ -131,12 +159,16 @@ fn perform<T: TreeRep>(
     ensures answer { IfOk result (λ done. done.answer ≡ plan.answer) }
     ensures back { IfOk result (λ done. HasWay done.back (T.room tree.new) side.new.shelf.room
         (resources (T.tree tree.new) side.new) (resources (T.tree tree.old) side.old)) }
+    ensures room { KeepsRoom (T.room tree.old) (T.room tree.new) }
+    ensures shelf_room { KeepsRoom side.old.shelf.room side.new.shelf.room }
     ensures same { OnErr result (resources (T.tree tree.new) side.new ≡ resources (T.tree tree.old) side.old) }
 {
     let tree_space = room_for(alloc, plan.tree.len())?;
     let shelf_space = room_for(alloc, plan.shelf.len())?;
     plan.tree.make_room(tree)?;
     plan.shelf.make_room(&mut side.shelf)?;
+    let partners = side.partners.len();
+    register(side, plan.partner)?;
     let tree_entries = plan.tree.make(tree, tree_space);
     let shelf_entries = plan.shelf.make(&mut side.shelf, shelf_space);
     let back = Back {
@@ -144,11 +176,25 @@ fn perform<T: TreeRep>(
         shelf: shelf_entries,
         next_node: side.next_node,
         next_stamp: side.next_stamp,
+        next_marker: side.next_marker,
+        partners,
     };
     side.next_node = plan.next_node;
     side.next_stamp = plan.next_stamp;
+    side.next_marker = plan.next_marker;
     Ok(Applied {
         answer: plan.answer,
         back,
     })
+}
+
+/// Registers the partner, if there is one.
+fn register(side: &mut Side, partner: Option<Name>) -> Result<(), NoMemory>
+    ensures ok { OnOk result (side.new ≡ record side.old { partners = with_partner side.old.partners partner }) }
+    ensures err { OnErr result (side.new ≡ side.old) }
+{
+    match partner {
+        None => Ok(()),
+        Some(name) => side.partners.push(name),
+    }
 }

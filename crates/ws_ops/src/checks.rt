@@ -1,5 +1,5 @@
 //! The causes for which operations are refused, one by one.
-ghost use Rattle.std.specs.Prelude.{◌≡◌, ◌+◌, ◌<◌, ◌≤◌, ◌^◌, false, nat_lt, not, ◌||◌, Some, IfOk, IfErr, IsErr, OnOk, length};
+ghost use Rattle.std.specs.Prelude.{◌≡◌, ◌∷◌, ◌+◌, ◌<◌, ◌≤◌, ◌^◌, false, nat_lt, not, ◌||◌, Some, IfOk, IfErr, IsErr, OnOk, length};
 ghost use Rattle.std.specs.FinMap.{get};
 ghost use Rattle.std.specs.Option.{option_copied};
 ghost use Rattle.res_path.specs.Paths.{parent};
@@ -56,14 +56,73 @@ pub fn there<'a, T: TreeRep>(tree: &'a T, path: &Path) -> Result<&'a Element, Op
 pub fn check_place<T: TreeRep>(tree: &T, path: &Path) -> Result<(), OpError>
     ensures { Judges (first_cause (place_causes (T.tree tree.now) path.now)) result }
 {
-    let parent = parent_of(path)?;
-    if there(tree, &parent)?.kind.is_file() {
-        return Err(OpError::Refused(OpRefusal::NotContainer(parent)));
+    let folder = parent_of(path)?;
+    let above = tree.get(&folder);
+    check_under(tree, path, folder, above)
+}
+
+/// The same, where it is known what is at the parent's path.
+fn check_under<T: TreeRep>(
+    tree: &T,
+    path: &Path,
+    folder: Path,
+    above: Option<&Element>,
+) -> Result<(), OpError>
+    requires folder { folder ≡ parent path.now }
+    requires above { option_copied above ≡ get (T.tree tree.now) folder }
+    ensures { Judges (first_cause (place_causes (T.tree tree.now) path.now)) result }
+{
+    match above {
+        None => Err(OpError::Refused(OpRefusal::NotFound(folder))),
+        Some(element) => check_in(tree, path, folder, element),
+    }
+}
+
+/// The same, where the parent is there.
+fn check_in<T: TreeRep>(tree: &T, path: &Path, folder: Path, above: &Element) -> Result<(), OpError>
+    requires folder { folder ≡ parent path.now }
+    requires above { get (T.tree tree.now) folder ≡ Some above.now }
+    ensures { Judges (first_cause (place_causes (T.tree tree.now) path.now)) result }
+{
+    if above.kind.is_file() {
+        return Err(OpError::Refused(OpRefusal::NotContainer(folder)));
     }
     if tree.get(path).is_some() {
         return Err(OpError::Refused(OpRefusal::Exists(path.copy()?)));
     }
     Ok(())
+}
+
+/// Refused where the path is a closed project's or of a member of one. Where the parent is the project, what is known of
+/// it is not looked up again.
+#[tactic(auto, using(crate::proofs::Above::project_above_two))]
+fn check_parent_open<T: TreeRep>(
+    tree: &T,
+    path: &Path,
+    folder: &Path,
+    above: Option<&Element>,
+) -> Result<(), OpError>
+    requires folder { folder.now ≡ parent path.now }
+    requires above { option_copied above ≡ get (T.tree tree.now) folder.now }
+    ensures { Judges (closed (T.tree tree.now) path.now) result }
+{
+    if path.depth() != 2 {
+        return check_open(tree, path);
+    }
+    if has_closed(above) {
+        return Err(OpError::Refused(OpRefusal::ProjectClosed(folder.copy()?)));
+    }
+    Ok(())
+}
+
+/// Refused where the path is a closed project's or of a member of one, and where nothing can come to it.
+fn check_standing<T: TreeRep>(tree: &T, path: &Path) -> Result<(), OpError>
+    ensures { Judges (first_cause (closed (T.tree tree.now) path.now ∷ place_causes (T.tree tree.now) path.now)) result }
+{
+    let folder = parent_of(path)?;
+    let above = tree.get(&folder);
+    check_parent_open(tree, path, &folder, above)?;
+    check_under(tree, path, folder, above)
 }
 
 /// Refused where so many elements can't be made, drawing so many stamps.
@@ -109,6 +168,17 @@ pub fn check_stamp(side: &Side) -> Result<(), OpError>
     ensures drawn { OnOk result (side.now.next_stamp + 1 < 2 ^ 64) }
 {
     if is_spent(side.next_stamp, 1) {
+        return Err(OpError::Refused(OpRefusal::NumbersUsed));
+    }
+    Ok(())
+}
+
+/// Refused where no marker's number can be drawn.
+pub fn check_marker_number(side: &Side) -> Result<(), OpError>
+    ensures judged { Judges (when (is_spent side.now.next_marker 1) OpRefusal.NumbersUsed) result }
+    ensures drawn { OnOk result (side.now.next_marker + 1 < 2 ^ 64) }
+{
+    if is_spent(side.next_marker, 1) {
         return Err(OpError::Refused(OpRefusal::NumbersUsed));
     }
     Ok(())
@@ -185,8 +255,7 @@ pub fn check_creation<T: TreeRep>(
     ensures judged { Judges (first_cause (creation_causes (resources (T.tree tree.now) side.now) path.now stamps)) result }
     ensures drawn { OnOk result (CanDraw side.now 1 stamps) }
 {
-    check_open(tree, path)?;
-    check_place(tree, path)?;
+    check_standing(tree, path)?;
     check_numbers(tree, side, 1, stamps)
 }
 

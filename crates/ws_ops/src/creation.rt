@@ -1,5 +1,5 @@
 //! The plans of creations.
-ghost use Rattle.std.specs.Prelude.{◌≡◌, ◌+◌, [], ◌∷◌, Some, IfOk};
+ghost use Rattle.std.specs.Prelude.{◌≡◌, ◌+◌, [], ◌∷◌, None, Some, IfOk};
 ghost use Rattle.ws_ops.specs.Effects.{new_file, new_project};
 ghost use Rattle.ws_ops.specs.Plans.{CanDraw, Plans};
 ghost use Rattle.ws_ops.specs.Resources.{resources};
@@ -95,6 +95,8 @@ fn plan_creation(
     ensures shelf { IfOk result (λ plan. plan.shelf ≡ []) }
     ensures node { IfOk result (λ plan. plan.next_node ≡ side.now.next_node + 1) }
     ensures stamp { IfOk result (λ plan. plan.next_stamp ≡ side.now.next_stamp + stamps) }
+    ensures marker { IfOk result (λ plan. plan.next_marker ≡ side.now.next_marker) }
+    ensures partner { IfOk result (λ plan. plan.partner ≡ None) }
     ensures answer { IfOk result (λ plan. plan.answer ≡ OpAnswer.Done) }
 {
     let mut plan = Plan::put(alloc, side, path, element)?;

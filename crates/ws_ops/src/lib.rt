@@ -4,13 +4,16 @@
 //! - `refusal`: an `OpRefusal`, why an operation is refused, and an `OpError`.
 //! - `answer`: an `OpAnswer`, what an operation is answered.
 //! - `entries`: `Entries`, elements with their paths.
-//! - `side`: a `Side`, what stands beside the tree: the shelf and the counters.
+//! - `partners`: `Partners`, the synchronisation partners by their numbers.
+//! - `side`: a `Side`, what stands beside the tree: the shelf, the counters and the partners.
 //! - `applying`: `apply`, which does an operation or refuses it, and `take_back`.
 //! - `plan`: a `Plan`, what an operation is going to change, made before anything changes.
 //! - `changes`: what is to stand at some paths, and what stood there.
 //! - `checks`: the causes for which operations are refused, one by one.
 //! - `walk`: a resource with all below it.
-//! - `creation`, `contents`, `deletion`, `transfer`, `projects`, `reading`: the plan of each operation.
+//! - `creation`, `contents`, `deletion`, `transfer`, `projects`, `marking`, `syncing`, `reading`: the plan of each
+//!   operation.
+//! - `losing`: resources that lose markers or synchronisation bytes.
 #![tactic(auto)]
 
 mod answer;
@@ -25,12 +28,20 @@ mod effect_tests;
 mod entries;
 #[cfg(test)]
 mod full_tests;
+mod losing;
+mod marking;
+#[cfg(test)]
+mod note_tests;
+#[cfg(test)]
+mod note_words;
 mod op;
+mod partners;
 mod plan;
 mod projects;
 mod reading;
 mod refusal;
 mod side;
+mod syncing;
 #[cfg(test)]
 mod test_workspace;
 #[cfg(test)]
@@ -44,6 +55,7 @@ pub use answer::OpAnswer;
 pub use applying::{Applied, Back, apply, take_back};
 pub use entries::Entries;
 pub use op::{Op, Want};
+pub use partners::Partners;
 pub use refusal::{OpError, OpRefusal};
 pub use res_path::NoMemory;
 pub use side::Side;

@@ -2,7 +2,9 @@
 ghost use Rattle.std.specs.Prelude.{◌≡◌, IfOk};
 
 use bytes::Bytes;
-use res_path::{NoMemory, Path};
+use mark_set::{RawAttrs, RawText, RawValue};
+use res_path::{Name, NoMemory, Path};
+use ws_elem::Depth;
 
 /// What is to be read of resources.
 #[derive(Clone, Copy, Debug, PartialEq, Eq)]
@@ -11,10 +13,14 @@ pub enum Want {
     Show,
     /// The contents of a file (`IFile.getContents`).
     Cat,
+    /// What stands at a path and below it.
+    Tree,
+    /// What stands at a path and below it, told by one digest.
+    Digest,
 }
 
 /// What can be done to resources. An operation that is refused changes nothing.
-#[derive(Clone, Debug, PartialEq, Eq, Drop)]
+#[derive(Clone, Debug, Drop)]
 pub enum Op {
     /// A file with these contents is made (`IFile.create`).
     CreateFile(Path, Bytes),
@@ -40,6 +46,20 @@ pub enum Op {
     Close(Path),
     /// A project gets the description with this text (`IProject.setDescription`).
     Describe(Path, Bytes),
+    /// A marker of this type and with these attributes is made on a resource (`IResource.createMarker`).
+    Mark(Path, RawText, RawAttrs),
+    /// One attribute of a resource's marker gets this value, or goes (`IMarker.setAttribute`).
+    Attr(Path, u64, RawText, Option<RawValue>),
+    /// A resource's marker is deleted (`IMarker.delete`).
+    Unmark(Path, u64),
+    /// The markers of this type are deleted, on a resource and below it to the depth (`IResource.deleteMarkers`).
+    ClearMarks(Path, RawText, Depth),
+    /// A synchronisation partner is registered (`ISynchronizer.add`).
+    Partner(Name),
+    /// A partner keeps these bytes with a resource, or none (`ISynchronizer.setSyncInfo`).
+    Sync(Path, Name, Option<Bytes>),
+    /// A partner's bytes go, at a resource and below it to the depth (`ISynchronizer.flushSyncInfo`).
+    Flush(Path, Name, Depth),
     /// What stands at a path is read.
     Read(Path, Want),
 }

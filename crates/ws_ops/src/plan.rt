@@ -1,10 +1,10 @@
 //! What an operation is going to change.
-ghost use Rattle.std.specs.Prelude.{◌≡◌, ◌∷◌, ◌++◌, [], map, IfOk, OnOk, Some as some};
+ghost use Rattle.std.specs.Prelude.{◌≡◌, ◌∷◌, ◌++◌, [], map, IfOk, OnOk, None, Some as some};
 ghost use Rattle.ws_ops.specs.Changes.{taken, put};
 
 use crate::changes::Changes;
 use crate::{Entries, NoMemory, OpAnswer, Side};
-use res_path::Path;
+use res_path::{Name, Path};
 use std::alloc::Global;
 use ws_elem::Element;
 
@@ -15,6 +15,9 @@ pub struct Plan {
     pub shelf: Changes,
     pub next_node: u64,
     pub next_stamp: u64,
+    pub next_marker: u64,
+    /// A synchronisation partner that is to be registered.
+    pub partner: Option<Name>,
     pub answer: OpAnswer,
 }
 
@@ -25,6 +28,8 @@ impl Plan {
         ensures shelf { result.shelf ≡ [] }
         ensures node { result.next_node ≡ side.now.next_node }
         ensures stamp { result.next_stamp ≡ side.now.next_stamp }
+        ensures marker { result.next_marker ≡ side.now.next_marker }
+        ensures partner { result.partner ≡ None }
         ensures answer { result.answer ≡ OpAnswer.Done }
     {
         Plan {
@@ -32,6 +37,8 @@ impl Plan {
             shelf: Changes::none(alloc),
             next_node: side.next_node,
             next_stamp: side.next_stamp,
+            next_marker: side.next_marker,
+            partner: None,
             answer: OpAnswer::Done,
         }
     }
@@ -42,6 +49,8 @@ impl Plan {
         ensures shelf { IfOk result (λ plan. plan.shelf ≡ []) }
         ensures node { IfOk result (λ plan. plan.next_node ≡ side.now.next_node) }
         ensures stamp { IfOk result (λ plan. plan.next_stamp ≡ side.now.next_stamp) }
+        ensures marker { IfOk result (λ plan. plan.next_marker ≡ side.now.next_marker) }
+        ensures partner { IfOk result (λ plan. plan.partner ≡ None) }
         ensures answer { IfOk result (λ plan. plan.answer ≡ OpAnswer.Done) }
     {
         let mut plan = Plan::nothing(alloc, side);

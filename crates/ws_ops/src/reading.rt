@@ -1,12 +1,13 @@
 //! The plan of what only reads.
-ghost use Rattle.std.specs.Prelude.{◌≡◌, not, Some};
+ghost use Rattle.std.specs.Prelude.{◌≡◌, not, Some, IfOk};
+ghost use Rattle.ws_ops.specs.Effects.{read};
 ghost use Rattle.ws_ops.specs.Plans.{Plans};
 ghost use Rattle.ws_ops.specs.Refusals.{cannot_be_read};
 ghost use Rattle.ws_ops.specs.Resources.{resources};
 
 use crate::checks::{check_member_open, there, wrong_kind};
 use crate::plan::Plan;
-use crate::{Entries, Op, OpAnswer, OpError, Side, Want};
+use crate::{Entries, NoMemory, Op, OpAnswer, OpError, Side, Want, walk};
 use res_path::Path;
 use std::alloc::Global;
 use ws_elem::{Element, TreeRep};
@@ -26,11 +27,20 @@ pub fn read<T: TreeRep>(
     if !can_be_read(want, element) {
         return wrong_kind(path);
     }
-    let mut seen = Entries::empty(alloc);
-    seen.push(path.copy()?, element.copy()?)?;
+    let seen = seen(alloc, tree, path, want)?;
     let mut plan = Plan::nothing(alloc, side);
-    plan.answer = OpAnswer::Seen(seen);
+    plan.answer = OpAnswer::Seen(seen, side.partners.copy()?);
     Ok(plan)
+}
+
+/// What is to be read: the element that is at the path, or all at and below it.
+fn seen<T: TreeRep>(alloc: Global, tree: &T, path: &Path, want: Want) -> Result<Entries, NoMemory>
+    ensures { IfOk result (λ es. es ≡ read want (T.tree tree.now) path.now) }
+{
+    match want {
+        Want::Show | Want::Cat => walk::at(alloc, tree, path),
+        Want::Tree | Want::Digest => walk::branch(alloc, tree, path),
+    }
 }
 
 /// Whether what is asked can be read from the element.
@@ -40,5 +50,6 @@ fn can_be_read(want: Want, element: &Element) -> bool
     match want {
         Want::Show => true,
         Want::Cat => element.kind.is_file(),
+        Want::Tree | Want::Digest => true,
     }
 }

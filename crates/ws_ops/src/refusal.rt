@@ -2,6 +2,7 @@
 ghost use Rattle.std.specs.Prelude.{◌≡◌, IfOk};
 ghost use Rattle.ws_ops.specs.Refusals.{refusal_number};
 
+use mark_set::ValueCause;
 use proj_desc::DescCause;
 use res_path::{NoMemory, Path};
 use std::alloc::{AllocError, AllocFailed};
@@ -25,8 +26,14 @@ pub enum OpRefusal {
     ProjectClosed(Path),
     /// The workspace would have more than 1,048,576 elements.
     TreeFull,
-    /// A number would pass 2^63 - 1.
+    /// A number would pass 2^63 - 1, or the synchronisation partners would be more than 2^32 - 1.
     NumbersUsed,
+    /// No synchronisation partner of this name is registered.
+    PartnerUnknown,
+    /// No marker of the resource has this id.
+    MarkerUnknown(u64),
+    /// A type, a name or a text of a marker is past its limits.
+    BadValue(ValueCause),
     /// A resource would come to stand in itself.
     IntoItself,
     /// The text is no description of the project.
@@ -35,7 +42,7 @@ pub enum OpRefusal {
 
 impl OpRefusal {
     /// The refusal's number: 2 and 3 for paths past the limits, 10 to 14 in the order of the next five, 17 for a full
-    /// tree, 18 for used numbers, 24 for a move into itself, 25 for a bad description.
+    /// tree, 18 for used numbers, 21 to 23 in the order of the next three, 24 for a move into itself, 25 for a bad description.
     pub fn number(&self) -> u8
         ensures { result ≡ refusal_number self.now }
     {
@@ -49,6 +56,9 @@ impl OpRefusal {
             OpRefusal::ProjectClosed(_) => 14,
             OpRefusal::TreeFull => 17,
             OpRefusal::NumbersUsed => 18,
+            OpRefusal::PartnerUnknown => 21,
+            OpRefusal::MarkerUnknown(_) => 22,
+            OpRefusal::BadValue(_) => 23,
             OpRefusal::IntoItself => 24,
             OpRefusal::BadDescription(_) => 25,
         }

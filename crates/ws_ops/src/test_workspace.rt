@@ -1,12 +1,13 @@
 //! A workspace for tests, in which operations, answers and resources are texts.
-ghost use Rattle.std.specs.Prelude.{◌≡◌, ◌≤◌, IfOk};
+ghost use Rattle.std.specs.Prelude.{◌≡◌, ◌≤◌, IfOk, IsOkAnd};
 ghost use Rattle.ws_ops.specs.Backs.{HasWay};
 ghost use Rattle.ws_ops.specs.Resources.{resources};
 ghost use Rattle.ws_ops.specs.Sound.{IsSound};
 
+use crate::note_words::{cause_text, cut, on_notes, put_notes};
 use crate::{Applied, Back, Op, OpAnswer, OpError, OpRefusal, Side, Want, apply, take_back};
 use bytes::Bytes;
-use res_path::Path;
+use res_path::{Name, Path};
 use std::alloc::Global;
 use std::process::Abort;
 use std::test::Fail;
@@ -17,11 +18,6 @@ pub type Case<'a> = (&'a str, &'a str, &'a str);
 
 /// The text of the empty description, which a listing shows as `plain`.
 const PLAIN: &str = "{\"commands\":[],\"references\":[]}";
-
-/// The text up to the first blank, and what follows it.
-fn cut(text: &str) -> (&str, &str) {
-    text.split_once(' ').unwrap_or((text, ""))
-}
 
 fn path(alloc: Global, text: &str) -> Result<Path, Fail> {
     Ok(Path::parse(alloc, text)?)
@@ -67,11 +63,17 @@ fn between(word: &str, from: Path, to: Path) -> Option<Op> {
 pub fn operation(alloc: Global, text: &str) -> Result<Op, Fail> {
     let (word, rest) = cut(text);
     let (first, more) = cut(rest);
+    if word == "partner" {
+        return Ok(Op::Partner(Name::parse(alloc, first)?));
+    }
     let at = path(alloc, first)?;
     let found = match word {
         "move" | "copy" => between(word, at, path(alloc, more)?),
         "file" | "write" | "describe" => {
             with_text(word, at, Bytes::copy_from_slice(alloc, more.as_bytes())?)
+        }
+        "mark" | "attr" | "unmark" | "clearmarks" | "sync" | "flush" => {
+            return on_notes(alloc, word, at, more);
         }
         _ => on_path(word, at),
     };
@@ -112,7 +114,8 @@ fn put_element(
     } else {
         put_bytes(text, element.desc.as_slice())?;
     }
-    put_bytes(text, element.bytes.as_slice())
+    put_bytes(text, element.bytes.as_slice())?;
+    put_notes(alloc, text, element)
 }
 
 /// The refusal's number, and the path or the cause that it names.
@@ -125,10 +128,13 @@ fn refusal_text(alloc: Global, refusal: &OpRefusal) -> Result<String, Fail> {
         | OpRefusal::WrongKind(path)
         | OpRefusal::ProjectClosed(path) => format!(in alloc; "{number} {path}")?,
         OpRefusal::BadDescription(cause) => format!(in alloc; "{number} {cause}")?,
+        OpRefusal::MarkerUnknown(id) => format!(in alloc; "{number} {id}")?,
+        OpRefusal::BadValue(cause) => format!(in alloc; "{number} {}", cause_text(*cause))?,
         OpRefusal::TooDeep
         | OpRefusal::TooLong
         | OpRefusal::TreeFull
         | OpRefusal::NumbersUsed
+        | OpRefusal::PartnerUnknown
         | OpRefusal::IntoItself => format!(in alloc; "{number}")?,
     })
 }
@@ -137,7 +143,9 @@ fn answer_text(alloc: Global, answer: &OpAnswer) -> Result<String, Fail> {
     let mut text = String::new(alloc);
     match answer {
         OpAnswer::Done => text.push_str("done")?,
-        OpAnswer::Seen(entries) => {
+        OpAnswer::Id(id) => return Ok(format!(in alloc; "id {id}")?),
+        OpAnswer::Count(count) => return Ok(format!(in alloc; "count {count}")?),
+        OpAnswer::Seen(entries, _) => {
             for (path, element) in entries.as_slice() {
                 put_element(alloc, &mut text, path, element)?;
             }
@@ -190,7 +198,8 @@ impl Workspace {
         Ok(ws)
     }
 
-    /// The elements of the tree, those of the shelf, and the counters.
+    /// The elements of the tree, those of the shelf, the counters, of which that of markers is shown where one was drawn,
+    /// and the partners.
     pub fn listing(&self, alloc: Global) -> Result<String, Fail> {
         let mut text = String::new(alloc);
         for (path, element) in self.tree.iter() {
@@ -205,6 +214,14 @@ impl Workspace {
         let side = &self.side;
         let next = format!(in alloc; "next {} {}", side.next_node, side.next_stamp)?;
         text.push_str(next.as_str())?;
+        if side.next_marker > 1 {
+            let marker = format!(in alloc; " marker {}", side.next_marker)?;
+            text.push_str(marker.as_str())?;
+        }
+        for partner in side.partners.as_slice() {
+            text.push(' ')?;
+            text.push_str(partner.text())?;
+        }
         Ok(text)
     }
 
@@ -387,20 +404,6 @@ impl Workspace {
         Ok(())
     }
 
-    /// Does the operation, which isn't refused.
-    fn done<R: Abort>(&mut self, rt: &R, alloc: Global, line: &str) -> Result<Applied, Fail>
-        requires sound { IsSound (resources self.old.tree.map self.old.side) }
-        ensures sound { IsSound (resources self.new.tree.map self.new.side) }
-        ensures back { IfOk result (λ done. HasWay done.back self.new.tree.room self.new.side.shelf.room
-            (resources self.new.tree.map self.new.side) (resources self.old.tree.map self.old.side)) }
-    {
-        let op = operation(alloc, line)?;
-        match self.apply(rt, alloc, &op)? {
-            Ok(done) => Ok(done),
-            Err(_) => Err(Fail::new("it isn't done")),
-        }
-    }
-
     /// Does the operation, and gives the way back.
     fn way_back<R: Abort>(&mut self, rt: &R, alloc: Global, line: &str) -> Result<Back, Fail>
         requires sound { IsSound (resources self.old.tree.map self.old.side) }
@@ -408,8 +411,19 @@ impl Workspace {
         ensures back { IfOk result (λ back. HasWay back self.new.tree.room self.new.side.shelf.room
             (resources self.new.tree.map self.new.side) (resources self.old.tree.map self.old.side)) }
     {
-        let done = self.done(rt, alloc, line)?;
-        Ok(back_of(done))
+        let op = operation(alloc, line)?;
+        let back = self.way_back_of(rt, alloc, &op);
+        let_go(op, back)
+    }
+
+    fn way_back_of<R: Abort>(&mut self, rt: &R, alloc: Global, op: &Op) -> Result<Back, Fail>
+        requires sound { IsSound (resources self.old.tree.map self.old.side) }
+        ensures sound { IsSound (resources self.new.tree.map self.new.side) }
+        ensures back { IfOk result (λ back. HasWay back self.new.tree.room self.new.side.shelf.room
+            (resources self.new.tree.map self.new.side) (resources self.old.tree.map self.old.side)) }
+    {
+        let outcome = self.apply(rt, alloc, op)?;
+        back_of(outcome)
     }
 
     /// Does the operation and takes it back, after which there is what there was.
@@ -422,6 +436,22 @@ impl Workspace {
         take_back(&mut self.tree, &mut self.side, back);
         self.drop_room();
         self.is_as(rt, alloc, before.as_str(), line)
+    }
+
+    /// Does each operation, and takes it back.
+    pub fn each_goes_back<R: Abort>(
+        &mut self,
+        rt: &R,
+        alloc: Global,
+        lines: &[&str],
+    ) -> Result<(), Fail>
+        requires sound { IsSound (resources self.old.tree.map self.old.side) }
+        ensures sound { IsSound (resources self.new.tree.map self.new.side) }
+    {
+        for line in lines {
+            self.goes_back(rt, alloc, *line)?;
+        }
+        Ok(())
     }
 
     /// Does each operation, takes it back, and does it again.
@@ -481,9 +511,19 @@ impl Workspace {
 }
 
 /// The way back of what was done.
-fn back_of(done: Applied) -> Back
-    ensures { result ≡ done.back }
+fn back_of(outcome: Result<Applied, OpError>) -> Result<Back, Fail>
+    ensures { IfOk result (λ back. IsOkAnd outcome (λ done. back ≡ done.back)) }
 {
-    let Applied { answer: _, back } = done;
+    match outcome {
+        Ok(Applied { answer: _, back }) => Ok(back),
+        Err(_) => Err(Fail::new("it isn't done")),
+    }
+}
+
+/// The way back, without the operation that it takes back.
+fn let_go(op: Op, back: Result<Back, Fail>) -> Result<Back, Fail>
+    ensures { result ≡ back }
+{
+    let _ = op;
     back
 }

@@ -274,19 +274,28 @@ fn stamp_after(stamp: u64, element: &Element) -> u64
     if has_stamp(element) { stamp + 1 } else { stamp }
 }
 
-/// The element with this node, and with this stamp for its contents or its description.
+/// The element with this node, and with this stamp for its contents or its description, without markers and
+/// synchronisation bytes.
 fn renumbered(element: &Element, node: u64, stamp: u64) -> Result<Element, NoMemory>
     ensures { IfOk result (λ e. e ≡ renumbered node stamp element.now) }
 {
-    let mut element = element.copy()?;
-    element.node = node;
-    if element.kind.is_file() {
-        element.stamp = stamp;
-    }
-    if element.kind.is_project() {
-        element.desc_stamp = stamp;
-    }
-    Ok(element)
+    Ok(Element {
+        opened: element.opened,
+        derived: element.derived,
+        stamp: if element.kind.is_file() {
+            stamp
+        } else {
+            element.stamp
+        },
+        desc_stamp: if element.kind.is_project() {
+            stamp
+        } else {
+            element.desc_stamp
+        },
+        desc: element.desc.clone()?,
+        bytes: element.bytes.clone()?,
+        ..Element::bare(element.kind, node)
+    })
 }
 
 /// Refused where the element is a project whose description doesn't fit a project of the name that `to` has.

@@ -1,5 +1,5 @@
 -- Calls that are made one after another, and passes that stay.
-use Rattle.std.proofs.Common.{◌≡◌, ℕ, Bool, true, false, ◌||◌, ◌==◌, List, [], ◌∷◌, ◌++◌, map, Option, Some, None, refl, sym, ◌∙◌, ap, subst, append_assoc, append-nil, ◌+◌, ◌<◌, length, drop, slice_index_or}
+use Rattle.std.proofs.Common.{◌≡◌, ℕ, Bool, true, false, if◌then◌else◌, ◌||◌, ◌==◌, List, [], ◌∷◌, ◌++◌, map, Option, Some, None, refl, sym, ◌∙◌, ap, subst, append_assoc, append-nil, ◌+◌, ◌<◌, length, drop, slice_index_or}
 use Rattle.std.specs.List.{flat_map}
 use Rattle.ws_top.proofs.Dropped.{dropped}
 use Rattle.std.proofs.lemmas.Bool.{false≢true, true≢false}
@@ -7,13 +7,15 @@ use Rattle.script_lang.specs.declared.script.Command.{Command}
 use Rattle.script_lang.specs.declared.script.Command.TheVariants as commands
 use Rattle.script_lang.specs.declared.script.Phase.{Phase}
 use Rattle.ws_core.specs.declared.event.Event.{Event}
-use Rattle.ws_core.specs.declared.event.Event.TheVariants.{Enter, Leave, Schedule, Take, Finish, Batch, EndBatch, Checkpoint, Operation}
+use Rattle.ws_core.specs.declared.event.Event.TheVariants.{Enter, Leave, Schedule, Take, Finish, Begin, TryBegin, End, Batch, EndBatch, Checkpoint, Operation}
 use Rattle.ws_core.specs.declared.history.Entry.{Entry}
 use Rattle.ws_core.specs.declared.reply.Answer.{Answer}
+use Rattle.ws_core.specs.declared.reply.Answer.TheVariants as answers
 use Rattle.ws_core.specs.declared.reply.Refusal.{Refusal}
 use Rattle.ws_core.specs.declared.state.State.{State}
 use Rattle.ws_core.specs.Events.{is_leave}
-use Rattle.ws_core.specs.Effects.{effect}
+use Rattle.ws_core.specs.Effects.{effect, take, run, may_run}
+use Rattle.ws_core.specs.declared.waiting.Waiting.{Waiting}
 use Rattle.ws_core.specs.Sessions.{Session}
 use Rattle.ws_core.specs.Histories.{has_entered, fresh}
 use Rattle.ws_core.specs.Numbers.{has_number}
@@ -33,12 +35,24 @@ told_stays : (b : Bool) (s : State) (answer : Answer) → (told b s answer).0.pa
 told_stays true s answer = refl
 told_stays false s answer = refl
 
+run_or_not : (b : Bool) (s : State) (q : ℕ) (job : Waiting) → (if b then run s q job else (s, answers.None)).0.passes ≡ s.passes
+run_or_not true s q job = refl
+run_or_not false s q job = refl
+
+-- a job that is taken leaves each pass
+take_stays : (s : State) (q : ℕ) (job : Option Waiting) → (take s q job).0.passes ≡ s.passes
+take_stays s q None = refl
+take_stays s q (Some job) = run_or_not (may_run s q job) s q job
+
 effect_stays : (s : State) (q : ℕ) (e : Event) → is_leave e ≡ false → Stay s (effect s q e).0
 effect_stays s q Enter n p h = has_append p s.passes (s.next_pass ∷ []) h
 effect_stays s q Leave n p h = absurd (true≢false n)
-effect_stays s q (Schedule name priority) n p h = h
-effect_stays s q Take n p h = h
+effect_stays s q (Schedule name priority rule) n p h = h
+effect_stays s q Take n p h = subst (λ (passes : List ℕ). has_number p passes ≡ true) (sym (take_stays s q s.waiting)) h
 effect_stays s q Finish n p h = h
+effect_stays s q (Begin rule) n p h = h
+effect_stays s q (TryBegin rule) n p h = h
+effect_stays s q (End rule) n p h = h
 effect_stays s q Batch n p h = h
 effect_stays s q EndBatch n p h = h
 effect_stays s q Checkpoint n p h = h
@@ -138,6 +152,9 @@ command_stays e c h = ap is_leave h ∙ by c
     by commands.Batch = refl
     by commands.EndBatch = refl
     by commands.Checkpoint = refl
+    by (commands.Begin rule) = refl
+    by (commands.TryBegin rule) = refl
+    by (commands.End rule) = refl
 
 -- the fresh workspace with one pass more has the passes 0 and 1
 pub first_entered : (s t : State) → s ≡ fresh → t ≡ (step s 0 Enter).0 → has_entered 1 t ≡ true

@@ -1,39 +1,45 @@
 -- The lines of a history's entries.
-use Rattle.std.specs.Prelude.{ℕ, Bool, true, false, if◌then◌else◌, List, [], ◌∷◌, ◌++◌, length, codes, decimal}
-use Rattle.res_path.specs.Paths.{Names, path_text}
-use Rattle.ws_elem.specs.Kinds.{kind_word}
+use Rattle.std.specs.Prelude.{ℕ, Bool, true, false, List, [], ◌∷◌, ◌++◌, length, codes, decimal}
+use Rattle.std.specs.List.{flat_map}
+use Rattle.res_path.specs.Paths.{Names}
+use Rattle.mark_set.specs.declared.error.ValueCause.{ValueCause}
+use Rattle.mark_set.specs.declared.error.ValueCause.TheVariants.{EmptyName, LongName, LongText}
 use Rattle.ws_elem.specs.declared.element.Element.{Element}
 use Rattle.proj_desc.specs.Words.{cause_words}
 use Rattle.proj_desc.specs.declared.cause.DescCause.{DescCause}
 use Rattle.proj_desc.specs.declared.cause.DescCause.TheVariants.{Member, Double}
 use Rattle.ws_ops.specs.Entries.{Entries}
+use Rattle.ws_ops.specs.Partners.{Partners}
 use Rattle.ws_ops.specs.declared.op.Op.TheVariants.{Read}
 use Rattle.ws_ops.specs.declared.op.Want.{Want}
-use Rattle.ws_ops.specs.declared.op.Want.TheVariants.{Show, Cat}
+use Rattle.ws_ops.specs.declared.op.Want.TheVariants.{Show, Cat, Tree, Digest}
 use Rattle.ws_ops.specs.declared.refusal.OpRefusal.{OpRefusal}
 use Rattle.ws_ops.specs.declared.refusal.OpRefusal.TheVariants as ops
 use Rattle.script_lang.specs.Words.{word_text}
+use Rattle.report_text.specs.Words.{path_word}
+use Rattle.report_text.specs.Elements.{shown_text}
+use Rattle.report_text.specs.Rules.{rule_words}
+use Rattle.report_text.specs.Trees.{digest_text}
 use Rattle.script_lang.specs.Scripts.{operation_text}
 use Rattle.ws_core.specs.declared.event.Event.{Event}
-use Rattle.ws_core.specs.declared.event.Event.TheVariants.{Enter, Leave, Schedule, Take, Finish, Batch, EndBatch, Checkpoint, Operation}
+use Rattle.ws_core.specs.declared.event.Event.TheVariants.{Enter, Leave, Schedule, Take, Finish, Begin, TryBegin, End, Batch, EndBatch, Checkpoint, Operation}
 use Rattle.ws_core.specs.declared.reply.Refusal.{Refusal}
 use Rattle.ws_core.specs.declared.reply.Refusal.TheVariants as refusals
 use Rattle.ws_core.specs.declared.reply.Answer.{Answer}
 use Rattle.ws_core.specs.declared.reply.Answer.TheVariants as answers
-use Rattle.ws_core.specs.declared.reply.Answer.TheVariants.{Done, Id, Job, Seen, Refused}
+use Rattle.ws_core.specs.declared.reply.Answer.TheVariants.{Done, Id, Count, Job, Seen, Refused}
 use Rattle.ws_core.specs.declared.history.Entry.{Entry}
-
--- a path as a word
-abbrev pub path_word : Names → List ℕ
-path_word p = word_text (path_text p)
 
 -- the command of a script that the event is, or what stands for it
 abbrev pub event_text : Event → List ℕ
 event_text Enter = codes "enter"
 event_text Leave = codes "leave"
-event_text (Schedule name priority) = codes "schedule " ++ word_text name ++ codes " " ++ decimal priority ++ codes " path /"
+event_text (Schedule name priority rule) = codes "schedule " ++ word_text name ++ codes " " ++ decimal priority ++ codes " " ++ rule_words rule
 event_text Take = codes "take"
 event_text Finish = codes "finish"
+event_text (Begin rule) = codes "begin " ++ rule_words rule
+event_text (TryBegin rule) = codes "trybegin " ++ rule_words rule
+event_text (End rule) = codes "end " ++ rule_words rule
 event_text Batch = codes "batch"
 event_text EndBatch = codes "endbatch"
 event_text Checkpoint = codes "checkpoint"
@@ -45,7 +51,13 @@ cause_text (Member name) = codes "member " ++ word_text name
 cause_text (Double name) = codes "double " ++ word_text name
 cause_text cause = cause_words cause
 
--- the number of an operation's refusal, and the path or the cause that it names
+-- the number of a bad value's refusal, and its cause
+abbrev pub value_words : ValueCause → List ℕ
+value_words EmptyName = codes "23 empty-name"
+value_words LongName = codes "23 long-name"
+value_words LongText = codes "23 long-text"
+
+-- the number of an operation's refusal, and the path, the id or the cause that it names
 abbrev pub operation_refusal_text : OpRefusal → List ℕ
 operation_refusal_text ops.TooDeep = codes "2"
 operation_refusal_text ops.TooLong = codes "3"
@@ -56,55 +68,61 @@ operation_refusal_text (ops.WrongKind p) = codes "13 " ++ path_word p
 operation_refusal_text (ops.ProjectClosed p) = codes "14 " ++ path_word p
 operation_refusal_text ops.TreeFull = codes "17"
 operation_refusal_text ops.NumbersUsed = codes "18"
+operation_refusal_text ops.PartnerUnknown = codes "21"
+operation_refusal_text (ops.MarkerUnknown id) = codes "22 " ++ decimal id
+operation_refusal_text (ops.BadValue cause) = value_words cause
 operation_refusal_text ops.IntoItself = codes "24"
 operation_refusal_text (ops.BadDescription cause) = codes "25 " ++ cause_text cause
 
 abbrev pub refusal_text : Refusal → List ℕ
 refusal_text (refusals.Operation refusal) = operation_refusal_text refusal
+refusal_text (refusals.NotContained outer) = codes "15 " ++ rule_words outer
 refusal_text refusals.NumbersUsed = codes "18"
+refusal_text (refusals.NotLast held) = codes "19 " ++ decimal held
+refusal_text refusals.HoldsNothing = codes "20"
+refusal_text (refusals.Conflict holder rule) = codes "30 " ++ decimal holder ++ codes " " ++ rule_words rule
 refusal_text refusals.NoBatch = codes "44"
 
-abbrev pub switch : Bool → List ℕ
-switch on = if on then codes "on" else codes "off"
+-- the text of the first element, if there is one
+abbrev pub first_text : (Element → List ℕ) → Entries → List ℕ
+first_text text [] = []
+first_text text (e ∷ es) = text e.1
 
--- an element's kind, its node, and its contents' stamp and length
-abbrev pub contents_text : Element → List ℕ
-contents_text e = kind_word e.kind ++ codes " node " ++ decimal e.node ++ codes " stamp " ++ decimal e.stamp ++ codes " len " ++ decimal (length e.bytes)
+abbrev pub contents_word : Element → List ℕ
+contents_word e = word_text e.bytes
 
--- whether it is derived, and whether it is open
-abbrev pub switches_text : Element → List ℕ
-switches_text e = codes " derived " ++ switch e.derived ++ codes " open " ++ switch e.opened
+-- on a line of its own an element's path, and what is shown of it
+abbrev pub place_text : Partners → Names × Element → List ℕ
+place_text partners e = codes "\n  " ++ path_word e.0 ++ codes " " ++ shown_text partners e.1
 
--- its description's stamp; no element has markers or synchronisation bytes yet
-abbrev pub description_text : Element → List ℕ
-description_text e = codes " desc " ++ decimal e.desc_stamp ++ codes " marks " ++ decimal 0 ++ codes " syncs " ++ decimal 0
+-- how many elements there are, and each of them
+abbrev pub elements_text : Partners → Entries → List ℕ
+elements_text partners es = decimal (length es) ++ codes " elements" ++ flat_map (place_text partners) es
 
--- what was asked of an element
-abbrev pub seen_text : Want → Element → List ℕ
-seen_text Show e = contents_text e ++ switches_text e ++ description_text e
-seen_text Cat e = word_text e.bytes
+-- what was read at a path, where the partners have these names
+abbrev pub read_text : Want → Names → Entries → Partners → List ℕ
+read_text Show p es partners = first_text (shown_text partners) es
+read_text Cat p es partners = first_text contents_word es
+read_text Tree p es partners = elements_text partners es
+read_text Digest p es partners = digest_text p es
 
--- what was asked of the one element at a path
-abbrev pub entries_text : Want → Entries → List ℕ
-entries_text want [] = []
-entries_text want (e ∷ es) = seen_text want e.1
+-- what the event read
+abbrev pub seen_text : Event → Entries → Partners → List ℕ
+seen_text (Operation (Read p want)) es partners = read_text want p es partners
+seen_text event es partners = []
 
--- what a reading asks
-abbrev pub want_of : Event → Want
-want_of (Operation (Read p want)) = want
-want_of event = Show
-
-abbrev pub answer_text : Want → Answer → List ℕ
-answer_text want Done = codes "ok"
-answer_text want (Id n) = codes "id " ++ decimal n
-answer_text want answers.None = codes "none"
-answer_text want (Job name) = word_text name
-answer_text want (Seen entries) = entries_text want entries
-answer_text want (Refused refusal) = codes "refused " ++ refusal_text refusal
+abbrev pub answer_text : Event → Answer → List ℕ
+answer_text event Done = codes "ok"
+answer_text event (Id n) = codes "id " ++ decimal n
+answer_text event (Count n) = codes "count " ++ decimal n
+answer_text event answers.None = codes "none"
+answer_text event (Job name) = word_text name
+answer_text event (Seen es partners) = seen_text event es partners
+answer_text event (Refused refusal) = codes "refused " ++ refusal_text refusal
 
 -- the pass, what it asked, and what it was answered
 abbrev pub entry_line : Entry → List ℕ
-entry_line x = codes "p" ++ decimal x.pass ++ codes " " ++ event_text x.event ++ codes " -> " ++ answer_text (want_of x.event) x.reply.answer ++ codes "\n"
+entry_line x = codes "p" ++ decimal x.pass ++ codes " " ++ event_text x.event ++ codes " -> " ++ answer_text x.event x.reply.answer ++ codes "\n"
 
 -- a pass's entering and leaving are not shown
 abbrev pub is_shown : Event → Bool

@@ -7,7 +7,7 @@ use Rattle.script_lang.specs.declared.script.Job.{Job}
 use Rattle.script_lang.specs.declared.script.Phase.{Phase}
 use Rattle.script_lang.specs.Commands.{priority_number}
 use Rattle.ws_core.specs.declared.event.Event.{Event}
-use Rattle.ws_core.specs.declared.event.Event.TheVariants.{Enter, Leave, Schedule, Take, Finish, Batch, EndBatch, Checkpoint, Operation}
+use Rattle.ws_core.specs.declared.event.Event.TheVariants.{Enter, Leave, Schedule, Take, Finish, Begin, TryBegin, End, Batch, EndBatch, Checkpoint, Operation}
 use Rattle.ws_core.specs.declared.history.Entry.{Entry}
 use Rattle.ws_core.specs.declared.state.State.{State}
 use Rattle.ws_core.specs.Histories.{has_entered}
@@ -24,14 +24,20 @@ event_of (commands.Operation op) = Operation op
 event_of commands.Batch = Batch
 event_of commands.EndBatch = EndBatch
 event_of commands.Checkpoint = Checkpoint
+event_of (commands.Begin rule) = Begin rule
+event_of (commands.TryBegin rule) = TryBegin rule
+event_of (commands.End rule) = End rule
 
 -- the worker, pass 1, asks what a command says
 abbrev pub command_call : Command → Call
 command_call command = (1, event_of command)
 
+abbrev pub schedule_event : Job → Event
+schedule_event job = Schedule job.name (priority_number job.priority) job.rule
+
 -- pass 0 schedules a job
 abbrev pub schedule_call : Job → Call
-schedule_call job = (0, Schedule job.name (priority_number job.priority))
+schedule_call job = (0, schedule_event job)
 
 -- the worker takes a job, does its commands in order and finishes
 abbrev pub job_calls : Job → List Call

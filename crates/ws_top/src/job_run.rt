@@ -3,7 +3,7 @@ ghost use Rattle.std.specs.Prelude.{◌≡◌, ◌∷◌, [], map, true, false, 
 ghost use Rattle.std.specs.List.{flat_map};
 ghost use Rattle.ws_core.specs.Events.{is_leave};
 ghost use Rattle.ws_core.specs.Histories.{has_entered, fresh};
-ghost use Rattle.ws_top.specs.Runs.{Asks, AsksFront, Stay, event_of, command_call, schedule_call, job_calls, phase_calls, calls};
+ghost use Rattle.ws_top.specs.Runs.{Asks, AsksFront, Stay, event_of, command_call, schedule_event, schedule_call, job_calls, phase_calls, calls};
 
 use crate::NoMemory;
 use script_lang::{Command, Job, Phase, Script};
@@ -19,6 +19,9 @@ fn event_of(command: &Command) -> Result<Event, NoMemory>
         Command::Batch => Ok(Event::Batch),
         Command::EndBatch => Ok(Event::EndBatch),
         Command::Checkpoint => Ok(Event::Checkpoint),
+        Command::Begin(rule) => Ok(Event::Begin(rule.copy()?)),
+        Command::TryBegin(rule) => Ok(Event::TryBegin(rule.copy()?)),
+        Command::End(rule) => Ok(Event::End(rule.copy()?)),
     }
 }
 
@@ -53,6 +56,15 @@ fn do_command(core: &mut Core, alloc: Global, command: &Command) -> Result<(), N
     }
 }
 
+/// What schedules the job.
+fn schedule_of(job: &Job) -> Result<Event, NoMemory>
+    ensures { IfOk result (λ event. event ≡ schedule_event job.now) }
+{
+    let name = job.name.copy()?;
+    let rule = job.rule.copy()?;
+    Ok(Event::Schedule(name, job.priority.number(), rule))
+}
+
 /// Pass 0 schedules the job.
 #[tactic(auto, using(crate::proofs::Stays::front_here))]
 fn schedule_one(core: &mut Core, alloc: Global, job: &Job) -> Result<(), NoMemory>
@@ -62,8 +74,8 @@ fn schedule_one(core: &mut Core, alloc: Global, job: &Job) -> Result<(), NoMemor
     ensures front { OnErr result (AsksFront core.old.history core.new.history (schedule_call job.now ∷ [])) }
     ensures stays { OnOk result (Stay core.old.state core.new.state) }
 {
-    match job.name.copy() {
-        Ok(name) => ask(core, alloc, 0, Event::Schedule(name, job.priority.number())),
+    match schedule_of(job) {
+        Ok(event) => ask(core, alloc, 0, event),
         Err(error) => Err(error),
     }
 }

@@ -4,20 +4,16 @@
 //! - `words`: the forms of words that the program takes.
 //! - `reading`: a source is read to its end.
 //! - `job_run`: a script is run by one worker, event by event.
-//! - `gathering`: texts, numbers and words are gathered.
-//! - `report_text`: the lines of a history's entries.
-//! - `delta_text`: the lines of a delta.
+//! - `reply_text`: the lines of a history's entries.
 //! - `printing`: the report of a run is written, gathered in pieces.
 //! - `writing`: bytes are written to a sink, all of them.
 #![tactic(auto)]
 
-mod delta_text;
-mod gathering;
 mod job_run;
 mod printing;
 mod program;
 mod reading;
-mod report_text;
+mod reply_text;
 #[cfg(test)]
 mod spoilt_tests;
 #[cfg(test)]

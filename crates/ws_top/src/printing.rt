@@ -4,16 +4,16 @@ ghost use Rattle.std.specs.Option.{option_copied};
 ghost use Rattle.ws_outside.specs.Faults.{Rose};
 ghost use Rattle.ws_outside.specs.Streams.{Gains, GainsFront};
 ghost use Rattle.delta_kind.specs.Deltas.{delta};
+ghost use Rattle.report_text.specs.Deltas.{node_lines, delta_lines};
 ghost use Rattle.ws_core.specs.Histories.{replay};
 ghost use Rattle.ws_top.specs.Printing.{Prints, PrintsSome};
 ghost use Rattle.ws_top.specs.Replies.{entry_line};
-ghost use Rattle.ws_top.specs.Texts.{node_line, delta_lines, notice_lines, entry_lines, history_lines, report_from};
+ghost use Rattle.ws_top.specs.Texts.{notice_lines, entry_lines, history_lines, report_from};
 
-use crate::delta_text::put_node;
-use crate::gathering::put_text;
-use crate::report_text::{is_shown, put_line};
+use crate::reply_text::{is_shown, put_line};
 use crate::writing::{Unwritten, write_waiting};
 use delta_kind::{Delta, DeltaNode};
+use report_text::{put_node, put_text};
 use std::alloc::Global;
 use ws_core::{Core, Entry};
 use ws_outside::Sink;
@@ -54,11 +54,11 @@ fn print_text<K: Sink>(sink: &mut K, out: &mut Vec<u8>, text: &str) -> Result<()
     }
 }
 
-/// Prints the line of a node.
+/// Prints the lines of a node.
 #[tactic(auto, using(crate::proofs::Printed::some_none, crate::proofs::Printed::prints_after, crate::proofs::Printed::some_after))]
 fn print_node<K: Sink>(sink: &mut K, out: &mut Vec<u8>, node: &DeltaNode) -> Result<(), Unwritten>
-    ensures printed { OnOk result (Prints (K.written sink.old) (K.written sink.new) out.old.items (node_line node.now) out.new.items) }
-    ensures some { OnErr result (PrintsSome (K.written sink.old) (K.written sink.new) out.old.items (node_line node.now)) }
+    ensures printed { OnOk result (Prints (K.written sink.old) (K.written sink.new) out.old.items (node_lines node.now) out.new.items) }
+    ensures some { OnErr result (PrintsSome (K.written sink.old) (K.written sink.new) out.old.items (node_lines node.now)) }
     ensures fault { result ≡ Err Unwritten.Fault → Rose (K.faults sink.old) (K.faults sink.new) }
     ensures calm { OnOk result (K.faults sink.new ≡ K.faults sink.old) }
 {

@@ -14,7 +14,7 @@ use crate::NoMemory;
 use crate::job_run::run_phases;
 use crate::printing::write_report;
 use crate::reading::{Unread, read_all};
-use crate::report_text::put_bad_line;
+use crate::reply_text::put_bad_line;
 use crate::words::{self, Form};
 use crate::writing::{Unwritten, write_all};
 use bytes::Bytes;

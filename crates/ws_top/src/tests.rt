@@ -1,8 +1,5 @@
 //! Runs in memory, by examples worked by hand.
-use crate::delta_text::put_node;
 use crate::{Outcome, top};
-use delta_kind::{CHANGED, DeltaNode, Place};
-use res_path::Path;
 use std::alloc::Global;
 use std::test::Fail;
 use ws_outside::{MemSink, MemSource};
@@ -123,54 +120,55 @@ fn help_and_version_are_forms(rt: HostRuntime) -> Result<(), Fail> {
     Ok(())
 }
 
-/// The line of a node at `/P/a` with these flags and places.
-fn line(alloc: Global, flags: u32, from: &str, to: &str) -> Result<String, Fail> {
-    let node = DeltaNode {
-        path: Path::parse(alloc, "/P/a")?,
-        kind: CHANGED,
-        flags,
-        moved_from: place(alloc, from)?,
-        moved_to: place(alloc, to)?,
-    };
-    let mut out = Vec::new(alloc);
-    put_node(&mut out, &node)?;
+/// Runs the script, and gives its status.
+fn ended(alloc: Global, script: &str, sink: &mut MemSink) -> Result<u8, Fail> {
+    let mut source = source_of(alloc, script)?;
+    let outcome = run(alloc, &mut source, sink)?;
+    Ok(outcome.status)
+}
+
+fn text_of(alloc: Global, bytes: &[u8]) -> Result<String, Fail> {
     let mut text = String::new(alloc);
-    for byte in out {
-        text.push(char::from(byte))?;
+    for byte in bytes {
+        text.push(char::from(*byte))?;
     }
     Ok(text)
 }
 
-fn place(alloc: Global, text: &str) -> Result<Place, Fail> {
-    if text.is_empty() {
-        return Ok(Place::none());
-    }
-    Ok(Place::of(alloc, Some(Path::parse(alloc, text)?))?)
+/// The text of the run of a script whose job has this rule and these commands.
+fn ran(alloc: Global, rule: &str, commands: &str) -> Result<String, Fail> {
+    let script = format!(in alloc; "phase\njob j 30 {rule}\n{commands}endjob\nendphase\n")?;
+    let mut sink = sink_of(alloc)?;
+    ended(alloc, script.as_str(), &mut sink)?;
+    text_of(alloc, sink.written())
 }
 
 #[test]
-fn a_line_names_the_flags_in_the_order_of_their_numbers(rt: HostRuntime) -> Result<(), Fail> {
+fn a_rule_is_begun_within_the_one_that_is_held(rt: HostRuntime) -> Result<(), Fail> {
     let alloc = rt.alloc();
-    for (flags, from, to, wanted) in [
-        (0, "", "", "  /P/a *\n"),
-        (0x100, "", "", "  /P/a * CONTENT\n"),
-        (0x4_8000, "", "", "  /P/a * TYPE REPLACED\n"),
-        (
-            0x4_3100,
-            "/P/b",
-            "/P/b",
-            "  /P/a * CONTENT MOVED_FROM=/P/b MOVED_TO=/P/b REPLACED\n",
-        ),
-        (0x40_0000, "", "", "  /P/a * DERIVED_CHANGED\n"),
-        (
-            0x4c_f100,
-            "/P/b",
-            "/c",
-            "  /P/a * CONTENT MOVED_FROM=/P/b MOVED_TO=/c OPEN TYPE REPLACED DESCRIPTION DERIVED_CHANGED\n",
-        ),
-    ] {
-        let shown = line(alloc, flags, from, to)?;
-        assert_eq!(rt; shown.as_str(), wanted);
-    }
+    let text = ran(
+        alloc,
+        "path /P path /R",
+        "begin path /Q\ntrybegin path /P/a path /R/b\nend path /P path /R\n",
+    )?;
+    assert_eq!(rt;
+        text.as_str(),
+        "p0 schedule j 30 path /P path /R -> ok\np1 take -> j\np1 begin path /Q -> refused 15 path /P path /R\np1 trybegin path /P/a path /R/b -> ok\np1 end path /P path /R -> refused 19 2\np1 finish -> ok\nsince start\nstatus 0\n"
+    );
+    Ok(())
+}
+
+#[test]
+fn a_marker_has_an_id_and_is_told(rt: HostRuntime) -> Result<(), Fail> {
+    let alloc = rt.alloc();
+    let text = ran(
+        alloc,
+        "path /",
+        "create project /P\nmark /P t n int -2\nattr /P 9 n none\nshow /P\n",
+    )?;
+    assert_eq!(rt;
+        text.as_str(),
+        "p0 schedule j 30 path / -> ok\np1 take -> j\np1 create project /P -> ok\nnotice\n  / *\n  /P + OPEN\np1 mark /P t n int -2 -> id 1\nnotice\n  / *\n  /P * MARKERS\n    marker 1 + t\np1 attr /P 9 n none -> refused 22 9\np1 show /P -> project node 2 stamp 0 len 0 derived off open on desc 1 marks 1 syncs 0\n  mark 1 t n int -2\np1 finish -> ok\nsince start\n  / *\n  /P + OPEN MARKERS\n    marker 1 + t\nstatus 0\n"
+    );
     Ok(())
 }

@@ -1,7 +1,5 @@
-use Rattle.std.proofs.Common.{arith}
-use Rattle.script_lang.proofs.Coded.{line_size}
+use Rattle.script_lang.proofs.Begun.{no_verb}
 use Rattle.script_lang.proofs.command.line_of.Goals as goal
 
-pub returns-in_default : goal.returns-in_default
-returns-in_default c = λ line h.
-    let size = line_size c.args.tokens.now line h in omega (arith, size.few, c.in_default.len_at_least)
+pub returns-in-None : goal.returns-in-None
+returns-in-None c = no_verb c.args.tokens.now c.first-item.result c.first-item.is c.in-len1-up.len_at_least (rw c.in-None.is at c.verb_of.ensures)

@@ -1,7 +1,7 @@
 use Rattle.std.proofs.Common.{take, subst}
 use Rattle.std.specs.List.{AllByRecursion}
-use Rattle.script_lang.specs.Commands.{command_parts}
-use Rattle.script_lang.specs.Printed.{AreParts}
+use Rattle.script_lang.specs.declared.line.Line.TheVariants.{InJob}
+use Rattle.script_lang.specs.Printed.{IsLine}
 use Rattle.script_lang.proofs.Texts.{whole_taken, job_built, job_parts}
 use Rattle.script_lang.proofs.printing.put_job.Goals as goal
 
@@ -10,11 +10,11 @@ returns-clause-text c =
     job_built c.args.out.now.items c.put_head.new.out.items c.loop-command.out.items c.put.new.out.items c.args.job.now
     (take c.loop-command.command-index c.as_slice-command-items.result.now) c.in_ok-put_head.ensures.text c.loop-command.invariant.text
     (whole_taken c.loop-command.command-index c.as_slice-command-items.result.now c.args.job.now.commands c.loop-command-test.false
-    c.loop-command.auto.command-index-end c.as_slice-command-items.ensures) c.in_ok-put.ensures
+    c.loop-command.auto.command-index-end c.as_slice-command-items.ensures) c.in_ok-put.ensures.text
 
 pub returns-clause-parts : goal.returns-clause-parts
 returns-clause-parts c =
     job_parts c.args.job.now c.in_ok-put_head.ensures.parts
-    (subst (AllByRecursion (λ command. AreParts (command_parts command)))
+    (subst (AllByRecursion (λ command. IsLine (InJob command)))
     (whole_taken c.loop-command.command-index c.as_slice-command-items.result.now c.args.job.now.commands c.loop-command-test.false
     c.loop-command.auto.command-index-end c.as_slice-command-items.ensures) c.loop-command.invariant.parts)

@@ -64,6 +64,8 @@ returns g c =
       shelf = nothing.shelf;
       next_node = nothing.next_node + c.len-2.result;
       next_stamp = nothing.next_stamp + c.stamps_of_all-stamps.result;
+      next_marker = nothing.next_marker;
+      partner = nothing.partner;
       answer = nothing.answer;
     } in
     let made : c.in_ok-copies.copies ≡ copies r.next_node r.next_stamp (carried from to copied) =
@@ -74,5 +76,7 @@ returns g c =
           c.nothing-plan.ensures.shelf
           (λ i. c.nothing-plan.ensures.node i + again i)
           (λ i. c.nothing-plan.ensures.stamp i + stamps i)
+          c.nothing-plan.ensures.marker
+          c.nothing-plan.ensures.partner
           c.nothing-plan.ensures.answer,
     )

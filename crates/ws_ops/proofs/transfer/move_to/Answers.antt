@@ -10,11 +10,11 @@ pub returns : goal.returns
 returns g c =
     let r : Resources = resources (g.T.TreeRep.tree c.args.tree.now) c.args.side.now in
     let nothing = c.nothing-plan.result in
-    let plan : Plan = record { tree = c.put_all.new.self; shelf = nothing.shelf; next_node = nothing.next_node; next_stamp = nothing.next_stamp; answer = nothing.answer } in (
+    let plan : Plan = record { tree = c.put_all.new.self; shelf = nothing.shelf; next_node = nothing.next_node; next_stamp = nothing.next_stamp; next_marker = nothing.next_marker; partner = nothing.partner; answer = nothing.answer } in (
       c.in_ok-members.ensures.judged,
       move_planned r c.args.from.now c.args.to.now plan
           (c.in_ok-put_all.ensures
           ∙ (λ i. c.in_ok-take_all.ensures i ++ put (c.in_ok-members.ensures.carried i))
           ∙ (λ i. (c.nothing-plan.ensures.tree i ++ taken (c.in_ok-members.ensures.members i)) ++ put (carried c.args.from.now c.args.to.now (branch r.tree c.args.from.now))))
-          c.nothing-plan.ensures.shelf c.nothing-plan.ensures.node c.nothing-plan.ensures.stamp c.nothing-plan.ensures.answer,
+          c.nothing-plan.ensures.shelf c.nothing-plan.ensures.node c.nothing-plan.ensures.stamp c.nothing-plan.ensures.marker c.nothing-plan.ensures.partner c.nothing-plan.ensures.answer,
     )

@@ -1,6 +1,6 @@
 use Rattle.std.proofs.Common.{◌≡◌, ◌++◌, drop}
 use Rattle.ws_top.specs.Printing.{Prints}
-use Rattle.ws_top.specs.Texts.{delta_lines}
+use Rattle.report_text.specs.Deltas.{delta_lines}
 use Rattle.ws_top.proofs.printing.print_delta.Given as goal
 
 -- the lines of the other nodes are left to print

@@ -2,7 +2,8 @@ use Rattle.std.proofs.Common.{◌++◌, codes, subst}
 use Rattle.delta_kind.specs.Deltas.{delta}
 use Rattle.ws_core.specs.Histories.{replay}
 use Rattle.ws_top.specs.Printing.{Prints}
-use Rattle.ws_top.specs.Texts.{delta_lines, history_lines}
+use Rattle.ws_top.specs.Texts.{history_lines}
+use Rattle.report_text.specs.Deltas.{delta_lines}
 use Rattle.ws_top.proofs.Printed.{ok_more, err_more}
 use Rattle.ws_top.proofs.printing.print_report.Goals as goal
 

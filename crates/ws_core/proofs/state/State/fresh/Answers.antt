@@ -17,9 +17,12 @@ returns-clause-sound c =
       told = sym tree i;
       next_node = sym c.fresh-2.ensures.node i;
       next_stamp = sym c.fresh-2.ensures.stamp i;
+      next_marker = sym c.fresh-2.ensures.marker i;
       next_pass = 1;
+      partners = sym c.fresh-2.ensures.partners i;
       passes = sym passes i;
       batches = sym c.empty-2.ensures i;
+      rules = sym c.empty-3.ensures i;
       waiting = None;
     } in
     subst IsSound is fresh_sound

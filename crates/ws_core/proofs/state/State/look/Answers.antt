@@ -10,6 +10,6 @@ returns-clause-state c =
     let i = c.self.inside in
     let op = c.args.op.now in
     on_ok c.operate.result (λ after.
-    look_seen i.unchanged i.told.map (resources i.tree.map i.side) (resources c.operate.new.tree.map c.operate.new.side) i.next_pass i.passes i.batches i.waiting op
+    look_seen i.unchanged i.told.map (resources i.tree.map i.side) (resources c.operate.new.tree.map c.operate.new.side) i.next_pass i.passes i.batches i.rules i.waiting op
     (only_reads op c.requires.quiet) after
     ∙ ap (λ (s : State). (act_operation s op).0) c.self.view_is) c.operate.ensures.resources

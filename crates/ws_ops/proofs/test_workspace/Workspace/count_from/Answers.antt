@@ -1,5 +1,5 @@
 -- Counters that go on from later numbers keep the resources sound.
-use Rattle.std.proofs.Common.{ℕ, ◌≤◌}
+use Rattle.std.proofs.Common.{ℕ, ◌≤◌, arith}
 use Rattle.std.specs.FinMap.{get}
 use Rattle.ws_elem.specs.Trees.{Tree}
 use Rattle.ws_ops.specs.Resources.{Resources, resources}
@@ -12,7 +12,8 @@ use Rattle.ws_ops.proofs.test_workspace.Workspace.count_from.Goals as goal
 known_later : (r : Resources) (node stamp : ℕ) (t : Tree) → r.next_node ≤ node → r.next_stamp ≤ stamp → IsKnown r t
     → IsKnown (record r { next_node = node; next_stamp = stamp }) t
 known_later r node stamp t h g k = record {
-  drawn = λ p. if_map (IsDrawn r.next_node r.next_stamp) (IsDrawn node stamp) (get t p) (λ e. drawn_later r.next_node r.next_stamp node stamp e h g) (k.drawn p);
+  drawn = λ p. if_map (IsDrawn r) (IsDrawn (record r { next_node = node; next_stamp = stamp })) (get t p)
+      (λ e. drawn_later r (record r { next_node = node; next_stamp = stamp }) e (h, g, omega arith, omega arith)) (k.drawn p);
   tree = k.tree;
   shelf = k.shelf;
 }

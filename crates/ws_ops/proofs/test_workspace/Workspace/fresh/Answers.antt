@@ -12,5 +12,7 @@ returns c =
       shelf = c.fresh-side.ensures.shelf i;
       next_node = c.fresh-side.ensures.node i;
       next_stamp = c.fresh-side.ensures.stamp i;
+      next_marker = c.fresh-side.ensures.marker i;
+      partners = c.fresh-side.ensures.partners i;
     } in
     subst IsSound (sym fresh) fresh_sound

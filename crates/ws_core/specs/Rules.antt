@@ -1,0 +1,77 @@
+-- The scheduling rules by which events are admitted.
+use Rattle.std.specs.Prelude.{ℕ, if◌then◌else◌, List, [], ◌∷◌, Option, Some, None}
+use Rattle.std.specs.Option.{option_map}
+use Rattle.res_path.specs.Paths.{Names, parent}
+use Rattle.sched_rules.specs.Atoms.{atom_contains, atom_conflicts, atom_cmp}
+use Rattle.sched_rules.specs.Rules.{rule_contains, combined}
+use Rattle.sched_rules.specs.declared.ws_atom.WsAtom.{WsAtom}
+use Rattle.sched_rules.specs.declared.ws_atom.WsAtom.TheVariants as atoms
+use Rattle.rule_table.specs.Tables.{outer_rule, first_conflict}
+use Rattle.rule_table.specs.declared.held.Held.{Held}
+use Rattle.ws_ops.specs.Places.{is_project_path}
+use Rattle.ws_ops.specs.declared.op.Op.{Op}
+use Rattle.ws_ops.specs.declared.op.Op.TheVariants.{CreateFile, CreateFolder, CreateProject, Delete, Write, Touch, Derived, Move, Copy, Open, Close, Describe, Mark, Attr, Unmark, ClearMarks, Partner, Sync, Flush, Read}
+use Rattle.ws_core.specs.declared.event.Event.{Event}
+use Rattle.ws_core.specs.declared.event.Event.TheVariants.{Enter, Leave, Schedule, Take, Finish, Begin, TryBegin, End, Batch, EndBatch, Checkpoint, Operation}
+use Rattle.ws_core.specs.declared.reply.Refusal.{Refusal}
+use Rattle.ws_core.specs.declared.reply.Refusal.TheVariants as refusals
+use Rattle.ws_core.specs.declared.state.State.{State}
+
+-- what is above a path; a project and the root have nothing above them but themselves
+abbrev pub up : Names → Names
+up p = if is_project_path p then p else parent p
+
+-- the rule of what is at a path and below it
+abbrev pub at : Names → List WsAtom
+at p = atoms.Path p ∷ []
+
+-- the rule by which an operation is admitted
+abbrev pub operation_rule : Op → List WsAtom
+operation_rule (CreateFile p bytes) = at (up p)
+operation_rule (CreateFolder p) = at (up p)
+operation_rule (CreateProject p) = at (up p)
+operation_rule (Delete p) = at (up p)
+operation_rule (Write p bytes) = at p
+operation_rule (Touch p) = at p
+operation_rule (Derived p on) = at p
+operation_rule (Move from to) = combined atom_cmp atom_contains (at (up from)) (at (up to))
+operation_rule (Copy from to) = at (up to)
+operation_rule (Open p) = at p
+operation_rule (Close p) = at p
+operation_rule (Describe p text) = at p
+operation_rule (Mark p mark_type attributes) = []
+operation_rule (Attr p id name value) = []
+operation_rule (Unmark p id) = []
+operation_rule (ClearMarks p mark_type depth) = []
+operation_rule (Partner name) = []
+operation_rule (Sync p name bytes) = at p
+operation_rule (Flush p name depth) = at p
+operation_rule (Read p want) = []
+
+-- the rule by which an event is admitted
+abbrev pub event_rule : Event → List WsAtom
+event_rule Enter = []
+event_rule Leave = []
+event_rule (Schedule name priority rule) = []
+event_rule Take = []
+event_rule Finish = []
+event_rule (Begin rule) = rule
+event_rule (TryBegin rule) = rule
+event_rule (End rule) = []
+event_rule Batch = []
+event_rule EndBatch = []
+event_rule Checkpoint = []
+event_rule (Operation op) = operation_rule op
+
+abbrev pub conflict_with : Held WsAtom → Refusal
+conflict_with held = refusals.Conflict held.holder held.rule
+
+-- why a rule is refused where this is the topmost of its pass that isn't null, or where the pass has none such
+abbrev pub refused_under : Option (List WsAtom) → List (Held WsAtom) → List WsAtom → Option Refusal
+refused_under (Some outer) all rule = if rule_contains atom_contains outer rule then None else Some (refusals.NotContained outer)
+refused_under None all rule = option_map conflict_with (first_conflict atom_conflicts all rule)
+
+-- Why a pass may not have this rule, if it may not: its topmost rule that isn't null doesn't contain it, or, where it
+-- has none such, another pass has a rule that conflicts.
+abbrev pub admission : State → ℕ → List WsAtom → Option Refusal
+admission s pass rule = refused_under (outer_rule pass s.rules) s.rules rule

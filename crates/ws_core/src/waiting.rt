@@ -1,0 +1,22 @@
+//! The job that waits.
+ghost use Rattle.std.specs.Prelude.{◌≡◌, IfOk};
+
+use crate::{NoMemory, WsRule};
+use res_path::Name;
+
+/// A job that waits to be run.
+#[derive(Clone, Debug, Drop)]
+pub struct Waiting {
+    pub name: Name,
+    /// What it is to have to itself while it runs.
+    pub rule: WsRule,
+}
+
+impl Waiting {
+    /// An equal job, which shares its texts.
+    pub fn copy(&self) -> Result<Waiting, NoMemory>
+        ensures { IfOk result (λ copy. copy ≡ self.now) }
+    {
+        self.clone()
+    }
+}

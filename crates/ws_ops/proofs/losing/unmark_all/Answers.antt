@@ -1,0 +1,15 @@
+use Rattle.std.proofs.Common.{rules, ◌≡◌, ◌==◌, ◌++◌, length, not, sym, ap, ◌∙◌}
+use Rattle.std.specs.Prelude.{filter}
+use Rattle.std.proofs.lemmas.List.{append-nil}
+use Rattle.ws_ops.specs.Changes.{Changes, put}
+use Rattle.ws_ops.specs.Entries.{Entries}
+use Rattle.ws_ops.specs.Marking.{change_all, unmarked, count_marks}
+use Rattle.ws_ops.proofs.Lost.{none_left}
+use Rattle.ws_ops.proofs.losing.unmark_all.Goals as goal
+
+pub returns-clause-changes : goal.returns-clause-changes
+returns-clause-changes c =
+    let lost : Entries → Changes = λ es. put (change_all (unmarked c.args.mark_type.now) (filter (λ e. not (count_marks c.args.mark_type.now e.1 == 0)) es)) in
+    let none : length c.loop-entry.rest.now ≡ 0 = search rules in
+    sym (append-nil c.loop-entry.changes) ∙ ap (λ es. c.loop-entry.changes ++ lost es) (sym (none_left c.loop-entry.rest.now none)) ∙ c.loop-entry.invariant.changes
+    ∙ ap (λ es. c.args.changes.now ++ lost es) c.as_slice-rest.ensures

@@ -1,0 +1,129 @@
+//! Resources that lose markers or synchronisation bytes.
+ghost use Rattle.std.specs.Prelude.{◌≡◌, ◌++◌, ◌+◌, ◌==◌, [], ◌∷◌, filter, not, if◌then◌else◌, IfOk, OnOk};
+ghost use Rattle.std.specs.FinMap as map;
+ghost use Rattle.ws_ops.specs.Changes.{put};
+ghost use Rattle.ws_ops.specs.Marking.{change_all, count_all, unmarked, count_marks, removed, unsynced, count_bytes};
+
+use crate::changes::Changes;
+use crate::{Entries, NoMemory};
+use mark_set::{MarkSet, RawText};
+use res_path::Path;
+use std::alloc::{AllocError, Global};
+use ws_elem::Element;
+
+/// The elements are to lose their markers of this type. Gives how many markers go. Elements without such stay as they
+/// are.
+pub fn unmark_all(
+    alloc: Global,
+    entries: &Entries,
+    mark_type: &RawText,
+    changes: &mut Changes,
+) -> Result<u64, NoMemory>
+    ensures count { IfOk result (λ n. n ≡ count_all (count_marks mark_type.now) entries.now) }
+    ensures changes { OnOk result (changes.new ≡ changes.old
+        ++ put (change_all (unmarked mark_type.now) (filter (λ e. not (count_marks mark_type.now e.1 == 0)) entries.now))) }
+{
+    let mut count = 0;
+    let mut rest = entries.as_slice();
+    while let Some((entry, others)) = rest.split_first() {
+        let gone = unmark(alloc, &entry.0, &entry.1, mark_type, changes)?;
+        count = total(count, gone)?;
+        rest = others;
+    }
+    Ok(count)
+}
+
+/// The elements are to lose the bytes of the partner with this number. Gives how many have such. Elements without such
+/// stay as they are.
+pub fn unsync_all(
+    alloc: Global,
+    entries: &Entries,
+    number: u32,
+    changes: &mut Changes,
+) -> Result<u64, NoMemory>
+    ensures count { IfOk result (λ n. n ≡ count_all (count_bytes number) entries.now) }
+    ensures changes { OnOk result (changes.new ≡ changes.old
+        ++ put (change_all (unsynced number) (filter (λ e. not (count_bytes number e.1 == 0)) entries.now))) }
+{
+    let mut count = 0;
+    let mut rest = entries.as_slice();
+    while let Some((entry, others)) = rest.split_first() {
+        let gone = unsync(alloc, &entry.0, &entry.1, number, changes)?;
+        count = total(count, gone)?;
+        rest = others;
+    }
+    Ok(count)
+}
+
+/// The sum, where it can be counted.
+fn total(count: u64, more: u64) -> Result<u64, NoMemory>
+    ensures { IfOk result (λ n. n ≡ count + more) }
+{
+    match count.checked_add(more) {
+        Some(total) => Ok(total),
+        None => Err(AllocError),
+    }
+}
+
+/// The element is to lose its markers of this type, if it has any. Gives how many.
+#[tactic(auto, using(crate::proofs::Lost::all_removed))]
+fn unmark(
+    alloc: Global,
+    path: &Path,
+    element: &Element,
+    mark_type: &RawText,
+    changes: &mut Changes,
+) -> Result<u64, NoMemory>
+    ensures count { IfOk result (λ n. n ≡ count_marks mark_type.now element.now) }
+    ensures changes { OnOk result (changes.new ≡ changes.old
+        ++ put (if count_marks mark_type.now element.now == 0 then [] else (path.now, unmarked mark_type.now element.now) ∷ [])) }
+{
+    let ids = element.marks.by_type(alloc, mark_type.text())?;
+    if ids.len() == 0 {
+        return Ok(0);
+    }
+    let mut unmarked = element.copy()?;
+    remove_all(&mut unmarked.marks, ids.as_slice());
+    changes.put(path.copy()?, unmarked)?;
+    Ok(ids.len() as u64)
+}
+
+/// Takes the markers with these ids away.
+fn remove_all(marks: &mut MarkSet, ids: &[u64])
+    ensures { marks.new ≡ removed marks.old ids.now }
+{
+    let mut rest = ids;
+    while let Some((id, others)) = rest.split_first() {
+        remove(marks, *id);
+        rest = others;
+    }
+}
+
+/// Takes the marker with this id away, if there is one.
+#[tactic(auto, using(crate::proofs::Lost::remove_absent))]
+pub fn remove(marks: &mut MarkSet, id: u64)
+    ensures { marks.new ≡ map.remove marks.old id }
+{
+    let _ = marks.delete(id);
+}
+
+/// The element is to lose the partner's bytes, if it has any. Gives 1 where it has.
+fn unsync(
+    alloc: Global,
+    path: &Path,
+    element: &Element,
+    number: u32,
+    changes: &mut Changes,
+) -> Result<u64, NoMemory>
+    ensures count { IfOk result (λ n. n ≡ count_bytes number element.now) }
+    ensures changes { OnOk result (changes.new ≡ changes.old
+        ++ put (if count_bytes number element.now == 0 then [] else (path.now, unsynced number element.now) ∷ [])) }
+{
+    if element.syncs.get(number).is_none() {
+        return Ok(0);
+    }
+    let mut unsynced = element.copy()?;
+    unsynced.syncs.set(alloc, number, None)?;
+    changes.put(path.copy()?, unsynced)?;
+    Ok(1)
+}
