@@ -1,5 +1,5 @@
 //! The delta of two trees.
-ghost use Rattle.std.specs.Prelude.{◌≡◌, ◌↔◌, ℕ, false, if◌then◌else◌, Option, Some, None, [], ◌++◌, map, IfOk, OnOk};
+ghost use Rattle.std.specs.Prelude.{◌≡◌, ◌↔◌, false, if◌then◌else◌, Option, Some, None, [], ◌++◌, map, IfOk, OnOk};
 ghost use Rattle.std.specs.FinMap.{get, find};
 ghost use Rattle.std.specs.Option.{option_copied};
 ghost use Rattle.res_path.specs.Paths.{Names, path_cmp, path_eq, is_prefix, parent};

@@ -1,22 +1,28 @@
 -- Rules that are read atom by atom, and rules that are printed.
-use Rattle.std.proofs.Common.{◌≡◌, Bool, true, false, not, ◌&&◌, ◌||◌, List, [], ◌∷◌, ◌++◌, inl, inr, refl, sym, ◌∙◌, ap, subst, append_assoc, append-nil}
+use Rattle.std.proofs.Common.{◌≡◌, Bool, true, false, not, ◌&&◌, ◌||◌, List, [], ◌∷◌, ◌++◌, inl, inr, refl, sym, ◌∙◌, ap, subst, append_assoc, append-nil, arith}
+use Rattle.std.specs.Prelude.{IsTrue}
 use Rattle.std.specs.declared.cmp.Ordering.{Ordering}
 use Rattle.std.specs.declared.cmp.Ordering.TheVariants.{Greater}
 use Rattle.std.specs.Ordering.{ordering_reverse}
-use Rattle.std.specs.List.{AllByRecursion, filter}
+use Rattle.std.specs.List.{AllByRecursion, filter, flat_map}
 use Rattle.std.specs.Cmp.{IsTotalOrder}
 use Rattle.std.specs.FinMap.{IsAntisymmetric}
+use Rattle.std.proofs.lemmas.Bool.Decides.{nat_tests}
 use Rattle.res_path.proofs.Spelled.{both}
 use Rattle.sched_rules.specs.declared.ws_atom.WsAtom.{WsAtom}
+use Rattle.sched_rules.specs.declared.ws_atom.WsAtom.TheVariants.{Path, Mutex, Lines}
 use Rattle.sched_rules.specs.Laws.{IsLawful}
 use Rattle.sched_rules.specs.Rules.{StandsBefore, IsRule, has_wider, placed, all_placed, rule_of, covers, rule_contains}
 use Rattle.sched_rules.specs.Atoms.{atom_contains, atom_cmp}
 use Rattle.sched_rules.specs.AtomLaws.{atoms_lawful, atom_cmp_total, atom_cmp_exact}
-use Rattle.sched_rules.proofs.Members.{IsIn, any_from, any_at, all_from, all_at, each_at}
+use Rattle.sched_rules.proofs.Members.{IsIn, any_from, any_at, all_from, all_at, each_at, each_from}
 use Rattle.sched_rules.proofs.RuleLaws.{rule_contains_both}
 use Rattle.sched_rules.proofs.Placing.{placed_between}
 use Rattle.sched_rules.proofs.Combining.{in_left, in_right, in_both, IsKeptOf, kept, in_rule_of, combined_in_turn, rule_of_is_rule, combined_contains_left, combined_contains_right, combined_least}
-use Rattle.script_lang.specs.Commands.{rule_read}
+use Rattle.script_lang.specs.Words.{Token}
+use Rattle.script_lang.specs.Commands.{atom_parts, rule_read}
+use Rattle.script_lang.specs.Reading.{FitsFront}
+use Rattle.script_lang.specs.RuleLines.{has_lines, HasLines, can_be_named}
 
 module _ {A : Type 0} {cmp : A → A → Ordering} {contains conflicts : A → A → Bool} (laws : IsLawful contains conflicts) (order : IsTotalOrder cmp) (exact : IsAntisymmetric cmp) where
   -- ---- a rule is the rule of its atoms
@@ -129,3 +135,31 @@ read_itself rule f = rule_of_itself atoms_lawful atom_cmp_total atom_cmp_exact r
 
 pub read_more : (atoms : List WsAtom) (atom : WsAtom) → rule_read (rule_read atoms ++ atom ∷ []) ≡ rule_read (atoms ++ atom ∷ [])
 read_more atoms atom = rule_of_more atoms_lawful atom_cmp_total atom_cmp_exact atoms (atom ∷ []) (tt, tt)
+
+-- ---- ranges of lines
+
+-- a range that is read has a line
+each_has_lines : (tokens rest : List Token) (atoms : List WsAtom) → FitsFront tokens (flat_map atom_parts atoms) rest → AllByRecursion HasLines atoms
+each_has_lines tokens rest [] h = tt
+each_has_lines [] rest (Path path ∷ atoms) h = absurd h
+each_has_lines [] rest (Mutex name ∷ atoms) h = absurd h
+each_has_lines [] rest (Lines file from to ∷ atoms) h = absurd h
+each_has_lines (kind ∷ []) rest (Path path ∷ atoms) h = absurd h.1
+each_has_lines (kind ∷ []) rest (Mutex name ∷ atoms) h = absurd h.1
+each_has_lines (kind ∷ []) rest (Lines file from to ∷ atoms) h = absurd h.1
+each_has_lines (kind ∷ place ∷ tokens) rest (Path path ∷ atoms) h = (refl, each_has_lines tokens rest atoms h.1.1)
+each_has_lines (kind ∷ place ∷ tokens) rest (Mutex name ∷ atoms) h = (refl, each_has_lines tokens rest atoms h.1.1)
+each_has_lines (kind ∷ place ∷ []) rest (Lines file from to ∷ atoms) h = absurd h.1.1
+each_has_lines (kind ∷ place ∷ first ∷ []) rest (Lines file from to ∷ atoms) h = absurd h.1.1.1
+each_has_lines (kind ∷ place ∷ first ∷ last ∷ tokens) rest (Lines file from to ∷ atoms) h =
+    let reaches = h.1.1.1.0.0.reaches in
+    (grind (arith, nat_tests, reaches), each_has_lines tokens rest atoms h.1.1.1.1)
+
+-- a rule that is read can be named
+pub read_lines : (tokens rest : List Token) (atoms rule : List WsAtom) → FitsFront tokens (flat_map atom_parts atoms) rest → rule_read atoms ≡ rule → IsTrue (can_be_named rule)
+read_lines tokens rest atoms rule h e =
+    subst (λ (rule : List WsAtom). IsTrue (can_be_named rule)) e
+    (all_from has_lines (rule_read atoms) (λ atom i. each_at HasLines atom atoms (each_has_lines tokens rest atoms h) (from_all atoms_lawful atom_cmp_total atom_cmp_exact atoms atom i)))
+
+pub named_lines : (rule : List WsAtom) → IsTrue (can_be_named rule) → AllByRecursion HasLines rule
+named_lines rule h = each_from HasLines rule (λ atom i. all_at has_lines atom rule h i)

@@ -16,7 +16,7 @@ use Rattle.script_lang.specs.Words.{Token, AreBytes, ReadsBack, printed, is_bare
 use Rattle.script_lang.specs.Lines.{is_skipped, unskipped, SpellsEach, SpellsLines, next_number}
 use Rattle.script_lang.specs.Commands.{Part, keyword, a_number, an_integer, a_name, a_path, a_text, a_word, FitsParts, rule_parts, line_parts}
 use Rattle.script_lang.specs.Scripts.{FitsLines, part_word, parts_text, line_text}
-use Rattle.script_lang.specs.Printed.{AreParts, AreWritten}
+use Rattle.script_lang.specs.Printed.{AreParts, AreLines}
 use Rattle.script_lang.proofs.Coded.{same_line}
 use Rattle.script_lang.proofs.Lined.{keeps_line}
 use Rattle.script_lang.proofs.Printed.{line_spells, line_kept, text_spells}
@@ -146,7 +146,7 @@ part_words (a_path path ∷ parts) h = (text_spells (path_text path) h.0.1, part
 part_words (a_text text ∷ parts) h = (text_spells text h.0.1, part_words parts h.1)
 part_words (a_word word ∷ parts) h = (text_spells word h.0, part_words parts h.1)
 
-each_printed : (lines : List Line) → AreWritten lines → SpellsEach (map line_text lines) (map line_tokens lines)
+each_printed : (lines : List Line) → AreLines lines → SpellsEach (map line_text lines) (map line_tokens lines)
 each_printed [] h = tt
 each_printed (line ∷ lines) h = (line_spells (map part_word (line_parts line)) (some_parts line) (part_words (line_parts line) h.0.0), each_printed lines h.1)
 
@@ -155,9 +155,9 @@ unskipped_printed [] = refl
 unskipped_printed (line ∷ lines) = keeps_line (line_text line) (map line_text lines) (text_kept line) ∙ ap (λ (more : List (List ℕ)). line_text line ∷ more) (unskipped_printed lines)
 
 -- printed lines spell what they say
-pub spells_printed : (lines : List Line) → AreWritten lines → SpellsLines (map line_text lines) (map line_tokens lines)
+pub spells_printed : (lines : List Line) → AreLines lines → SpellsLines (map line_text lines) (map line_tokens lines)
 spells_printed lines h = subst (λ (texts : List (List ℕ)). SpellsEach texts (map line_tokens lines)) (sym (unskipped_printed lines)) (each_printed lines h)
 
-pub says_printed : (lines : List Line) → AreWritten lines → FitsLines (map line_tokens lines) lines
+pub says_printed : (lines : List Line) → AreLines lines → FitsLines (map line_tokens lines) lines
 says_printed [] h = tt
 says_printed (line ∷ lines) h = (record { written = line; read = h.0.1; fits = fits_printed (line_parts line) h.0.0 }, says_printed lines h.1)

@@ -12,8 +12,8 @@ use Rattle.script_lang.specs.declared.line.Line.{Line}
 use Rattle.script_lang.specs.declared.line.Line.TheVariants.{BeginPhase, BeginJob, InJob, EndJob, EndPhase}
 use Rattle.script_lang.specs.Lines.{lines_of, SpellsLines}
 use Rattle.script_lang.specs.Commands.{line_parts}
-use Rattle.script_lang.specs.Scripts.{HasOneJob, job_lines, phase_lines, script_lines, script_text, line_text, part_word, CanBeWritten, IsScript}
-use Rattle.script_lang.specs.Printed.{ended, IsLine, AreLines, AreWritten}
+use Rattle.script_lang.specs.Scripts.{HasOneJob, job_lines, phase_lines, script_lines, script_text, line_text, part_word, IsScript}
+use Rattle.script_lang.specs.Printed.{ended, IsLine, AreLines}
 use Rattle.script_lang.proofs.Printed.{has_no_line_feed, line_no_feed, lines_back}
 use Rattle.script_lang.proofs.Spelling.{line_tokens, spells_printed, says_printed}
 
@@ -68,7 +68,7 @@ job_built old begun within new job commands h g e f =
     ∙ ap (λ (rest : List ℕ). old ++ rest) (sym (job_text job))
 
 pub job_parts : (job : Job) → IsLine (BeginJob job.name job.priority job.rule) → AllByRecursion (λ (command : Command). IsLine (InJob command)) job.commands → AreLines (job_lines job)
-job_parts job h g = (h, lines_append (map InJob job.commands) (EndJob ∷ []) (lines_commands job.commands g) ((λ _. ((refl, tt), refl)), tt))
+job_parts job h g = (h, lines_append (map InJob job.commands) (EndJob ∷ []) (lines_commands job.commands g) (((refl, tt), refl), tt))
 
 pub phase_text : (phase : Phase) → ended (phase_lines phase) ≡ (ended (BeginPhase ∷ []) ++ flat_map (λ (job : Job). ended (job_lines job)) phase.jobs) ++ ended (EndPhase ∷ [])
 phase_text phase =
@@ -85,7 +85,7 @@ phase_built old begun within new phase jobs h g e f =
     ∙ ap (λ (rest : List ℕ). old ++ rest) (sym (phase_text phase))
 
 pub phase_parts : (phase : Phase) → AllByRecursion (λ (job : Job). AreLines (job_lines job)) phase.jobs → AreLines (phase_lines phase)
-phase_parts phase h = ((λ _. ((refl, tt), refl)), lines_append (flat_map job_lines phase.jobs) (EndPhase ∷ []) (lines_each job_lines phase.jobs h) ((λ _. ((refl, tt), refl)), tt))
+phase_parts phase h = (((refl, tt), refl), lines_append (flat_map job_lines phase.jobs) (EndPhase ∷ []) (lines_each job_lines phase.jobs h) (((refl, tt), refl), tt))
 
 pub whole_text : (script : Script) → script_text script ≡ flat_map (λ (phase : Phase). ended (phase_lines phase)) script.phases
 whole_text script = ended_each phase_lines script.phases
@@ -104,15 +104,11 @@ no_feeds (line ∷ lines) = (line_no_feed (map part_word (line_parts line)), no_
 lines_again : (lines : List Line) → lines_of (ended lines) ≡ map line_text lines
 lines_again lines = ap lines_of (texts_of lines) ∙ lines_back (map line_text lines) (no_feeds lines)
 
-written : (lines : List Line) → AreLines lines → CanBeWritten lines → AreWritten lines
-written [] h w = tt
-written (line ∷ lines) h w = (h.0 w.0, written lines h.1 w.1)
-
 pub reads_back : (bytes : List ℕ) (script : Script) → bytes ≡ script_text script → AllByRecursion HasOneJob script.phases
-    → AllByRecursion (λ (phase : Phase). AreLines (phase_lines phase)) script.phases → CanBeWritten (script_lines script) → IsScript bytes script
-reads_back bytes script e h g w =
+    → AllByRecursion (λ (phase : Phase). AreLines (phase_lines phase)) script.phases → IsScript bytes script
+reads_back bytes script e h g =
     let lines = script_lines script in
-    let parts = written lines (lines_each phase_lines script.phases g) w in record {
+    let parts = lines_each phase_lines script.phases g in record {
       jobs = h;
       tokens = map line_tokens lines;
       spelled = subst (λ (texts : List (List ℕ)). SpellsLines texts (map line_tokens lines)) (sym (ap lines_of e ∙ lines_again lines)) (spells_printed lines parts);

@@ -18,7 +18,7 @@ use Rattle.script_lang.specs.Lines.{lines_of, unskipped, SpellsEach, SpellsLines
 use Rattle.script_lang.specs.Commands.{FitsLine}
 use Rattle.script_lang.specs.Scripts.{FitsLines, HasOneJob, phase_lines, script_lines, IsScriptOf, IsBeginning, IsFirstBad, line_text}
 use Rattle.script_lang.specs.Reading.{goes, place_lines, read_lines, SaysNext, Steps, IsStuck, IsWhole}
-use Rattle.script_lang.specs.Printed.{AreWritten}
+use Rattle.script_lang.specs.Printed.{AreLines}
 use Rattle.script_lang.proofs.Runs.{runs, begun, runs-append, runs_script, runs_read, read_more, jobs_kept, closing, closes}
 use Rattle.script_lang.proofs.Coded.{same_line}
 use Rattle.script_lang.proofs.Lined.{keeps_line, unskipped_append}
@@ -187,7 +187,7 @@ a_name_is : IsName (97 ∷ [])
 unfolding lib.Utf8.encode
 a_name_is = record { utf8 = (97 ∷ [], (refl, refl)); form = refl }
 
-closing_parts : (place : Place) → AreWritten (closing place)
+closing_parts : (place : Place) → AreLines (closing place)
 closing_parts Outside = tt
 closing_parts BeforeJob = (((refl, ((a_name_is, (lit< tt, tt)), (refl, (refl, tt)))), refl), (((refl, tt), refl), (((refl, tt), refl), tt)))
 closing_parts (WithinJob job) = (((refl, tt), refl), (((refl, tt), refl), tt))

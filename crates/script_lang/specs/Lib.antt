@@ -3,6 +3,7 @@ pub mod Quoted
 pub mod Tokens
 pub mod Lines
 pub mod Commands
+pub mod RuleLines
 pub mod Scripts
 pub mod Reading
 pub mod Printed

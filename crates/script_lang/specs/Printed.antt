@@ -7,7 +7,7 @@ use Rattle.res_path.specs.Paths.{IsPath, path_text}
 use Rattle.script_lang.specs.declared.line.Line.{Line}
 use Rattle.script_lang.specs.Words.{is_bare, AreBytes, word_text}
 use Rattle.script_lang.specs.Commands.{Part, keyword, a_number, an_integer, a_name, a_path, a_text, a_word, IsNumber, line_parts, line_read}
-use Rattle.script_lang.specs.Scripts.{part_word, line_text, line_rule, HasLines}
+use Rattle.script_lang.specs.Scripts.{part_word, line_text}
 
 -- lines with LF after each
 abbrev pub ended : List Line → List ℕ
@@ -31,15 +31,8 @@ abbrev pub spaced : List Part → List ℕ
 spaced parts = flat_map (λ part. 32 ∷ word_text (part_word part)) parts
 
 -- a line that its printed words stand for
-abbrev pub IsWrittenLine : Line → Type 0
-IsWrittenLine line = AreParts (line_parts line) × (line_read line ≡ line)
-
-abbrev pub AreWritten : List Line → Type 0
-AreWritten lines = AllByRecursion IsWrittenLine lines
-
--- the same, if each range of lines of its rule has a line
 abbrev pub IsLine : Line → Type 0
-IsLine line = AllByRecursion HasLines (line_rule line) → IsWrittenLine line
+IsLine line = AreParts (line_parts line) × (line_read line ≡ line)
 
 abbrev pub AreLines : List Line → Type 0
 AreLines lines = AllByRecursion IsLine lines

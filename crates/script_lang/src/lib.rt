@@ -1,6 +1,7 @@
 //! Scripts of jobs: what a script is, how a text is read as one, and how one is printed.
 //!
 //! - `script`: a `Script`: phases of jobs of commands.
+//! - `script_rule`: a `ScriptRule`, a rule as scripts name it.
 //! - `words`: the words of a line, bare and quoted.
 //! - `quoted`: what stands between the quotes of a word.
 //! - `word_text`: how words are printed.
@@ -34,6 +35,7 @@ mod reader;
 mod rule_text;
 mod rules;
 mod script;
+mod script_rule;
 #[cfg(test)]
 mod tests;
 mod verb;
@@ -46,6 +48,7 @@ pub use error::ScriptError;
 pub use grammar::parse;
 pub use printing::{print, put_command, put_operation};
 pub use script::{Command, Commands, Job, Jobs, Phase, Phases, Priority, Script};
+pub use script_rule::ScriptRule;
 use std::alloc::AllocError;
 pub use word_text::put_word;
 

@@ -1,7 +1,7 @@
 //! What one line of a script says.
+use crate::ScriptRule;
 use crate::script::{Command, Priority};
 use res_path::Name;
-use sched_rules::{Rule, WsAtom};
 
 /// What one line of a script says.
 #[derive(Debug, Drop)]
@@ -9,7 +9,7 @@ pub enum Line {
     /// A phase begins.
     BeginPhase,
     /// A job of this name, priority and rule begins.
-    BeginJob(Name, Priority, Rule<WsAtom>),
+    BeginJob(Name, Priority, ScriptRule),
     /// A command of a job.
     InJob(Command),
     /// The job ends.

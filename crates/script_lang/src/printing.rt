@@ -1,27 +1,24 @@
 //! The text of a script.
 ghost use Rattle.std.specs.Prelude.{◌≡◌, ◌++◌, [], ◌∷◌, IfOk, OnOk};
-ghost use Rattle.std.specs.List.{AllByRecursion};
 ghost use Rattle.script_lang.specs.declared.line.Line.TheVariants.{BeginJob, InJob};
 ghost use Rattle.script_lang.specs.Words.{Grows};
 ghost use Rattle.script_lang.specs.Commands.{keyword, rule_parts, rule_read, command_parts, command_read};
-ghost use Rattle.script_lang.specs.Scripts.{IsScript, parts_text, script_text, script_lines, operation_text, command_text, command_rule, line_text, phase_lines, job_lines, HasLines, HasOneJob, CanBeWritten};
+ghost use Rattle.script_lang.specs.Scripts.{IsScript, parts_text, script_text, operation_text, command_text, line_text, phase_lines, job_lines, HasOneJob};
 ghost use Rattle.script_lang.specs.Printed.{ended, AreParts, AreLines, IsLine};
 
-use crate::NoMemory;
 use crate::op_text::put_doing;
 use crate::part_text::{name_word, priority_word, put, put_three};
 use crate::rule_text::put_rule;
 use crate::script::{Command, Job, Phase, Script};
 use crate::word_text::put_word;
-use sched_rules::{Rule, WsAtom};
+use crate::{NoMemory, ScriptRule};
 use std::alloc::Global;
 use ws_ops::Op;
 
-/// The script's text, each line ended by LF. `parse` reads it as this script, unless a rule has a range of lines whose
-/// first number is above its last, which no text spells.
+/// The script's text, each line ended by LF. `parse` reads it as this script.
 pub fn print(alloc: Global, script: &Script) -> Result<Vec<u8>, NoMemory>
     ensures text { IfOk result (λ bytes. bytes.items ≡ script_text script.now) }
-    ensures back { IfOk result (λ bytes. CanBeWritten (script_lines script.now) → IsScript bytes.items script.now) }
+    ensures back { IfOk result (λ bytes. IsScript bytes.items script.now) }
 {
     let mut out = Vec::new(alloc);
     for phase in script.phases.as_slice() {
@@ -101,7 +98,7 @@ pub fn put_operation(out: &mut Vec<u8>, op: &Op) -> Result<(), NoMemory>
 fn put_commanding(out: &mut Vec<u8>, command: &Command) -> Result<(), NoMemory>
     ensures text { OnOk result (out.new.items ≡ out.old.items ++ command_text command.now) }
     ensures kept { Grows out.old.items out.new.items }
-    ensures parts { OnOk result (AllByRecursion HasLines (command_rule command.now) → AreParts (command_parts command.now)) }
+    ensures parts { OnOk result (AreParts (command_parts command.now)) }
     ensures same { OnOk result (command_read command.now ≡ command.now) }
 {
     match command {
@@ -116,10 +113,10 @@ fn put_commanding(out: &mut Vec<u8>, command: &Command) -> Result<(), NoMemory>
 }
 
 /// Appends a verb and a rule.
-fn put_ruled(out: &mut Vec<u8>, verb: &[u8], rule: &Rule<WsAtom>) -> Result<(), NoMemory>
+fn put_ruled(out: &mut Vec<u8>, verb: &[u8], rule: &ScriptRule) -> Result<(), NoMemory>
     ensures text { OnOk result (out.new.items ≡ out.old.items ++ parts_text (keyword verb.now ∷ rule_parts rule.now)) }
     ensures kept { Grows out.old.items out.new.items }
-    ensures parts { OnOk result (AllByRecursion HasLines rule.now → AreParts (rule_parts rule.now)) }
+    ensures parts { OnOk result (AreParts (rule_parts rule.now)) }
     ensures same { OnOk result (rule_read rule.now ≡ rule.now) }
 {
     put_word(out, verb)?;

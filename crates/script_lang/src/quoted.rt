@@ -1,5 +1,5 @@
 //! What stands between the quotes of a word.
-ghost use Rattle.std.specs.Prelude.{◌≡◌, ℕ, List, [], ◌++◌, None, Some, length, ◌<◌, ◌&&◌, nat_le, true, false, IsTrue, IsUtf8, ◌↔◌, IfOk, OnOk, IfSome, MatchOption, slice_index};
+ghost use Rattle.std.specs.Prelude.{◌≡◌, ◌++◌, None, Some, length, ◌<◌, ◌&&◌, nat_le, false, IsTrue, IsUtf8, ◌↔◌, IfOk, OnOk, IfSome, MatchOption, slice_index};
 ghost use Rattle.std.specs.List.{list_all};
 ghost use Rattle.std.specs.Char.{digit_value};
 ghost use Rattle.std.specs.Option.{option_to_list};

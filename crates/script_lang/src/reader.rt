@@ -1,5 +1,5 @@
 //! The lines of a text, one after another.
-ghost use Rattle.std.specs.Prelude.{◌≡◌, ◌+◌, ◌≤◌, ◌<◌, ◌^◌, ℕ, List, [], ◌∷◌, length, true, false, Err, IfOk, OnOk, IsTrue, ◌↔◌};
+ghost use Rattle.std.specs.Prelude.{◌≡◌, ◌+◌, ◌<◌, ◌^◌, ℕ, [], ◌∷◌, length, false, Err, IfOk, OnOk, IsTrue, ◌↔◌};
 ghost use Rattle.script_lang.specs.Lines.{lines_of, unskipped, starts_skipped, TakesLine, HasNoLine, next_number, PassesLine, Skips};
 
 use crate::words::{Token, cut, place_of, words_of};

@@ -3,21 +3,21 @@ ghost use Rattle.std.specs.Prelude.{◌≡◌, ◌≤◌, ◌++◌, [], ◌∷�
 ghost use Rattle.std.specs.List.{flat_map, AllByRecursion};
 ghost use Rattle.script_lang.specs.Words.{Grows};
 ghost use Rattle.script_lang.specs.Commands.{a_number, atom_parts, rule_parts, rule_read};
-ghost use Rattle.script_lang.specs.Scripts.{HasLines};
+ghost use Rattle.script_lang.specs.RuleLines.{HasLines};
 ghost use Rattle.script_lang.specs.Printed.{AreParts, spaced};
 
-use crate::NoMemory;
 use crate::part_text::{name_word, path_word, put_next, put_number};
-use sched_rules::{Rule, WsAtom};
+use crate::{NoMemory, ScriptRule};
+use sched_rules::WsAtom;
 
 /// Appends a rule, with a space in front of each of its words.
-pub fn put_rule(out: &mut Vec<u8>, rule: &Rule<WsAtom>) -> Result<(), NoMemory>
+pub fn put_rule(out: &mut Vec<u8>, rule: &ScriptRule) -> Result<(), NoMemory>
     ensures text { OnOk result (out.new.items ≡ out.old.items ++ spaced (rule_parts rule.now)) }
     ensures kept { Grows out.old.items out.new.items }
-    ensures parts { OnOk result (AllByRecursion HasLines rule.now → AreParts (rule_parts rule.now)) }
+    ensures parts { OnOk result (AreParts (rule_parts rule.now)) }
     ensures same { rule_read rule.now ≡ rule.now }
 {
-    let atoms = rule.atoms();
+    let atoms = rule.as_rule().atoms();
     if atoms.is_empty() {
         return put_next(out, b"null");
     }
@@ -25,9 +25,10 @@ pub fn put_rule(out: &mut Vec<u8>, rule: &Rule<WsAtom>) -> Result<(), NoMemory>
 }
 
 fn put_atoms(out: &mut Vec<u8>, atoms: &[WsAtom]) -> Result<(), NoMemory>
+    requires { AllByRecursion HasLines atoms.now }
     ensures text { OnOk result (out.new.items ≡ out.old.items ++ spaced (flat_map atom_parts atoms.now)) }
     ensures kept { Grows out.old.items out.new.items }
-    ensures parts { OnOk result (AllByRecursion HasLines atoms.now → AreParts (flat_map atom_parts atoms.now)) }
+    ensures parts { OnOk result (AreParts (flat_map atom_parts atoms.now)) }
 {
     for atom in atoms {
         put_atom(out, atom)?;

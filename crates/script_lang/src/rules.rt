@@ -3,15 +3,15 @@ ghost use Rattle.std.specs.Prelude.{◌<◌, [], ◌∷◌, length, codes, IfOk,
 ghost use Rattle.script_lang.specs.Commands.{keyword, FitsPart, atom_parts};
 ghost use Rattle.script_lang.specs.Reading.{IsFound, IsRuleFound, FitsFront, FitsNoFront};
 
-use crate::NoMemory;
 use crate::parts::{is_key, name_of, number_from, path_of};
 use crate::words::Token;
+use crate::{NoMemory, ScriptRule};
 use sched_rules::{Rule, WsAtom};
 use std::alloc::Global;
 
 /// The rule that the tokens name: `null`, or one atom or more, of which those that others contain are dropped. Each
 /// atom is tested against the rule of those before it.
-pub fn rule_of(alloc: Global, tokens: &[Token]) -> Result<Option<Rule<WsAtom>>, NoMemory>
+pub fn rule_of(alloc: Global, tokens: &[Token]) -> Result<Option<ScriptRule>, NoMemory>
     ensures { IfOk result (IsRuleFound tokens.now) }
 {
     match tokens {
@@ -21,17 +21,17 @@ pub fn rule_of(alloc: Global, tokens: &[Token]) -> Result<Option<Rule<WsAtom>>, 
     }
 }
 
-fn null_rule(alloc: Global, word: &Token) -> Option<Rule<WsAtom>>
+fn null_rule(alloc: Global, word: &Token) -> Option<ScriptRule>
     ensures { IsRuleFound (word.now ∷ []) result }
 {
     if is_key(word, b"null") {
-        Some(Rule::null(alloc))
+        Some(ScriptRule::null(alloc))
     } else {
         None
     }
 }
 
-fn rule_of_atoms(alloc: Global, tokens: &[Token]) -> Result<Option<Rule<WsAtom>>, NoMemory>
+fn rule_of_atoms(alloc: Global, tokens: &[Token]) -> Result<Option<ScriptRule>, NoMemory>
     requires { 1 < length tokens.now }
     ensures { IfOk result (IsRuleFound tokens.now) }
 {
@@ -44,7 +44,7 @@ fn rule_of_atoms(alloc: Global, tokens: &[Token]) -> Result<Option<Rule<WsAtom>>
         rule = Rule::combine(alloc, &rule, &Rule::of(alloc, atom)?)?;
         rest = more;
     }
-    Ok(Some(rule))
+    Ok(Some(ScriptRule::named(rule)))
 }
 
 /// The atom that the tokens begin with, and the tokens that are left.

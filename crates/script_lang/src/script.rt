@@ -2,9 +2,8 @@
 ghost use Rattle.std.specs.Prelude.{◌≡◌, ◌++◌, ◌∷◌, [], length, IfOk, OnOk};
 ghost use Rattle.script_lang.specs.Commands.{priority_number};
 
-use crate::NoMemory;
+use crate::{NoMemory, ScriptRule};
 use res_path::Name;
-use sched_rules::{Rule, WsAtom};
 use std::alloc::Global;
 use std::marker::Model;
 use ws_ops::Op;
@@ -21,11 +20,11 @@ pub enum Command {
     /// Listeners are told what the batch changed so far (`IWorkspace.checkpoint`).
     Checkpoint,
     /// A rule is begun (`IJobManager.beginRule`).
-    Begin(Rule<WsAtom>),
+    Begin(ScriptRule),
     /// A rule is begun if that needs no waiting.
-    TryBegin(Rule<WsAtom>),
+    TryBegin(ScriptRule),
     /// The rule that was begun last ends (`IJobManager.endRule`).
-    End(Rule<WsAtom>),
+    End(ScriptRule),
 }
 
 /// Commands in the order in which they are run. A contract sees the list.
@@ -104,7 +103,7 @@ impl Priority {
 pub struct Job {
     pub name: Name,
     pub priority: Priority,
-    pub rule: Rule<WsAtom>,
+    pub rule: ScriptRule,
     pub commands: Commands,
 }
 

@@ -1,8 +1,11 @@
 //! Scripts as their lines spell them, the first bad lines of texts, and the texts of scripts.
 use crate::{
-    Command, Job, Priority, Script, ScriptError, parse, print, put_command, put_operation,
+    Command, Job, Priority, Script, ScriptError, ScriptRule, parse, print, put_command,
+    put_operation,
 };
 use bytes::Bytes;
+use res_path::Path;
+use sched_rules::{Rule, WsAtom};
 use std::alloc::Global;
 use std::test::Fail;
 
@@ -255,6 +258,28 @@ fn a_rule_is_read_without_the_atoms_that_others_contain(rt: HostRuntime) -> Resu
     for (line, other) in cases {
         assert!(rt; is_read_as(rt.alloc(), line, other)?);
     }
+    Ok(())
+}
+
+/// The command that begins the rule of this range of lines of `/P/a`, printed, if a script can have it.
+fn begun_range(alloc: Global, from: u32, to: u32) -> Result<Option<Vec<u8>>, Fail> {
+    let file = Path::parse(alloc, "/P/a")?;
+    let range = Rule::of(alloc, WsAtom::Lines { file, from, to })?;
+    let Some(rule) = ScriptRule::of(range) else {
+        return Ok(None);
+    };
+    let mut printed = Vec::new(alloc);
+    put_command(&mut printed, &Command::Begin(rule))?;
+    Ok(Some(printed))
+}
+
+#[test]
+fn a_range_of_a_script_has_a_line(rt: HostRuntime) -> Result<(), Fail> {
+    match begun_range(rt.alloc(), 9, 9)? {
+        Some(line) => assert!(rt; line.as_slice() == b"begin lines /P/a 9 9".as_slice()),
+        None => assert!(rt; false),
+    }
+    assert!(rt; begun_range(rt.alloc(), 9, 3)?.is_none());
     Ok(())
 }
 

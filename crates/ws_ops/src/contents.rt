@@ -1,5 +1,4 @@
 //! The plans of what changes a resource where it is.
-ghost use Rattle.std.specs.Prelude.{◌≡◌, IfOk};
 ghost use Rattle.ws_ops.specs.Plans.{Plans};
 ghost use Rattle.ws_ops.specs.Resources.{resources};
 

@@ -1,5 +1,5 @@
 //! A workspace with as many elements as it may have.
-ghost use Rattle.std.specs.Prelude.{◌≡◌, IfOk};
+ghost use Rattle.std.specs.Prelude.{IfOk};
 ghost use Rattle.ws_ops.specs.Resources.{resources};
 ghost use Rattle.ws_ops.specs.Sound.{IsSound};
 

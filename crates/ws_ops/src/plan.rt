@@ -1,9 +1,9 @@
 //! What an operation is going to change.
-ghost use Rattle.std.specs.Prelude.{◌≡◌, ◌∷◌, ◌++◌, [], map, IfOk, OnOk, None, Some as some};
-ghost use Rattle.ws_ops.specs.Changes.{taken, put};
+ghost use Rattle.std.specs.Prelude.{◌≡◌, ◌∷◌, [], IfOk, None, Some as some};
+ghost use Rattle.ws_ops.specs.Changes.{put};
 
 use crate::changes::Changes;
-use crate::{Entries, NoMemory, OpAnswer, Side};
+use crate::{NoMemory, OpAnswer, Side};
 use res_path::{Name, Path};
 use std::alloc::Global;
 use ws_elem::Element;

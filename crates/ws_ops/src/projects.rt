@@ -1,5 +1,5 @@
 //! The plans of what opens, closes and describes a project.
-ghost use Rattle.std.specs.Prelude.{◌≡◌, [], length, Some, unwrap_or, IfOk};
+ghost use Rattle.std.specs.Prelude.{◌≡◌, [], length, unwrap_or, IfOk};
 ghost use Rattle.std.specs.Option.{option_map};
 ghost use Rattle.proj_desc.specs.Causes.{desc_cause};
 ghost use Rattle.proj_desc.specs.Canonical.{canonical_of};

@@ -1,5 +1,5 @@
 //! The plans of moves and copies.
-ghost use Rattle.std.specs.Prelude.{◌≡◌, ◌≤◌, ◌<◌, ◌+◌, ◌^◌, [], ◌∷◌, true, false, not, ◌||◌, length, Some, IfOk, IfErr, OnOk};
+ghost use Rattle.std.specs.Prelude.{◌≡◌, ◌≤◌, ◌<◌, ◌+◌, ◌^◌, [], true, false, not, ◌||◌, length, Some, IfOk, IfErr, OnOk};
 ghost use Rattle.std.specs.Bool.{beq};
 ghost use Rattle.std.specs.FinMap.{get};
 ghost use Rattle.std.specs.List.{list_all};
@@ -9,7 +9,7 @@ ghost use Rattle.ws_ops.specs.Judging.{Judges, IfRefused};
 ghost use Rattle.ws_ops.specs.Members.{branch, carried, rebased};
 ghost use Rattle.ws_ops.specs.Numbers.{has_stamp, stamps_of, stamps_of_all};
 ghost use Rattle.ws_ops.specs.Places.{is_root_path, is_project_path, project_name};
-ghost use Rattle.ws_ops.specs.Plans.{Plans, CanDraw};
+ghost use Rattle.ws_ops.specs.Plans.{Plans};
 ghost use Rattle.ws_ops.specs.Refusals.{first_cause, when, standing_causes, fit_causes, transfer_causes, goes_too_deep, gets_too_long, description_cause};
 ghost use Rattle.ws_ops.specs.Resources.{resources};
 

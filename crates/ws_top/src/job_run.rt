@@ -6,7 +6,7 @@ ghost use Rattle.ws_core.specs.Histories.{has_entered, fresh};
 ghost use Rattle.ws_top.specs.Runs.{Asks, AsksFront, Stay, event_of, command_call, schedule_event, schedule_call, job_calls, phase_calls, calls};
 
 use crate::NoMemory;
-use script_lang::{Command, Job, Phase, Script};
+use script_lang::{Command, Job, Phase};
 use std::alloc::Global;
 use ws_core::{Core, Event};
 
@@ -19,9 +19,9 @@ fn event_of(command: &Command) -> Result<Event, NoMemory>
         Command::Batch => Ok(Event::Batch),
         Command::EndBatch => Ok(Event::EndBatch),
         Command::Checkpoint => Ok(Event::Checkpoint),
-        Command::Begin(rule) => Ok(Event::Begin(rule.copy()?)),
-        Command::TryBegin(rule) => Ok(Event::TryBegin(rule.copy()?)),
-        Command::End(rule) => Ok(Event::End(rule.copy()?)),
+        Command::Begin(rule) => Ok(Event::Begin(rule.as_rule().copy()?)),
+        Command::TryBegin(rule) => Ok(Event::TryBegin(rule.as_rule().copy()?)),
+        Command::End(rule) => Ok(Event::End(rule.as_rule().copy()?)),
     }
 }
 
@@ -61,7 +61,7 @@ fn schedule_of(job: &Job) -> Result<Event, NoMemory>
     ensures { IfOk result (λ event. event ≡ schedule_event job.now) }
 {
     let name = job.name.copy()?;
-    let rule = job.rule.copy()?;
+    let rule = job.rule.as_rule().copy()?;
     Ok(Event::Schedule(name, job.priority.number(), rule))
 }
 

@@ -18,5 +18,5 @@ returns-clause-back c =
     c.as_slice-phase-items.ensures in
     let text : c.loop-phase.out.items ≡ script_text c.args.script.now =
     c.loop-phase.invariant.text ∙ ap (flat_map (λ (phase : Phase). ended (phase_lines phase))) all ∙ sym (whole_text c.args.script.now) in
-    λ w. reads_back c.loop-phase.out.items c.args.script.now text (subst (AllByRecursion HasOneJob) all c.loop-phase.invariant.jobs)
-    (subst (AllByRecursion (λ (phase : Phase). AreLines (phase_lines phase))) all c.loop-phase.invariant.parts) w
+    reads_back c.loop-phase.out.items c.args.script.now text (subst (AllByRecursion HasOneJob) all c.loop-phase.invariant.jobs)
+    (subst (AllByRecursion (λ (phase : Phase). AreLines (phase_lines phase))) all c.loop-phase.invariant.parts)

@@ -2,7 +2,7 @@ use Rattle.std.proofs.Common.{ℕ, List, ◌++◌, sym, ◌∙◌, ap, subst}
 use Rattle.std.specs.List.{flat_map, AllByRecursion}
 use Rattle.sched_rules.specs.declared.ws_atom.WsAtom.{WsAtom}
 use Rattle.script_lang.specs.Commands.{atom_parts}
-use Rattle.script_lang.specs.Scripts.{HasLines}
+use Rattle.script_lang.specs.RuleLines.{HasLines}
 use Rattle.script_lang.specs.Printed.{AreParts, spaced}
 use Rattle.script_lang.proofs.Texts.{all_taken}
 use Rattle.script_lang.proofs.Spaced.{spaced_each, parts_if, text_more, all_more}
@@ -17,10 +17,10 @@ returns-clause-text c =
     ∙ sym (spaced_each atom_parts c.args.atoms.now))
 
 pub returns-clause-parts : goal.returns-clause-parts
-returns-clause-parts c = λ lines.
+returns-clause-parts c =
     parts_if atom_parts HasLines c.args.atoms.now
     (subst (AllByRecursion (λ (atom : WsAtom). HasLines atom → AreParts (atom_parts atom)))
-    (all_taken c.loop-atom.atom-index c.args.atoms.now c.loop-atom-test.false c.loop-atom.auto.atom-index-end) c.loop-atom.invariant.parts) lines
+    (all_taken c.loop-atom.atom-index c.args.atoms.now c.loop-atom-test.false c.loop-atom.auto.atom-index-end) c.loop-atom.invariant.parts) c.requires
 
 pub loop-atom-preserved : goal.loop-atom-preserved
 loop-atom-preserved c = record {

@@ -2,7 +2,7 @@ use Rattle.std.proofs.Common.{◌≡◌, ◌++◌, take}
 use Rattle.std.specs.List.{flat_map, AllByRecursion}
 use Rattle.script_lang.specs.Words.{Grows}
 use Rattle.script_lang.specs.Commands.{atom_parts}
-use Rattle.script_lang.specs.Scripts.{HasLines}
+use Rattle.script_lang.specs.RuleLines.{HasLines}
 use Rattle.script_lang.specs.Printed.{AreParts, spaced}
 use Rattle.script_lang.proofs.rule_text.put_atoms.Given as goal
 

@@ -2,7 +2,7 @@ use Rattle.std.proofs.Common.{[], ◌∷◌, ◌++◌, sym, ◌∙◌}
 use Rattle.script_lang.specs.Commands.{atom_parts, rule_read}
 use Rattle.script_lang.proofs.Fitting.{no_tokens, some_tokens, one_more, stuck, front_whole}
 use Rattle.script_lang.proofs.Fronts.{atoms_once, many, as_rule}
-use Rattle.script_lang.proofs.Ruled.{read_more}
+use Rattle.script_lang.proofs.Ruled.{read_more, read_lines}
 use Rattle.std.specs.List.{flat_map}
 use Rattle.script_lang.proofs.rules.rule_of_atoms.Goals as goal
 
@@ -26,8 +26,13 @@ pub returns : goal.returns
 returns c =
     let read = c.loop-rest.invariant in (
       read.0,
-      read.1,
+      read.1 ∙ sym c.named.ensures,
       as_rule c.args.tokens.now read.0 c.requires
           (front_whole c.args.tokens.now (flat_map atom_parts read.0) c.loop-rest.rest.now read.2
           (no_tokens c.loop-rest.rest.now c.is_empty.result c.is_empty.ensures c.loop-rest-test.false)),
     )
+
+pub named-requires : goal.named-requires
+named-requires c =
+    let read = c.loop-rest.invariant in
+    read_lines c.args.tokens.now c.loop-rest.rest.now read.0 c.loop-rest.rule read.2 read.1
