@@ -261,25 +261,23 @@ fn a_rule_is_read_without_the_atoms_that_others_contain(rt: HostRuntime) -> Resu
     Ok(())
 }
 
-/// The command that begins the rule of this range of lines of `/P/a`, printed, if a script can have it.
-fn begun_range(alloc: Global, from: u32, to: u32) -> Result<Option<Vec<u8>>, Fail> {
+/// The rule of this range of lines of `/P/a`.
+fn range(alloc: Global, from: u32, to: u32) -> Result<Rule<WsAtom>, Fail> {
     let file = Path::parse(alloc, "/P/a")?;
-    let range = Rule::of(alloc, WsAtom::Lines { file, from, to })?;
-    let Some(rule) = ScriptRule::of(range) else {
-        return Ok(None);
-    };
-    let mut printed = Vec::new(alloc);
-    put_command(&mut printed, &Command::Begin(rule))?;
-    Ok(Some(printed))
+    let rule = Rule::of(alloc, WsAtom::Lines { file, from, to })?;
+    Ok(rule)
+}
+
+/// Whether a script can name the rule of this range.
+fn is_named(alloc: Global, from: u32, to: u32) -> Result<bool, Fail> {
+    let rule = range(alloc, from, to)?;
+    Ok(ScriptRule::of(rule).is_some())
 }
 
 #[test]
 fn a_range_of_a_script_has_a_line(rt: HostRuntime) -> Result<(), Fail> {
-    match begun_range(rt.alloc(), 9, 9)? {
-        Some(line) => assert!(rt; line.as_slice() == b"begin lines /P/a 9 9".as_slice()),
-        None => assert!(rt; false),
-    }
-    assert!(rt; begun_range(rt.alloc(), 9, 3)?.is_none());
+    assert!(rt; is_named(rt.alloc(), 9, 9)?);
+    assert!(rt; !is_named(rt.alloc(), 9, 3)?);
     Ok(())
 }
 
