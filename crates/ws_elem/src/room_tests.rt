@@ -76,41 +76,99 @@ fn listed(alloc: Global, tree: &ElemMap) -> Result<String, Fail> {
     Ok(text)
 }
 
+/// Puts an element with this node at the path with this text, and tells whether one was there.
+fn put(alloc: Global, tree: &mut ElemMap, text: &str, kind: Kind, node: u64) -> Result<bool, Fail> {
+    let at = path(alloc, text)?;
+    let before = tree.put(at, Element::bare(kind, node))?;
+    Ok(before.is_some())
+}
+
+/// Takes what is at the path with this text, and tells whether there was something.
+fn take(alloc: Global, tree: &mut ElemMap, text: &str) -> Result<bool, Fail> {
+    let at = path(alloc, text)?;
+    Ok(tree.take(&at).is_some())
+}
+
+fn make_room(alloc: Global, tree: &mut ElemMap, text: &str) -> Result<(), Fail> {
+    let at = path(alloc, text)?;
+    tree.make_room(&at)?;
+    Ok(())
+}
+
+fn fill(alloc: Global, tree: &mut ElemMap) -> Result<(), Fail> {
+    put(alloc, tree, "/a", Kind::Project, 2)?;
+    put(alloc, tree, "/a/f", Kind::File, 3)?;
+    Ok(())
+}
+
 /// The root, a project and a file in it.
 fn three(alloc: Global) -> Result<ElemMap, Fail> {
     let mut tree = ElemMap::fresh(alloc)?;
-    tree.put(path(alloc, "/a")?, Element::bare(Kind::Project, 2))?;
-    tree.put(path(alloc, "/a/f")?, Element::bare(Kind::File, 3))?;
+    fill(alloc, &mut tree)?;
     Ok(tree)
+}
+
+/// The same, with room at one path that has an element and at two that have none.
+fn roomy(alloc: Global) -> Result<ElemMap, Fail> {
+    let mut tree = three(alloc)?;
+    for text in ["/a/b", "/a/f", "/b", "/a/b"] {
+        make_room(alloc, &mut tree, text)?;
+    }
+    Ok(tree)
+}
+
+/// How many elements are at or below the path with this text.
+fn count_below(alloc: Global, tree: &ElemMap, text: &str) -> Result<usize, Fail> {
+    let at = path(alloc, text)?;
+    let below = tree.below(alloc, &at)?;
+    Ok(below.len())
+}
+
+fn has(alloc: Global, tree: &ElemMap, text: &str) -> Result<bool, Fail> {
+    let at = path(alloc, text)?;
+    Ok(tree.get(&at).is_some() || tree.contains(&at))
 }
 
 #[test]
 fn an_empty_slot_is_shown_nowhere(rt: HostRuntime) -> Result<(), Fail> {
     let alloc = rt.alloc();
-    let mut tree = three(alloc)?;
-    for text in ["/a/b", "/a/f", "/b", "/a/b"] {
-        tree.make_room(&path(alloc, text)?)?;
-    }
+    let tree = roomy(alloc)?;
     assert_eq!(rt; tree.len(), 3);
     assert_eq!(rt; walked(alloc, &tree)?.as_str(), "/a /a/f ");
     assert_eq!(rt; listed(alloc, &tree)?.as_str(), "/ /a /a/f ");
-    assert_eq!(rt; tree.below(alloc, &path(alloc, "/a")?)?.len(), 2);
-    assert!(rt; tree.get(&path(alloc, "/b")?).is_none());
-    assert!(rt; !tree.contains(&path(alloc, "/a/b")?));
-    assert!(rt;
-        tree.put(path(alloc, "/b")?, Element::bare(Kind::Project, 4))?
-            .is_none()
-    );
-    assert_eq!(rt; walked(alloc, &tree)?.as_str(), "/a /a/f /b ");
-    assert!(rt; tree.take(&path(alloc, "/a/f")?).is_some());
-    assert!(rt; tree.take(&path(alloc, "/a/f")?).is_none());
+    assert_eq!(rt; count_below(alloc, &tree, "/a")?, 2);
+    assert!(rt; !has(alloc, &tree, "/b")?);
+    assert!(rt; !has(alloc, &tree, "/a/b")?);
+    Ok(())
+}
+
+/// Puts an element into an empty slot, and takes another twice: whether something was there each time.
+fn changed(alloc: Global, tree: &mut ElemMap) -> Result<String, Fail> {
+    let put = put(alloc, tree, "/b", Kind::Project, 4)?;
+    let taken = take(alloc, tree, "/a/f")?;
+    let again = take(alloc, tree, "/a/f")?;
+    Ok(format!(in alloc; "{put} {taken} {again}")?)
+}
+
+#[test]
+fn an_empty_slot_takes_an_element(rt: HostRuntime) -> Result<(), Fail> {
+    let alloc = rt.alloc();
+    let mut tree = roomy(alloc)?;
+    assert_eq!(rt; changed(alloc, &mut tree)?.as_str(), "false true false");
     assert_eq!(rt; tree.len(), 3);
     assert_eq!(rt; walked(alloc, &tree)?.as_str(), "/a /b ");
+    Ok(())
+}
+
+#[test]
+fn room_that_is_dropped_leaves_a_copy_alone(rt: HostRuntime) -> Result<(), Fail> {
+    let alloc = rt.alloc();
+    let mut tree = roomy(alloc)?;
     let copy = tree.copy()?;
     tree.drop_room();
     for tree in [&tree, &copy] {
         assert_eq!(rt; tree.len(), 3);
-        assert_eq!(rt; walked(alloc, tree)?.as_str(), "/a /b ");
+        assert_eq!(rt; walked(alloc, tree)?.as_str(), "/a /a/f ");
     }
     Ok(())
 }
@@ -119,29 +177,36 @@ fn an_empty_slot_is_shown_nowhere(rt: HostRuntime) -> Result<(), Fail> {
 fn room_where_all_have_elements_is_dropped_too(rt: HostRuntime) -> Result<(), Fail> {
     let alloc = rt.alloc();
     let mut tree = three(alloc)?;
-    tree.make_room(&path(alloc, "/a/f")?)?;
+    make_room(alloc, &mut tree, "/a/f")?;
     tree.drop_room();
-    assert!(rt; TreeRep::take(&mut tree, &path(alloc, "/a/f")?)?.is_some());
+    assert!(rt; take(alloc, &mut tree, "/a/f")?);
     assert_eq!(rt; walked(alloc, &tree)?.as_str(), "/a ");
     Ok(())
 }
 
+/// The paths of the tree with the element moved, or the ones that it had where memory wanted.
+fn moved(alloc: Global, from: &str, to: &str) -> Result<String, Fail> {
+    let mut tree = three(alloc)?;
+    let (from, to) = (path(alloc, from)?, path(alloc, to)?);
+    let moved = move_element(&mut tree, &from, to);
+    let shown = walked(alloc, &tree)?;
+    if moved.is_err() && shown.as_str() != "/a /a/f " {
+        return Ok(String::new(alloc));
+    }
+    moved?;
+    Ok(shown)
+}
+
 #[test]
 fn an_element_moves_whole_or_not_at_all(rt: HostRuntime) -> Result<(), Fail> {
-    let alloc = rt.alloc();
     for (from, to, wanted) in [
         ("/a/f", "/b", "/a /b "),
         ("/a/f", "/a/f", "/a /a/f "),
         ("/c", "/d", "/a /a/f "),
         ("/a/f", "/a", "/a "),
     ] {
-        let mut tree = three(alloc)?;
-        let (from, to) = (path(alloc, from)?, path(alloc, to)?);
-        let moved = move_element(&mut tree, &from, to);
-        let shown = walked(alloc, &tree)?;
-        let wanted = if moved.is_ok() { wanted } else { "/a /a/f " };
+        let shown = moved(rt.alloc(), from, to)?;
         assert_eq!(rt; shown.as_str(), wanted, "from {from}");
-        moved?;
     }
     Ok(())
 }

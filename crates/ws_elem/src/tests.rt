@@ -9,23 +9,44 @@ fn path(alloc: Global, text: &str) -> Result<Path, Fail> {
     Ok(Path::parse(alloc, text)?)
 }
 
-/// The fresh workspace with two open projects, a folder and two files; nodes are drawn in this order.
+/// A file with this node and these contents.
+fn file(alloc: Global, node: u64, text: &[u8]) -> Result<Element, Fail> {
+    let bytes = Bytes::copy_from_slice(alloc, text)?;
+    Ok(Element {
+        stamp: 1,
+        bytes,
+        ..Element::bare(Kind::File, node)
+    })
+}
+
+/// An open project with this node.
+fn project(node: u64) -> Element {
+    Element {
+        opened: true,
+        ..Element::bare(Kind::Project, node)
+    }
+}
+
+/// Puts the element at the path with this text.
+fn put(alloc: Global, tree: &mut ElemMap, text: &str, element: Element) -> Result<(), Fail> {
+    let at = path(alloc, text)?;
+    tree.put(at, element)?;
+    Ok(())
+}
+
+/// Puts two open projects, a folder and two files; nodes are drawn in this order.
+fn fill(alloc: Global, tree: &mut ElemMap) -> Result<(), Fail> {
+    put(alloc, tree, "/a", project(2))?;
+    put(alloc, tree, "/a.b", project(3))?;
+    put(alloc, tree, "/a/x", Element::bare(Kind::Folder, 4))?;
+    put(alloc, tree, "/a/x/f", file(alloc, 5, b"text")?)?;
+    put(alloc, tree, "/a/y", file(alloc, 6, b"text")?)
+}
+
+/// The fresh workspace with two open projects, a folder and two files.
 fn small_tree(alloc: Global) -> Result<ElemMap, Fail> {
     let mut tree = ElemMap::fresh(alloc)?;
-    let project = Element {
-        opened: true,
-        ..Element::bare(Kind::Project, 2)
-    };
-    tree.put(path(alloc, "/a")?, project.copy()?)?;
-    tree.put(path(alloc, "/a.b")?, Element { node: 3, ..project })?;
-    tree.put(path(alloc, "/a/x")?, Element::bare(Kind::Folder, 4))?;
-    let file = Element {
-        stamp: 1,
-        bytes: Bytes::copy_from_slice(alloc, b"text")?,
-        ..Element::bare(Kind::File, 5)
-    };
-    tree.put(path(alloc, "/a/x/f")?, file.copy()?)?;
-    tree.put(path(alloc, "/a/y")?, Element { node: 6, ..file })?;
+    fill(alloc, &mut tree)?;
     Ok(tree)
 }
 
@@ -100,19 +121,41 @@ fn below_a_path_are_its_members_and_no_neighbour_that_begins_alike(
     Ok(())
 }
 
+/// The paths of all entries once the path with this text was cut out with all below it.
+fn removed(alloc: Global, tree: &mut ElemMap, text: &str) -> Result<String, Fail> {
+    let at = path(alloc, text)?;
+    tree.remove_below(alloc, &at)?;
+    all_listed(alloc, tree)
+}
+
+fn has(alloc: Global, tree: &ElemMap, text: &str) -> Result<bool, Fail> {
+    let at = path(alloc, text)?;
+    Ok(tree.contains(&at))
+}
+
 #[test]
-fn a_removal_takes_all_below_and_leaves_a_copy_alone(rt: HostRuntime) -> Result<(), Fail> {
+fn a_removal_takes_all_below(rt: HostRuntime) -> Result<(), Fail> {
     let alloc = rt.alloc();
     let mut tree = small_tree(alloc)?;
-    let before = tree.copy()?;
-    tree.remove_below(alloc, &path(alloc, "/a/x")?)?;
-    let left = all_listed(alloc, &tree)?;
-    assert_eq!(rt; left.as_str(), "/ /a /a/y /a.b ");
-    tree.remove_below(alloc, &path(alloc, "/a/x")?)?;
+    for _ in 0..2 {
+        assert_eq!(rt;
+            removed(alloc, &mut tree, "/a/x")?.as_str(),
+            "/ /a /a/y /a.b "
+        );
+    }
     assert_eq!(rt; tree.len(), 4);
-    assert_eq!(rt; before.len(), 6);
-    assert!(rt; before.contains(&path(alloc, "/a/x/f")?));
-    assert!(rt; !tree.contains(&path(alloc, "/a/x/f")?));
+    assert!(rt; !has(alloc, &tree, "/a/x/f")?);
+    Ok(())
+}
+
+#[test]
+fn a_removal_leaves_a_copy_alone(rt: HostRuntime) -> Result<(), Fail> {
+    let alloc = rt.alloc();
+    let mut tree = small_tree(alloc)?;
+    let copy = tree.copy()?;
+    removed(alloc, &mut tree, "/a/x")?;
+    assert_eq!(rt; copy.len(), 6);
+    assert!(rt; has(alloc, &copy, "/a/x/f")?);
     Ok(())
 }
 
@@ -120,19 +163,22 @@ fn node_of(found: Option<&Element>) -> u64 {
     found.map_or(0, |element| element.node)
 }
 
+/// Puts a folder in the place of a file and takes it twice: which nodes each of these calls tells, 0 for none.
+fn changed(alloc: Global, tree: &mut ElemMap) -> Result<String, Fail> {
+    let place = path(alloc, "/a/y")?;
+    let before = tree.put(place.copy()?, Element::bare(Kind::Folder, 7))?;
+    let before = node_of(before.as_ref());
+    let now = node_of(tree.get(&place));
+    let taken = node_of(tree.take(&place).as_ref());
+    let again = node_of(tree.take(&place).as_ref());
+    Ok(format!(in alloc; "{before} {now} {taken} {again}")?)
+}
+
 #[test]
 fn an_element_that_is_put_takes_the_place_of_the_one_before(rt: HostRuntime) -> Result<(), Fail> {
     let alloc = rt.alloc();
     let mut tree = small_tree(alloc)?;
-    let place = path(alloc, "/a/y")?;
-    assert_eq!(rt; node_of(tree.get(&place)), 6);
-    let before = tree.put(place.copy()?, Element::bare(Kind::Folder, 7))?;
-    assert_eq!(rt; node_of(before.as_ref()), 6);
-    assert_eq!(rt; node_of(tree.get(&place)), 7);
-    let taken = tree.take(&place);
-    assert_eq!(rt; node_of(taken.as_ref()), 7);
-    assert_eq!(rt; node_of(tree.get(&place)), 0);
-    assert!(rt; tree.take(&place).is_none());
+    assert_eq!(rt; changed(alloc, &mut tree)?.as_str(), "6 7 7 0");
     assert_eq!(rt; tree.len(), 5);
     Ok(())
 }
@@ -165,30 +211,28 @@ fn kinds_have_the_platforms_numbers_and_words(rt: HostRuntime) -> Result<(), Fai
 
 #[test]
 fn elements_are_equal_where_all_their_parts_are(rt: HostRuntime) -> Result<(), Fail> {
-    let file = Element {
-        stamp: 1,
-        bytes: Bytes::copy_from_slice(rt.alloc(), b"text")?,
-        ..Element::bare(Kind::File, 5)
-    };
-    let copy = file.copy()?;
-    assert!(rt; copy == file);
-    let other = Element {
-        bytes: Bytes::copy_from_slice(rt.alloc(), b"texts")?,
-        ..copy
-    };
-    assert!(rt; other != file);
+    let one = file(rt.alloc(), 5, b"text")?;
+    let other = file(rt.alloc(), 5, b"texts")?;
+    let copy = one.copy()?;
+    assert!(rt; copy == one);
+    assert!(rt; other != one);
+    Ok(())
+}
+
+/// Gives the element a marker, and bytes of a partner.
+fn mark(alloc: Global, element: &mut Element) -> Result<(), Fail> {
+    element.marks.create(alloc, 1, "problem", &[])?;
+    let bytes = Bytes::copy_from_slice(alloc, b"v1")?;
+    element.syncs.set(alloc, 0, Some(bytes))?;
     Ok(())
 }
 
 #[test]
 fn a_copy_of_an_element_has_its_markers_and_bytes(rt: HostRuntime) -> Result<(), Fail> {
-    let alloc = rt.alloc();
     let mut file = Element::bare(Kind::File, 5);
     assert!(rt; file.marks.is_empty());
     assert!(rt; file.syncs.is_empty());
-    file.marks.create(alloc, 1, "problem", &[])?;
-    let bytes = Bytes::copy_from_slice(alloc, b"v1")?;
-    file.syncs.set(alloc, 0, Some(bytes))?;
+    mark(rt.alloc(), &mut file)?;
     let copy = file.copy()?;
     assert!(rt; copy == file);
     assert!(rt; copy != Element::bare(Kind::File, 5));
