@@ -1,6 +1,5 @@
 //! Rules as scripts name them.
 ghost use Rattle.std.specs.Prelude.{◌≡◌, false, IsTrue, [], MatchOption};
-ghost use Rattle.std.specs.List.{list_all};
 ghost use Rattle.script_lang.specs.RuleLines.{has_lines, can_be_named};
 
 use sched_rules::{Rule, WsAtom};
@@ -63,7 +62,7 @@ impl ScriptRule {
 
 /// Whether each of the atoms that is a range of lines has a line.
 fn all_have_lines(atoms: &[WsAtom]) -> bool
-    ensures { result ≡ list_all has_lines atoms.now }
+    ensures { result ≡ can_be_named atoms.now }
 {
     atoms.iter().all(|atom| has_lines(atom))
 }

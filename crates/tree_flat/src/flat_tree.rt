@@ -66,6 +66,10 @@ impl TreeRep for FlatTree {
         self.elements.put(path, element)
     }
 
+    fn put_new(&mut self, path: &Path, element: Element) -> Result<bool, NoMemory> {
+        self.elements.put_new(path, element)
+    }
+
     fn take(&mut self, path: &Path) -> Result<Option<Element>, NoMemory> {
         Ok(self.elements.take(path))
     }

@@ -58,6 +58,32 @@ fn filled(alloc: Global) -> Result<FlatTree, Fail> {
     Ok(tree)
 }
 
+/// Puts a file at the path with this text where nothing is, and tells whether it was put there.
+fn put_new<T: TreeRep>(alloc: Global, tree: &mut T, text: &str) -> Result<bool, Fail> {
+    Ok(tree.put_new(&path(alloc, text)?, Element::bare(Kind::File, 9))?)
+}
+
+#[test]
+fn a_flat_tree_puts_a_new_element_where_none_is(rt: HostRuntime) -> Result<(), Fail> {
+    let alloc = rt.alloc();
+    let mut tree = filled(alloc)?;
+    assert!(rt; put_new(alloc, &mut tree, "/a/g")?);
+    assert!(rt; !put_new(alloc, &mut tree, "/a/f")?);
+    assert_eq!(rt; tree.len(), 4);
+    assert_eq!(rt; node_at(&tree, &path(alloc, "/a/f")?), 3);
+    Ok(())
+}
+
+#[test]
+fn an_empty_slot_of_a_flat_tree_is_no_element(rt: HostRuntime) -> Result<(), Fail> {
+    let alloc = rt.alloc();
+    let mut tree = FlatTree::of(ElemMap::fresh(alloc)?);
+    tree.make_room(&path(alloc, "/a")?)?;
+    assert_eq!(rt; tree.len(), 1);
+    assert_eq!(rt; walked(alloc, &tree)?.as_str(), "");
+    Ok(())
+}
+
 /// Puts a file in the place of the first and takes it twice: which nodes each of these calls tells.
 fn changed<T: TreeRep>(alloc: Global, tree: &mut T) -> Result<String, Fail> {
     let file = path(alloc, "/a/f")?;

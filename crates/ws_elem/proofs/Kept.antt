@@ -1,7 +1,7 @@
 -- Slots, as the tree that they make.
-use Rattle.std.proofs.Common.{◌≡◌, ℕ, zero, suc, arith, ◌+◌, ◌-◌, ◌≤◌, Bool, true, false, cond, ◌||◌, List, [], ◌∷◌, refl, sym, ap, ◌∙◌, subst}
+use Rattle.std.proofs.Common.{◌≡◌, ℕ, zero, suc, arith, ◌+◌, ◌-◌, ◌≤◌, Bool, true, false, cond, if◌then◌else◌, ◌||◌, List, [], ◌∷◌, refl, sym, ap, ◌∙◌, subst}
 use Rattle.std.specs.Option.{option_flatten}
-use Rattle.std.specs.Prelude.{Option, Some, None, is_some}
+use Rattle.std.specs.Prelude.{Option, Some, None, is_some, is_none, not, ◌&&◌}
 use Rattle.std.specs.BTreeMap.{is_at}
 use Rattle.std.specs.Cmp.{eq_by_cmp_equiv}
 use Rattle.std.specs.FinMap.{empty, get, insert, remove, len, get-insert, get-remove, get-empty, len-insert, len-remove, len-empty, empty_of_len, same_map}
@@ -12,8 +12,8 @@ use Rattle.res_path.specs.Paths.{Names, path_cmp}
 use Rattle.res_path.specs.PathLaws.{path_cmp_total}
 use Rattle.res_path.proofs.Prefixes.{path_cmp_exact}
 use Rattle.ws_elem.specs.declared.element.Element.{Element}
-use Rattle.ws_elem.specs.Trees.{Tree}
-use Rattle.ws_elem.specs.Slots.{Slots, slot_at, is_among, set_at, tree_of, agrees, SetsSlot, SetsRoom, emptied, opened, closed, is_empty_slot, IsKept}
+use Rattle.ws_elem.specs.Trees.{Tree, with_new}
+use Rattle.ws_elem.specs.Slots.{Slots, slot_at, is_among, set_at, tree_of, agrees, SetsSlot, SetsRoom, emptied, opened, filled_by, closed, is_empty_slot, IsKept}
 use Rattle.ws_elem.proofs.Cuts.{same_at}
 
 -- ---- what is at a path
@@ -196,6 +196,67 @@ module _ (slots now : Slots) (room : List Names) (n : ℕ) (p : Names) where
       by (Some None) = refl
       by (Some (Some e)) = refl
 
+  pub after_fill : (e : Element) → SetsSlot slots now p (filled_by e (slot_at slots p)) → tree_of now ≡ with_new (tree_of slots) p e
+  after_fill e h = by (slot_at slots p) refl
+    where
+      put_in : (slot : Option (Option Element)) → slot_at slots p ≡ slot → option_flatten slot ≡ None → option_flatten (filled_by e slot) ≡ Some e
+          → tree_of now ≡ with_new (tree_of slots) p e
+      put_in slot i g f =
+          one_set slots now p (filled_by e (slot_at slots p)) h ∙ ap (λ s. set_at (tree_of slots) p (option_flatten (filled_by e s))) i
+          ∙ ap (set_at (tree_of slots) p) f
+          ∙ sym (ap (λ b. if b then tree_of slots else insert (tree_of slots) p e) (held None (ap option_flatten i ∙ g)))
+
+      by : (slot : Option (Option Element)) → slot_at slots p ≡ slot → tree_of now ≡ with_new (tree_of slots) p e
+      by None i = put_in None i refl refl
+      by (Some None) i = put_in (Some None) i refl refl
+      by (Some (Some x)) i =
+          none_set slots now p (filled_by e (slot_at slots p)) h (ap (λ s. option_flatten (filled_by e s)) i ∙ sym (ap option_flatten i))
+          ∙ sym (ap (λ b. if b then tree_of slots else insert (tree_of slots) p e) (held (Some x) (ap option_flatten i)))
+
+  roomy_fill : (e : Element) (left : List Names) → Agree slots room → SetsSlot slots now p (filled_by e (slot_at slots p)) → SetsRoom room left p true → Agree now left
+  roomy_fill e left k h g = agree_after slots now room left p (filled_by e (slot_at slots p)) true h g (by (slot_at slots p)) k
+    where
+      by : (slot : Option (Option Element)) → agrees (filled_by e slot) true ≡ true
+      by None = refl
+      by (Some None) = refl
+      by (Some (Some x)) = refl
+
+  count_fill : (e : Element) (b : Bool) → SetsSlot slots now p (filled_by e (slot_at slots p)) → b ≡ is_none (option_flatten (slot_at slots p))
+      → len (tree_of now) ≡ cond b (len (tree_of slots) + 1) (len (tree_of slots))
+  count_fill e b h g = ap len (after_fill e h) ∙ by (option_flatten (slot_at slots p)) refl b g
+    where
+      by : (x : Option Element) → option_flatten (slot_at slots p) ≡ x → (b : Bool) → b ≡ is_none (option_flatten (slot_at slots p))
+          → len (with_new (tree_of slots) p e) ≡ cond b (len (tree_of slots) + 1) (len (tree_of slots))
+      by None i b g =
+          ap (λ z. len (if z then tree_of slots else insert (tree_of slots) p e)) (held None i) ∙ len-insert path_cmp_total (tree_of slots) p e
+          ∙ ap (λ z. cond z (len (tree_of slots)) (len (tree_of slots) + 1)) (held None i)
+          ∙ ap (λ z. cond z (len (tree_of slots) + 1) (len (tree_of slots))) (sym (g ∙ ap is_none i))
+      by (Some x) i b g =
+          ap (λ z. len (if z then tree_of slots else insert (tree_of slots) p e)) (held (Some x) i)
+          ∙ ap (λ z. cond z (len (tree_of slots) + 1) (len (tree_of slots))) (sym (g ∙ ap is_none i))
+
+  pub kept_filled : (e : Element) (left : List Names) → IsKept slots room n → SetsSlot slots now p (filled_by e (slot_at slots p)) → SetsRoom room left p true
+      → true ≡ is_none (option_flatten (slot_at slots p)) → IsKept now left (n + 1)
+  kept_filled e left k h g b = record {
+    roomy = roomy_fill e left k.roomy h g;
+    counted = ap (λ m. m + 1) k.counted ∙ sym (count_fill e true h b);
+  }
+
+  pub kept_unfilled : (e : Element) (left : List Names) → IsKept slots room n → SetsSlot slots now p (filled_by e (slot_at slots p)) → SetsRoom room left p true
+      → false ≡ is_none (option_flatten (slot_at slots p)) → IsKept now left n
+  kept_unfilled e left k h g b = record {
+    roomy = roomy_fill e left k.roomy h g;
+    counted = k.counted ∙ sym (count_fill e false h b);
+  }
+
+  -- whether there was no element, as the tree tells it
+  pub fills_is : is_none (option_flatten (slot_at slots p)) ≡ not (is_some (get (tree_of slots) p))
+  fills_is = by (option_flatten (slot_at slots p)) ∙ ap (λ x. not (is_some x)) (sym (get-tree_of slots p))
+    where
+      by : (x : Option Element) → is_none x ≡ not (is_some x)
+      by None = refl
+      by (Some x) = refl
+
   -- a slot that was opened and is closed again, for a path without room
   pub undone : (back : Slots) → Agree slots room → is_among room p ≡ false → SetsSlot slots now p (opened (slot_at slots p)) → SetsSlot now back p (closed (slot_at now p)) → (q : Names) → slot_at back q ≡ slot_at slots q
   undone back a r h g q = g q ∙ (λ i. cond (is_at (path_cmp p) q) (closed (at_p i)) (h q i)) ∙ by (is_at (path_cmp p) q) refl
@@ -273,6 +334,10 @@ module _ (slots : Slots) (p : Names) where
       by (Some None) i q = h (ap is_empty_slot i) q
       by (Some (Some e)) i q = ap (λ s. slot_at s q) (g (ap is_empty_slot i)) ∙ at_one (slot_at slots) p q ∙ ap (λ x. cond (is_at (path_cmp p) q) x (slot_at slots q)) i
 
+-- room that stays
+pub sets_no_room : (room : List Names) (p : Names) → SetsRoom room room p (is_among room p)
+sets_no_room room p = at_one (is_among room) p
+
 -- ---- the sets of paths
 
 -- a path that has room already
@@ -293,6 +358,30 @@ kept_undone slots now back room left n p k r h g e =
   where
     same_slots : (back : Slots) → ((q : Names) → slot_at back q ≡ slot_at slots q) → tree_of back ≡ tree_of slots
     same_slots back h = same_map path_cmp_total path_cmp_exact _ _ (λ q. get-tree_of back q ∙ ap option_flatten (h q) ∙ sym (get-tree_of slots q))
+
+-- room that was added and is taken away again
+pub room_undone : (room left back : List Names) (p : Names) (added : Bool) → added ≡ not (is_among room p)
+    → SetsRoom room left p true → SetsRoom left back p (not added && is_among left p) → (q : Names) → is_among back q ≡ is_among room q
+room_undone room left back p added a g h q = h q ∙ (λ i. cond (is_at (path_cmp p) q) (not added && at_p i) (g q i)) ∙ by (is_at (path_cmp p) q) refl
+  where
+    at_p : is_among left p ≡ true
+    at_p = g p ∙ ap (λ o. cond (is_eq o) true (is_among room p)) (tied_itself path_cmp_total p)
+
+    had : (added has : Bool) → added ≡ not has → (not added && true) ≡ has
+    had true true h = cc
+    had true false h = refl
+    had false true h = refl
+    had false false h = cc
+
+    by : (b : Bool) → is_at (path_cmp p) q ≡ b → cond b (not added && true) (cond b true (is_among room q)) ≡ is_among room q
+    by true i = had added (is_among room p) a ∙ ap (is_among room) (same_at p q i)
+    by false i = refl
+
+pub kept_same : (slots now : Slots) (room left : List Names) (n : ℕ) → IsKept slots room n → now ≡ slots → ((q : Names) → is_among left q ≡ is_among room q) → IsKept now left n
+kept_same slots now room left n k e h = subst (λ s. IsKept s left n) (sym e) (record {
+  roomy = λ q. ap (agrees (slot_at slots q)) (h q) ∙ k.roomy q;
+  counted = k.counted;
+})
 
 pub kept_cleared : (slots : Slots) (room left : List Names) (n : ℕ) → IsKept slots room n → left ≡ [] → ((q : Names) → agrees (slot_at slots q) false ≡ true) → IsKept slots left n
 kept_cleared slots room left n k e h = record {

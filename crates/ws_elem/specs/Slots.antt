@@ -63,6 +63,12 @@ abbrev pub opened : Option (Option Element) → Option (Option Element)
 opened None = Some None
 opened (Some e) = Some e
 
+-- the slot with e in it, unless an element is there
+abbrev pub filled_by : Element → Option (Option Element) → Option (Option Element)
+filled_by e None = Some (Some e)
+filled_by e (Some None) = Some (Some e)
+filled_by e (Some (Some x)) = Some (Some x)
+
 -- there is a slot, without an element
 abbrev pub is_empty_slot : Option (Option Element) → Bool
 is_empty_slot None = false

@@ -1,14 +1,17 @@
 //! Elements by path.
-ghost use Rattle.std.specs.Prelude.{◌≡◌, ◌↔◌, IfOk, OnOk, OnErr, IsOk, IsTrue, true, false};
+ghost use Rattle.std.specs.Prelude.{◌≡◌, ◌↔◌, IfOk, OnOk, OnErr, IsOk, IsTrue, true, false, not};
 ghost use Rattle.std.specs.Option.{option_copied, option_map};
 ghost use Rattle.std.specs.Map.Iter.{deref_pair};
 ghost use Rattle.std.specs.FinMap as map;
-ghost use Rattle.ws_elem.specs.Trees.{Whole, fresh_tree, entry_after, paths_below, without};
+ghost use Rattle.ws_elem.specs.Trees.{Whole, fresh_tree, entry_after, paths_below, with_new, without};
 ghost use Rattle.ws_elem.specs.Rooms.{no_room, has_room, with_room};
 ghost use Rattle.ws_elem.specs.Walks.{first_below, without_all};
 
 use crate::entries::Entries;
-use crate::slots::{add_room, close_last, close_slot, element_in, one_more, open_slot, take_from};
+use crate::slots::{
+    add_room, close_last, close_slot, element_in, fill_slot, one_more, open_slot, take_from,
+    undo_room,
+};
 use crate::{Element, Kind, NoMemory, TreeRep};
 use res_path::Path;
 use std::alloc::Global;
@@ -131,6 +134,29 @@ impl ElemMap {
         }
     }
 
+    /// Puts the element at the path where there is none, and gives the path room either way. Whether it was put there.
+    /// Costs one search for the path, and one among those with room.
+    pub fn put_new(&mut self, path: &Path, element: Element) -> Result<bool, NoMemory>
+        ensures answer { IfOk result (λ puts. puts ≡ not (map.contains_key self.old.map path.now)) }
+        ensures ok { OnOk result (self.new.map ≡ with_new self.old.map path.now element) }
+        ensures err { OnErr result (self.new.map ≡ self.old.map) }
+        ensures room { OnOk result (self.new.room ≡ with_room self.old.room path.now) }
+        ensures no_room { OnErr result (self.new.room ≡ self.old.room) }
+    {
+        let added = add_room(&mut self.room, path)?;
+        let puts = match fill_slot(&mut self.slots, path, element) {
+            Ok(puts) => puts,
+            Err(wanted) => {
+                undo_room(&mut self.room, path, added);
+                return Err(wanted);
+            }
+        };
+        if puts {
+            self.elements = one_more(self.elements, &self.slots);
+        }
+        Ok(puts)
+    }
+
     /// Takes the element at the path out, if there is one. It takes no memory.
     pub fn take(&mut self, path: &Path) -> Option<Element>
         ensures before { result ≡ map.get self.old.map path.now }
@@ -211,6 +237,10 @@ impl TreeRep for ElemMap {
 
     fn put(&mut self, path: Path, element: Element) -> Result<Option<Element>, NoMemory> {
         ElemMap::put(self, path, element)
+    }
+
+    fn put_new(&mut self, path: &Path, element: Element) -> Result<bool, NoMemory> {
+        ElemMap::put_new(self, path, element)
     }
 
     fn take(&mut self, path: &Path) -> Result<Option<Element>, NoMemory> {

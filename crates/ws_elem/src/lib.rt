@@ -16,6 +16,8 @@ mod kind;
 mod room_tests;
 mod slots;
 #[cfg(test)]
+mod test_tools;
+#[cfg(test)]
 mod tests;
 mod tree_rep;
 

@@ -3,6 +3,7 @@ ghost use Rattle.std.specs.Prelude.{◌≡◌, true, OnOk, OnErr};
 ghost use Rattle.std.specs.FinMap as map;
 ghost use Rattle.ws_elem.specs.Rooms.{has_room, no_room};
 
+use crate::test_tools::{has, path};
 use crate::{ElemMap, Element, Kind, NoMemory, TreeRep};
 use res_path::Path;
 use std::alloc::Global;
@@ -45,10 +46,6 @@ fn move_element<T: TreeRep>(tree: &mut T, from: &Path, to: Path) -> Result<(), N
     }
     tree.drop_room();
     Ok(())
-}
-
-fn path(alloc: Global, text: &str) -> Result<Path, Fail> {
-    Ok(Path::parse(alloc, text)?)
 }
 
 /// The paths that `next` gives one after another from the root on, a blank after each.
@@ -124,11 +121,6 @@ fn count_below(alloc: Global, tree: &ElemMap, text: &str) -> Result<usize, Fail>
     Ok(below.len())
 }
 
-fn has(alloc: Global, tree: &ElemMap, text: &str) -> Result<bool, Fail> {
-    let at = path(alloc, text)?;
-    Ok(tree.get(&at).is_some() || tree.contains(&at))
-}
-
 #[test]
 fn an_empty_slot_is_shown_nowhere(rt: HostRuntime) -> Result<(), Fail> {
     let alloc = rt.alloc();
@@ -184,7 +176,51 @@ fn room_where_all_have_elements_is_dropped_too(rt: HostRuntime) -> Result<(), Fa
     Ok(())
 }
 
-/// The paths of the tree with the element moved, or the ones that it had where memory wanted.
+/// Puts files at these paths, where there is nothing: whether each was put there.
+fn new_files(alloc: Global, tree: &mut ElemMap, texts: &[&str]) -> Result<String, Fail> {
+    let mut told = String::new(alloc);
+    for text in texts {
+        let at = path(alloc, text)?;
+        let put = tree.put_new(&at, Element::bare(Kind::File, 7))?;
+        told.push_str(if put { "put " } else { "there " })?;
+    }
+    Ok(told)
+}
+
+/// The node of the element at the path with this text, or 0.
+fn node_at(alloc: Global, tree: &ElemMap, text: &str) -> Result<u64, Fail> {
+    let at = path(alloc, text)?;
+    Ok(tree.get(&at).map_or(0, |element| element.node))
+}
+
+#[test]
+fn a_new_element_goes_where_none_is(rt: HostRuntime) -> Result<(), Fail> {
+    let alloc = rt.alloc();
+    let mut tree = roomy(alloc)?;
+    let told = new_files(alloc, &mut tree, &["/b", "/a/f", "/a/c", "/a/c"])?;
+    assert_eq!(rt; told.as_str(), "put there put there ");
+    assert_eq!(rt; listed(alloc, &tree)?.as_str(), "/ /a /a/c /a/f /b ");
+    assert_eq!(rt; tree.len(), 5);
+    assert_eq!(rt; node_at(alloc, &tree, "/a/f")?, 3);
+    assert_eq!(rt; node_at(alloc, &tree, "/a/c")?, 7);
+    Ok(())
+}
+
+#[test]
+fn a_new_element_that_is_taken_leaves_its_room(rt: HostRuntime) -> Result<(), Fail> {
+    let alloc = rt.alloc();
+    let mut tree = three(alloc)?;
+    new_files(alloc, &mut tree, &["/b"])?;
+    assert!(rt; take(alloc, &mut tree, "/b")?);
+    assert!(rt; !has(alloc, &tree, "/b")?);
+    put(alloc, &mut tree, "/b", Kind::Project, 4)?;
+    tree.drop_room();
+    assert_eq!(rt; walked(alloc, &tree)?.as_str(), "/a /a/f /b ");
+    Ok(())
+}
+
+/// The paths of the tree with the element moved. An error is want of memory; the text is then empty unless the tree has
+/// kept its paths.
 fn moved(alloc: Global, from: &str, to: &str) -> Result<String, Fail> {
     let mut tree = three(alloc)?;
     let (from, to) = (path(alloc, from)?, path(alloc, to)?);

@@ -1,7 +1,7 @@
 //! The slots of an ordered map of elements, one at a time.
-ghost use Rattle.std.specs.Prelude.{◌≡◌, ◌+◌, ◌<◌, true, length, OnOk, OnErr, IsSome};
+ghost use Rattle.std.specs.Prelude.{◌≡◌, ◌+◌, ◌<◌, ◌&&◌, true, not, length, IfOk, OnOk, OnErr, Some, IsSome, is_none};
 ghost use Rattle.std.specs.Option.{option_copied, option_flatten};
-ghost use Rattle.ws_elem.specs.Slots.{slot_at, emptied, opened, closed, is_empty_slot, SetsSlot, SetsRoom};
+ghost use Rattle.ws_elem.specs.Slots.{slot_at, is_among, emptied, opened, filled_by, closed, is_empty_slot, SetsSlot, SetsRoom};
 
 use crate::{Element, NoMemory};
 use res_path::Path;
@@ -68,6 +68,36 @@ pub(crate) fn open_slot(
     Ok(())
 }
 
+/// Puts the element into the slot at the path, which is made where there is none, unless an element is in it. Whether
+/// it was put there.
+pub(crate) fn fill_slot(
+    slots: &mut BTreeMap<Path, Option<Element>>,
+    path: &Path,
+    element: Element,
+) -> Result<bool, NoMemory>
+    ensures answer { IfOk result (λ fills. fills ≡ is_none (option_flatten (slot_at slots.old.entries path.now))) }
+    ensures ok { OnOk result (SetsSlot slots.old.entries slots.new.entries path.now (filled_by element (slot_at slots.old.entries path.now))) }
+    ensures err { OnErr result (slots.new.entries ≡ slots.old.entries) }
+{
+    match slots.insert(path.copy()?, Some(element))?.flatten() {
+        None => Ok(true),
+        Some(before) => {
+            put_back(slots, path, before);
+            Ok(false)
+        }
+    }
+}
+
+/// Puts the element into the slot at the path.
+fn put_back(slots: &mut BTreeMap<Path, Option<Element>>, path: &Path, element: Element)
+    requires { IsSome (slot_at slots.old.entries path.now) }
+    ensures { SetsSlot slots.old.entries slots.new.entries path.now (Some (Some element)) }
+{
+    if let Some(slot) = slots.get_mut(path) {
+        *slot = Some(element);
+    }
+}
+
 /// Removes the slot at the path if it is empty.
 pub(crate) fn close_slot(slots: &mut BTreeMap<Path, Option<Element>>, path: &Path)
     ensures { SetsSlot slots.old.entries slots.new.entries path.now (closed (slot_at slots.old.entries path.now)) }
@@ -93,11 +123,20 @@ fn is_empty_slot(slot: Option<&Option<Element>>) -> bool
     }
 }
 
-/// Adds a copy of the path to those with room.
-pub(crate) fn add_room(room: &mut BTreeSet<Path>, path: &Path) -> Result<(), NoMemory>
+/// Adds a copy of the path to those with room. Whether it had none.
+pub(crate) fn add_room(room: &mut BTreeSet<Path>, path: &Path) -> Result<bool, NoMemory>
+    ensures answer { IfOk result (λ added. added ≡ not (is_among room.old.keys path.now)) }
     ensures ok { OnOk result (SetsRoom room.old.keys room.new.keys path.now true) }
     ensures err { OnErr result (room.new.keys ≡ room.old.keys) }
 {
-    room.insert(path.copy()?)?;
-    Ok(())
+    Ok(room.insert(path.copy()?)?)
+}
+
+/// Takes the path's room away again, where it was added.
+pub(crate) fn undo_room(room: &mut BTreeSet<Path>, path: &Path, added: bool)
+    ensures { SetsRoom room.old.keys room.new.keys path.now (not added && is_among room.old.keys path.now) }
+{
+    if added {
+        room.remove(path);
+    }
 }

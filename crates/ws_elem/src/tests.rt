@@ -1,13 +1,10 @@
+use crate::test_tools::{has, path};
 use crate::{Depth, ElemMap, Element, Kind};
 use bytes::Bytes;
 use res_path::Path;
 use std::alloc::Global;
 use std::process::Abort;
 use std::test::Fail;
-
-fn path(alloc: Global, text: &str) -> Result<Path, Fail> {
-    Ok(Path::parse(alloc, text)?)
-}
 
 /// A file with this node and these contents.
 fn file(alloc: Global, node: u64, text: &[u8]) -> Result<Element, Fail> {
@@ -126,11 +123,6 @@ fn removed(alloc: Global, tree: &mut ElemMap, text: &str) -> Result<String, Fail
     let at = path(alloc, text)?;
     tree.remove_below(alloc, &at)?;
     all_listed(alloc, tree)
-}
-
-fn has(alloc: Global, tree: &ElemMap, text: &str) -> Result<bool, Fail> {
-    let at = path(alloc, text)?;
-    Ok(tree.contains(&at))
 }
 
 #[test]

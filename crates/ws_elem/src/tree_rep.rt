@@ -1,17 +1,17 @@
 //! What serves as a tree of elements.
-ghost use Rattle.std.specs.Prelude.{◌≡◌, true, IfOk, OnOk, OnErr, IsOk};
+ghost use Rattle.std.specs.Prelude.{◌≡◌, true, not, IfOk, OnOk, OnErr, IsOk};
 ghost use Rattle.std.specs.Option.{option_copied, option_map};
 ghost use Rattle.std.specs.Map.Iter.{deref_pair};
 ghost use Rattle.std.specs.FinMap as map;
-ghost use Rattle.ws_elem.specs.Trees.{Tree, entry_after};
+ghost use Rattle.ws_elem.specs.Trees.{Tree, entry_after, with_new};
 ghost use Rattle.ws_elem.specs.Rooms.{Room, no_room, has_room, with_room};
 
 use crate::{Element, NoMemory};
 use res_path::Path;
 
 /// Elements by path. A contract sees two things: `tree`, the finite map from path to element, and `room`, the set of
-/// paths with room. At a path with room a `put` or a `take` never answers `NoMemory`. Only `make_room` adds to the
-/// room, and only `drop_room` takes room away.
+/// paths with room. At a path with room a `put` or a `take` never answers `NoMemory`. Only `make_room` and
+/// `put_new` add to the room, and only `drop_room` takes room away.
 pub trait TreeRep {
     ghost tree: { Self → Tree };
 
@@ -32,6 +32,15 @@ pub trait TreeRep {
         ensures err { OnErr result (tree self.new ≡ tree self.old) }
         ensures room { room self.new ≡ room self.old }
         ensures never { has_room (room self.old) path ≡ true → IsOk result };
+
+    /// Puts the element at the path where there is none, and gives the path room either way. Whether it was put there.
+    /// After `NoMemory` tree and room are as before.
+    fn put_new(&mut self, path: &Path, element: Element) -> Result<bool, NoMemory>
+        ensures answer { IfOk result (λ puts. puts ≡ not (map.contains_key (tree self.old) path.now)) }
+        ensures ok { OnOk result (tree self.new ≡ with_new (tree self.old) path.now element) }
+        ensures err { OnErr result (tree self.new ≡ tree self.old) }
+        ensures room { OnOk result (room self.new ≡ with_room (room self.old) path.now) }
+        ensures no_room { OnErr result (room self.new ≡ room self.old) };
 
     /// Takes the element at the path out, and gives it. After `NoMemory` the tree is as before.
     fn take(&mut self, path: &Path) -> Result<Option<Element>, NoMemory>

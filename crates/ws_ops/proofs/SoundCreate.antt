@@ -1,5 +1,5 @@
 -- Creations and deletions keep resources sound.
-use Rattle.std.proofs.Common.{◌≡◌, ◌≢◌, ◌↔◌, ℕ, ◌+◌, ◌<◌, ◌≤◌, true, false, not, cond, List, [], ◌∷◌, length, refl, sym, ap, ◌∙◌, subst, arith, inr}
+use Rattle.std.proofs.Common.{◌≡◌, ◌≢◌, ◌↔◌, ℕ, ◌<◌, ◌≤◌, true, false, not, cond, List, [], ◌∷◌, length, refl, sym, ap, ◌∙◌, subst, arith, inr}
 use Rattle.std.specs.Prelude.{Option, Some, None, IfSome, IsSomeAnd}
 use Rattle.std.specs.FinMap.{get, insert}
 use Rattle.std.proofs.lemmas.Bool.Decides.{nat_tests}
@@ -11,7 +11,6 @@ use Rattle.ws_elem.proofs.Cuts.{same_at}
 use Rattle.ws_ops.specs.declared.refusal.OpRefusal.TheVariants.{ProjectClosed, WrongKind}
 use Rattle.ws_ops.specs.Resources.{Resources}
 use Rattle.ws_ops.specs.Places.{project_of, is_project_path, is_member_path, is_root_path, is_shut}
-use Rattle.ws_ops.specs.Numbers.{stamps_of}
 use Rattle.ws_ops.specs.Refusals.{when, first_cause, creation_causes, deletion_causes}
 use Rattle.ws_ops.specs.Effects.{create, delete, new_file, new_folder, new_project}
 use Rattle.ws_ops.specs.Sound.{IsSound}

@@ -2,6 +2,7 @@
 use Rattle.std.specs.Prelude.{◌≡◌, ℕ, take, refl}
 use Rattle.std.specs.Coded.{Coded, code_by, coded×, coded_ℕ}
 use Rattle.ws_elem.specs.Rooms.{Room}
+use Rattle.ws_ops.specs.declared.side.Side.{Side}
 use Rattle.ws_ops.specs.Changes.{Changes, changed, HasRooms}
 use Rattle.ws_ops.specs.Resources.{Resources}
 
@@ -29,6 +30,17 @@ way_code c = code_by
       partners = p.1.1.1.1.1;
     })
     (λ _. refl)
+
+-- the way back to these counters and so many partners, by what stood in the tree and on the shelf
+abbrev pub way_to : Side → ℕ → Changes → Changes → Way
+way_to side partners tree shelf = record {
+  tree = tree;
+  shelf = shelf;
+  next_node = side.next_node;
+  next_stamp = side.next_stamp;
+  next_marker = side.next_marker;
+  partners = partners;
+}
 
 -- the resources after the way back
 abbrev pub taken_back : Resources → Way → Resources

@@ -14,3 +14,4 @@ pub mod Walks
 pub mod Judging
 pub mod Plans
 pub mod Backs
+pub mod AtOnce

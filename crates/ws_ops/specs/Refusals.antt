@@ -1,5 +1,5 @@
 -- Why an operation is refused.
-use Rattle.std.specs.Prelude.{ℕ, ◌+◌, ◌-◌, ◌^◌, Bool, false, not, ◌&&◌, ◌||◌, nat_lt, nat_le, if◌then◌else◌, List, [], ◌∷◌, ◌++◌, length, Option, Some, None}
+use Rattle.std.specs.Prelude.{ℕ, ◌+◌, ◌-◌, ◌^◌, Bool, false, not, ◌&&◌, ◌||◌, nat_lt, nat_le, if◌then◌else◌, List, [], ◌∷◌, ◌++◌, length, Option, Some, None, is_some}
 use Rattle.std.specs.Bool.{beq}
 use Rattle.std.specs.List.{list_any}
 use Rattle.std.specs.Option.{option_map}
@@ -64,13 +64,17 @@ member_closed t p = when (is_in_shut t p) (ProjectClosed (project_of p))
 abbrev pub missing : Tree → Names → Option OpRefusal
 missing t p = when (not (contains_key t p)) (NotFound p)
 
+-- why nothing can be in the folder, with this at its path: it isn't there, or is a file
+abbrev pub container_causes : Names → Option Element → List (Option OpRefusal)
+container_causes folder x = when (not (is_some x)) (NotFound folder) ∷ when (has_file x) (NotContainer folder) ∷ []
+
+-- why nothing can be created at p because of what is above it
+abbrev pub above_causes : Tree → Names → List (Option OpRefusal)
+above_causes t p = closed t p ∷ container_causes (parent p) (get t (parent p))
+
 -- why nothing can come to p: its parent isn't there, or is a file; or something is at p
 abbrev pub place_causes : Tree → Names → List (Option OpRefusal)
-place_causes t p =
-    missing t (parent p)
-    ∷ when (has_file (get t (parent p))) (NotContainer (parent p))
-    ∷ when (contains_key t p) (Exists p)
-    ∷ []
+place_causes t p = container_causes (parent p) (get t (parent p)) ++ when (contains_key t p) (Exists p) ∷ []
 
 -- the greatest number that a counter may reach
 abbrev pub max_number : ℕ
@@ -94,6 +98,10 @@ number_causes r count stamps =
 -- why nothing can be created at p, drawing so many stamps
 abbrev pub creation_causes : Resources → Names → ℕ → List (Option OpRefusal)
 creation_causes r p stamps = closed r.tree p ∷ place_causes r.tree p ++ number_causes r 1 stamps
+
+-- why nothing can be created at p even if it is free, drawing so many stamps
+abbrev pub around_causes : Resources → Names → ℕ → List (Option OpRefusal)
+around_causes r p stamps = above_causes r.tree p ++ number_causes r 1 stamps
 
 -- why the contents of p can't change
 abbrev pub contents_causes : Resources → Names → List (Option OpRefusal)

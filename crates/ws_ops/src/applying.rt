@@ -1,6 +1,7 @@
 //! Doing an operation, and taking it back.
 ghost use Rattle.std.specs.Prelude.{◌≡◌, None, Some, IfOk, IfErr, OnOk, OnErr};
 ghost use Rattle.ws_elem.specs.Trees.{Tree};
+ghost use Rattle.ws_ops.specs.AtOnce.{IsDone};
 ghost use Rattle.ws_ops.specs.Backs.{HasWay, taken_back};
 ghost use Rattle.ws_ops.specs.Changes.{HasRooms, KeepsRoom};
 ghost use Rattle.ws_ops.specs.Effects.{effect};
@@ -12,7 +13,9 @@ ghost use Rattle.ws_ops.specs.Resources.{resources};
 ghost use Rattle.ws_ops.specs.Sound.{IsSound};
 ghost use Rattle.ws_ops.specs.Stamps.{IsKnown};
 
-use crate::changes::{Earlier, room_for};
+use crate::at_once::create_at_once;
+use crate::back::{Applied, Back};
+use crate::changes::room_for;
 use crate::plan::Plan;
 use crate::{
     NoMemory, Op, OpAnswer, OpError, Side, contents, creation, deletion, marking, projects,
@@ -20,39 +23,7 @@ use crate::{
 };
 use res_path::Name;
 use std::alloc::Global;
-use std::marker::Model;
 use ws_elem::TreeRep;
-
-/// The way back before an operation: what stood at the paths that it changed, the earlier counters, and
-/// how many partners there were.
-#[derive(Debug, Drop)]
-pub struct Back {
-    tree: Earlier,
-    shelf: Earlier,
-    next_node: u64,
-    next_stamp: u64,
-    next_marker: u64,
-    partners: usize,
-}
-
-impl Model for Back {
-    ghost use Rattle.std.specs.Coded.{coded×, coded_option, coded_list, coded_ℕ};
-    ghost use Rattle.ws_elem.specs.contracts.element.Element as element;
-    ghost use Rattle.ws_ops.specs.Backs.{Way, way_code};
-
-    ghost Value = { Way };
-
-    ghost coded = { way_code (coded_list (coded× (coded_list (coded_list coded_ℕ)) (coded_option element.the_row.coded))) };
-
-    ghost view = { λ b. record { tree = b.tree; shelf = b.shelf; next_node = b.next_node; next_stamp = b.next_stamp; next_marker = b.next_marker; partners = b.partners } };
-}
-
-/// What a done operation is answered, and the way back before it.
-#[derive(Debug, Drop)]
-pub struct Applied {
-    pub answer: OpAnswer,
-    pub back: Back,
-}
 
 /// Does the operation, or refuses it with the first cause in the order of its list. After a refusal, and where memory
 /// wants, tree, shelf, counters and partners are as before.
@@ -84,6 +55,26 @@ pub fn apply<T: TreeRep>(
     ensures refused { IfErr result (IfRefused (λ r. refusal (resources (T.tree tree.old) side.old) op.now ≡ Some r)) }
     ensures same { OnErr result (resources (T.tree tree.new) side.new ≡ resources (T.tree tree.old) side.old) }
 {
+    match create_at_once(alloc, tree, side, op)? {
+        Some(done) => Ok(done),
+        None => apply_planned(alloc, tree, side, op),
+    }
+}
+
+/// Does the operation by a plan, or refuses it.
+fn apply_planned<T: TreeRep>(
+    alloc: Global,
+    tree: &mut T,
+    side: &mut Side,
+    op: &Op,
+) -> Result<Applied, OpError>
+    ensures done { IfOk result (λ done. IsDone (resources (T.tree tree.old) side.old) op.now (T.room tree.new) side.new.shelf.room
+        (resources (T.tree tree.new) side.new) done) }
+    ensures room { KeepsRoom (T.room tree.old) (T.room tree.new) }
+    ensures shelf_room { KeepsRoom side.old.shelf.room side.new.shelf.room }
+    ensures refused { IfErr result (IfRefused (λ r. refusal (resources (T.tree tree.old) side.old) op.now ≡ Some r)) }
+    ensures same { OnErr result (resources (T.tree tree.new) side.new ≡ resources (T.tree tree.old) side.old) }
+{
     let plan = plan(alloc, tree, side, op)?;
     Ok(perform(alloc, tree, side, plan)?)
 }
@@ -97,20 +88,7 @@ pub fn take_back<T: TreeRep>(tree: &mut T, side: &mut Side, back: Back)
     ensures room { T.room tree.new ≡ T.room tree.old }
     ensures shelf_room { side.new.shelf.room ≡ side.old.shelf.room }
 {
-    let Back {
-        tree: tree_entries,
-        shelf: shelf_entries,
-        next_node,
-        next_stamp,
-        next_marker,
-        partners,
-    } = back;
-    tree_entries.put_back(tree);
-    shelf_entries.put_back(&mut side.shelf);
-    side.next_node = next_node;
-    side.next_stamp = next_stamp;
-    side.next_marker = next_marker;
-    side.partners.cut(partners);
+    back.lead(tree, side);
 }
 
 /// What the operation is going to change, or why it is refused.
@@ -171,14 +149,7 @@ fn perform<T: TreeRep>(
     register(side, plan.partner)?;
     let tree_entries = plan.tree.make(tree, tree_space);
     let shelf_entries = plan.shelf.make(&mut side.shelf, shelf_space);
-    let back = Back {
-        tree: tree_entries,
-        shelf: shelf_entries,
-        next_node: side.next_node,
-        next_stamp: side.next_stamp,
-        next_marker: side.next_marker,
-        partners,
-    };
+    let back = Back::to(side, partners, tree_entries, shelf_entries);
     side.next_node = plan.next_node;
     side.next_stamp = plan.next_stamp;
     side.next_marker = plan.next_marker;

@@ -183,6 +183,24 @@ impl Model for Earlier {
 }
 
 impl Earlier {
+    /// Nothing was changed. It takes no memory.
+    pub fn nothing(alloc: Global) -> Earlier
+        ensures { result ≡ [] }
+    {
+        Earlier {
+            entries: Vec::new(alloc),
+        }
+    }
+
+    /// Nothing stood at the path.
+    pub fn free(alloc: Global, path: &Path) -> Result<Earlier, NoMemory>
+        ensures { IfOk result (λ earlier. earlier ≡ (path.now, None) ∷ []) }
+    {
+        let mut entries = Vec::with_capacity(alloc, 1)?;
+        entries.push_reserved((path.copy()?, None));
+        Ok(Earlier { entries })
+    }
+
     /// Puts back what stood at the paths. It takes no memory.
     pub fn put_back<T: TreeRep>(self, tree: &mut T)
         requires { HasRooms (T.room tree.old) self }

@@ -1,11 +1,12 @@
 //! The causes for which operations are refused, one by one.
 ghost use Rattle.std.specs.Prelude.{◌≡◌, ◌∷◌, ◌+◌, ◌<◌, ◌≤◌, ◌^◌, false, nat_lt, not, ◌||◌, Some, IfOk, IfErr, IsErr, OnOk, length};
-ghost use Rattle.std.specs.FinMap.{get};
+ghost use Rattle.std.specs.FinMap.{get, contains_key};
 ghost use Rattle.std.specs.Option.{option_copied};
 ghost use Rattle.res_path.specs.Paths.{parent};
+ghost use Rattle.ws_elem.specs.Kinds.{is_file};
 ghost use Rattle.ws_ops.specs.Judging.{Judges, IfRefused};
 ghost use Rattle.ws_ops.specs.Places.{project_of, project_name, is_project_path, is_member_path, is_root_path, has_file, has_closed, is_shut};
-ghost use Rattle.ws_ops.specs.Refusals.{when, first_cause, closed, member_closed, missing, place_causes, number_causes, creation_causes, contents_causes, is_spent, max_elements, project_causes};
+ghost use Rattle.ws_ops.specs.Refusals.{when, first_cause, closed, member_closed, missing, container_causes, above_causes, around_causes, place_causes, number_causes, creation_causes, contents_causes, is_spent, max_elements, project_causes};
 ghost use Rattle.ws_ops.specs.Plans.{CanDraw};
 ghost use Rattle.ws_ops.specs.Resources.{resources};
 
@@ -58,35 +59,34 @@ pub fn check_place<T: TreeRep>(tree: &T, path: &Path) -> Result<(), OpError>
 {
     let folder = parent_of(path)?;
     let above = tree.get(&folder);
-    check_under(tree, path, folder, above)
+    check_container(folder, above)?;
+    check_free(tree, path)
 }
 
-/// The same, where it is known what is at the parent's path.
-fn check_under<T: TreeRep>(
-    tree: &T,
-    path: &Path,
-    folder: Path,
-    above: Option<&Element>,
-) -> Result<(), OpError>
-    requires folder { folder ≡ parent path.now }
-    requires above { option_copied above ≡ get (T.tree tree.now) folder }
-    ensures { Judges (first_cause (place_causes (T.tree tree.now) path.now)) result }
+/// Refused where nothing can be in the folder, with what is at its path: it isn't there, or is a file.
+fn check_container(folder: Path, above: Option<&Element>) -> Result<(), OpError>
+    ensures { Judges (first_cause (container_causes folder (option_copied above.entry))) result }
 {
     match above {
         None => Err(OpError::Refused(OpRefusal::NotFound(folder))),
-        Some(element) => check_in(tree, path, folder, element),
+        Some(element) => check_folder(folder, element),
     }
 }
 
-/// The same, where the parent is there.
-fn check_in<T: TreeRep>(tree: &T, path: &Path, folder: Path, above: &Element) -> Result<(), OpError>
-    requires folder { folder ≡ parent path.now }
-    requires above { get (T.tree tree.now) folder ≡ Some above.now }
-    ensures { Judges (first_cause (place_causes (T.tree tree.now) path.now)) result }
+/// Refused where what is at the folder's path is a file.
+fn check_folder(folder: Path, element: &Element) -> Result<(), OpError>
+    ensures { Judges (when (is_file element.now.kind) (OpRefusal.NotContainer folder)) result }
 {
-    if above.kind.is_file() {
+    if element.kind.is_file() {
         return Err(OpError::Refused(OpRefusal::NotContainer(folder)));
     }
+    Ok(())
+}
+
+/// Refused where something is at the path.
+fn check_free<T: TreeRep>(tree: &T, path: &Path) -> Result<(), OpError>
+    ensures { Judges (when (contains_key (T.tree tree.now) path.now) (OpRefusal.Exists path.now)) result }
+{
     if tree.get(path).is_some() {
         return Err(OpError::Refused(OpRefusal::Exists(path.copy()?)));
     }
@@ -115,14 +115,14 @@ fn check_parent_open<T: TreeRep>(
     Ok(())
 }
 
-/// Refused where the path is a closed project's or of a member of one, and where nothing can come to it.
-fn check_standing<T: TreeRep>(tree: &T, path: &Path) -> Result<(), OpError>
-    ensures { Judges (first_cause (closed (T.tree tree.now) path.now ∷ place_causes (T.tree tree.now) path.now)) result }
+/// Refused where the path is a closed project's or of a member of one, and where its parent isn't there or is a file.
+fn check_above<T: TreeRep>(tree: &T, path: &Path) -> Result<(), OpError>
+    ensures { Judges (first_cause (above_causes (T.tree tree.now) path.now)) result }
 {
     let folder = parent_of(path)?;
     let above = tree.get(&folder);
     check_parent_open(tree, path, &folder, above)?;
-    check_under(tree, path, folder, above)
+    check_container(folder, above)
 }
 
 /// Refused where so many elements can't be made, drawing so many stamps.
@@ -255,7 +255,22 @@ pub fn check_creation<T: TreeRep>(
     ensures judged { Judges (first_cause (creation_causes (resources (T.tree tree.now) side.now) path.now stamps)) result }
     ensures drawn { OnOk result (CanDraw side.now 1 stamps) }
 {
-    check_standing(tree, path)?;
+    check_above(tree, path)?;
+    check_free(tree, path)?;
+    check_numbers(tree, side, 1, stamps)
+}
+
+/// Refused where nothing can be created at the path even if it is free, its kind aside, drawing so many stamps.
+pub fn check_around<T: TreeRep>(
+    tree: &T,
+    side: &Side,
+    path: &Path,
+    stamps: usize,
+) -> Result<(), OpError>
+    ensures judged { Judges (first_cause (around_causes (resources (T.tree tree.now) side.now) path.now stamps)) result }
+    ensures drawn { OnOk result (CanDraw side.now 1 stamps) }
+{
+    check_above(tree, path)?;
     check_numbers(tree, side, 1, stamps)
 }
 

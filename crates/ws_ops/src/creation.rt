@@ -62,7 +62,7 @@ pub fn create_project<T: TreeRep>(
 }
 
 /// The element of a new file.
-fn new_file(side: &Side, bytes: &Bytes) -> Result<Element, NoMemory>
+pub fn new_file(side: &Side, bytes: &Bytes) -> Result<Element, NoMemory>
     ensures { IfOk result (λ element. element ≡ new_file side.now.next_node side.now.next_stamp bytes.now) }
 {
     let mut element = Element::bare(Kind::File, side.next_node);

@@ -7,6 +7,8 @@
 //! - `partners`: `Partners`, the synchronisation partners by their numbers.
 //! - `side`: a `Side`, what stands beside the tree: the shelf, the counters and the partners.
 //! - `applying`: `apply`, which does an operation or refuses it, and `take_back`.
+//! - `back`: a `Back`, the way back before an operation.
+//! - `at_once`: creations that are done with one search.
 //! - `plan`: a `Plan`, what an operation is going to change, made before anything changes.
 //! - `changes`: what is to stand at some paths, and what stood there.
 //! - `checks`: the causes for which operations are refused, one by one.
@@ -18,6 +20,8 @@
 
 mod answer;
 mod applying;
+mod at_once;
+mod back;
 mod changes;
 mod checks;
 mod contents;
@@ -52,7 +56,8 @@ mod transfer_tests;
 mod walk;
 
 pub use answer::OpAnswer;
-pub use applying::{Applied, Back, apply, take_back};
+pub use applying::{apply, take_back};
+pub use back::{Applied, Back};
 pub use entries::Entries;
 pub use op::{Op, Want};
 pub use partners::Partners;

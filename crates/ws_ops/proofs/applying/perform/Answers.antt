@@ -1,8 +1,10 @@
-use Rattle.std.proofs.Common.{◌≡◌, length, take, sym, ap, subst, ◌∙◌}
+use Rattle.std.proofs.Common.{◌≡◌, take, sym, ap, subst, ◌∙◌}
 use Rattle.ws_elem.specs.Trees.{Tree}
 use Rattle.ws_ops.specs.declared.side.Side.{Side}
+use Rattle.ws_ops.specs.Backs.{HasWay}
 use Rattle.ws_ops.specs.Changes.{HasRooms, changed}
 use Rattle.ws_ops.specs.Partners.{with_partner}
+use Rattle.ws_ops.specs.Resources.{resources}
 use Rattle.ws_ops.proofs.Effected.{undone}
 use Rattle.ws_ops.proofs.Made.{rooms_undoing, partners_back}
 use Rattle.ws_ops.proofs.applying.perform.Goals as goal
@@ -26,7 +28,9 @@ returns-clause-back g c =
     (λ i. take (c.len-partners.ensures i) (registered i).partners) ∙ partners_back side.partners plan.partner in
     let shelf_rooms : HasRooms now.shelf.room plan.shelf =
     subst (λ (s : Side). HasRooms s.shelf.room plan.shelf) (sym registered) c.in_ok-make_room-2.ensures.ok in
-    record {
+    subst (λ w. HasWay w (g.T.TreeRep.room tree_entries.new.tree) shelf_entries.new.tree.room
+    (resources (g.T.TreeRep.tree tree_entries.new.tree) (record now { shelf = shelf_entries.new.tree; next_node = plan.next_node; next_stamp = plan.next_stamp; next_marker = plan.next_marker }))
+    (resources (g.T.TreeRep.tree c.args.tree.now) side)) (sym c.to-back.ensures) (record {
       leads = λ i. record {
         tree = tree_back i;
         shelf = shelf_back i;
@@ -41,4 +45,4 @@ returns-clause-back g c =
       shelf_rooms = subst (λ r. HasRooms r shelf_entries.result) (sym shelf_entries.ensures.room)
           (subst (HasRooms now.shelf.room) (sym shelf_entries.ensures.earlier)
           (rooms_undoing now.shelf.room now.shelf.map plan.shelf shelf_rooms));
-    }
+    })

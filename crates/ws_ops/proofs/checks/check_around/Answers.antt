@@ -1,0 +1,12 @@
+use Rattle.ws_ops.specs.Refusals.{first_cause, above_causes, number_causes}
+use Rattle.ws_ops.specs.Resources.{resources}
+use Rattle.ws_ops.proofs.Causes.{stops, handed_on}
+use Rattle.ws_ops.proofs.checks.check_around.Goals as goal
+
+pub returns-in_err-check_above-clause-judged : goal.returns-in_err-check_above-clause-judged
+returns-in_err-check_above-clause-judged g c =
+    let t = g.T.TreeRep.tree c.args.tree.now in
+    let above = above_causes t c.args.path.now in
+    let numbers = number_causes (resources t c.args.side.now) 1 c.args.stamps in
+    handed_on (first_cause above) _ c.from_residual.result c.in_err-check_above.field-0.0 c.from_residual.ensures.1
+    (λ x h. stops above numbers x h) c.in_err-check_above.ensures
