@@ -1,7 +1,7 @@
 -- Lines, one after another.
 use Rattle.std.proofs.Common.{◌≡◌, ℕ, ◌+◌, ◌<◌, Bool, true, false, not, List, [], ◌∷◌, ◌++◌, length, refl, sym, ◌∙◌, ap, subst, append_assoc, arith}
 use Rattle.std.proofs.lemmas.List.Elements.{filter-append}
-use Rattle.std.specs.Prelude.{◌==◌}
+use Rattle.std.specs.Prelude.{◌==◌, MatchBool}
 use Rattle.std.proofs.lemmas.Grind.{common_steps}
 use Rattle.std.proofs.lemmas.Bool.Decides.{nat_tests}
 use Rattle.std.specs.List.{slice_split, onto_first}
@@ -32,6 +32,12 @@ first_line text line rest h = ap without_empty_end h ∙ before_split line rest
 pub last_line : (text line : List ℕ) → slice_split is_line_feed text ≡ line ∷ [] → line ≡ text → 0 < length text → lines_of text ≡ line ∷ lines_of []
 last_line [] line h e n = absurd (omega arith)
 last_line (b ∷ bytes) line h e n = ap without_empty_end (h ∙ ap (λ l. l ∷ []) e) ∙ ap (λ l. l ∷ []) (sym e)
+
+-- the first line, ended by a line feed or by nothing
+pub cut_line : (text line rest : List ℕ) (ended : Bool) → MatchBool ended (slice_split is_line_feed text ≡ line ∷ slice_split is_line_feed rest) (slice_split is_line_feed text ≡ line ∷ [])
+    → MatchBool ended (length line + 1 + length rest ≡ length text) ((line ≡ text) × (rest ≡ [])) → 0 < length text → lines_of text ≡ line ∷ lines_of rest
+cut_line text line rest true h w n = first_line text line rest h
+cut_line text line rest false h w n = last_line text line h w.0 n ∙ ap (λ left. line ∷ lines_of left) (sym w.1)
 
 no_lines : (b : ℕ) (parts : List (List ℕ)) → without_empty_end (onto_first b parts) ≡ [] → ⊥
 no_lines b [] h = cc

@@ -1,6 +1,6 @@
 -- The tokens of a line.
 use Rattle.std.proofs.Common.{◌≡◌, ◌≢◌, ℕ, suc, ◌<◌, Bool, true, false, nat_le, ◌==◌, List, [], ◌∷◌, ◌++◌, length, take, drop, get_or, Option, Some, None, refl, sym, ◌∙◌, ap, subst, append_assoc, append-nil, arith, length-append}
-use Rattle.std.specs.Prelude.{◌+◌, MatchOption}
+use Rattle.std.specs.Prelude.{◌+◌, MatchBool}
 use Rattle.std.specs.List.{slice_split, onto_first, list_all, flat_map, join_with_byte, AllByRecursion}
 use Rattle.std.specs.Char.{encode_utf8}
 use Rattle.std.proofs.lemmas.Bool.{and_parts}
@@ -11,7 +11,7 @@ use Rattle.std.proofs.lemmas.List.Splits.{slice_split-cons_no, join_with_byte-sl
 use Rattle.script_lang.specs.declared.quoted.State.TheVariants.{Between}
 use Rattle.script_lang.specs.Words.{Word, Token, Item, character, escape, hexadecimal, IsItem, item_text, is_plain, is_hex, is_bare_byte, is_bare, SpellsQuoted, Spells, SpellsTokens, SpellsLine}
 use Rattle.script_lang.specs.Quoted.{quote_from, denoted}
-use Rattle.script_lang.specs.Tokens.{starts_quoted, after_token, StartsWith, StartsWithNone}
+use Rattle.script_lang.specs.Tokens.{starts_quoted, after_token, left_after, StartsWith, StartsWithNone, TakesToken}
 use Rattle.script_lang.proofs.Items.{plain_char, quoted_denoted}
 
 -- ---- where the closing quote is
@@ -233,6 +233,19 @@ ahead_more line rest more read token h s = record {
 pub ahead_last : (line rest : List ℕ) (read : List Token) (token : Token) → Ahead line rest read → StartsWith rest token None → SpellsLine line (read ++ token ∷ [])
 ahead_last line rest read token h s = rest_line line (read ++ token ∷ []) (h.spelled (token ∷ []) s)
 
+pub shorter : (rest more : List ℕ) (token : Token) → StartsWith rest token (Some more) → length more < length rest
+shorter rest more token s = omega (arith, ap length s.line_is, length-append s.text (32 ∷ more))
+
+-- one more token was taken, with more or nothing after it
+pub ahead_taken : (line rest left : List ℕ) (read all : List Token) → Ahead line rest read → TakesToken rest left read all true → Ahead line left all
+ahead_taken line rest left read all h t = subst (Ahead line left) (sym t.all_are) (ahead_more line rest left read t.token h t.starts)
+
+pub all_taken : (line rest left : List ℕ) (read all : List Token) → Ahead line rest read → TakesToken rest left read all false → SpellsLine line all
+all_taken line rest left read all h t = subst (SpellsLine line) (sym t.all_are) (ahead_last line rest read t.token h t.starts)
+
+pub taken_shorter : (rest left : List ℕ) (read all : List Token) → TakesToken rest left read all true → length left < length rest
+taken_shorter rest left read all t = shorter rest left t.token t.starts
+
 none_rest : (rest : List ℕ) (others : List Token) → StartsWithNone rest → SpellsRest rest others → ⊥
 none_rest rest [] n s = s
 none_rest rest (token ∷ []) n s = n token None s
@@ -240,9 +253,6 @@ none_rest rest (token ∷ next ∷ others) n s = n token (Some s.0) s.1
 
 pub ahead_bad : (line rest : List ℕ) (read : List Token) → Ahead line rest read → StartsWithNone rest → (tokens : List Token) → SpellsLine line tokens → ⊥
 ahead_bad line rest read h n tokens s = let left = h.left tokens (line_rest line tokens s) in none_rest rest left.0 n left.2
-
-pub shorter : (rest more : List ℕ) (token : Token) → StartsWith rest token (Some more) → length more < length rest
-shorter rest more token s = omega (arith, ap length s.line_is, length-append s.text (32 ∷ more))
 
 -- ---- what is in front
 
@@ -282,15 +292,15 @@ front_none line part parts q e n false word more f =
 pub bare_none : (line part : List ℕ) (parts : List (List ℕ)) → starts_quoted line ≡ false → slice_split (λ b. b == 32) line ≡ part ∷ parts → is_bare part ≡ false → StartsWithNone line
 bare_none line part parts q e n = λ token more s. front_none line part parts q e n token.bare token.word more (front_of line token more s)
 
-pub bare_found : (line part : List ℕ) (more : Option (List ℕ)) → MatchOption more (slice_split (λ b. b == 32) line ≡ part ∷ []) (λ rest. slice_split (λ b. b == 32) line ≡ part ∷ slice_split (λ b. b == 32) rest)
-    → MatchOption more (part ≡ line) (λ rest. length part + 1 + length rest ≡ length line) → is_bare part ≡ true → StartsWith line (record { bare = true; word = part }) more
-bare_found line part None e f h = bare_last line part f h
-bare_found line part (Some rest) e f h = bare_more line part rest e h
+pub bare_found : (line part rest : List ℕ) (goes_on : Bool) → MatchBool goes_on (slice_split (λ b. b == 32) line ≡ part ∷ slice_split (λ b. b == 32) rest) (slice_split (λ b. b == 32) line ≡ part ∷ [])
+    → MatchBool goes_on (length part + 1 + length rest ≡ length line) ((part ≡ line) × (rest ≡ [])) → is_bare part ≡ true → StartsWith line (record { bare = true; word = part }) (left_after goes_on rest)
+bare_found line part rest false e f h = bare_last line part f.0 h
+bare_found line part rest true e f h = bare_more line part rest e h
 
-pub bare_unfound : (line part : List ℕ) (more : Option (List ℕ)) → MatchOption more (slice_split (λ b. b == 32) line ≡ part ∷ []) (λ rest. slice_split (λ b. b == 32) line ≡ part ∷ slice_split (λ b. b == 32) rest)
+pub bare_unfound : (line part rest : List ℕ) (goes_on : Bool) → MatchBool goes_on (slice_split (λ b. b == 32) line ≡ part ∷ slice_split (λ b. b == 32) rest) (slice_split (λ b. b == 32) line ≡ part ∷ [])
     → starts_quoted line ≡ false → is_bare part ≡ false → StartsWithNone line
-bare_unfound line part None e q h = bare_none line part [] q e h
-bare_unfound line part (Some rest) e q h = bare_none line part (slice_split (λ b. b == 32) rest) q e h
+bare_unfound line part rest false e q h = bare_none line part [] q e h
+bare_unfound line part rest true e q h = bare_none line part (slice_split (λ b. b == 32) rest) q e h
 
 -- a line with a quote in front begins with a quoted word
 quoted_front : (line : List ℕ) (bare : Bool) (word : Word) (more : Option (List ℕ)) → starts_quoted line ≡ true → Front line bare word more → Quotes line word more

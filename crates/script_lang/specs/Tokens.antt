@@ -1,5 +1,5 @@
 -- What a line begins with.
-use Rattle.std.specs.Prelude.{◌≡◌, ℕ, Bool, false, ◌==◌, List, [], ◌∷◌, ◌++◌, Option, Some, None}
+use Rattle.std.specs.Prelude.{◌≡◌, ℕ, Bool, false, true, ◌==◌, List, [], ◌∷◌, ◌++◌, Option, Some, None}
 use Rattle.script_lang.specs.Words.{Token, SpellsToken}
 
 -- a quoted word's first byte
@@ -21,3 +21,14 @@ pub record StartsWith (line : List ℕ) (token : Token) (more : Option (List ℕ
 -- no token is in front, or neither the end nor a space follows it
 abbrev pub StartsWithNone : List ℕ → Type 0
 StartsWithNone line = (token : Token) (more : Option (List ℕ)) → StartsWith line token more → ⊥
+
+-- what is left of a line after a token: nothing, or what follows the space that it was taken with
+abbrev pub left_after : Bool → List ℕ → Option (List ℕ)
+left_after false rest = None
+left_after true rest = Some rest
+
+-- the token in front of the line was taken off it and put behind those read
+pub record TakesToken (line rest : List ℕ) (read all : List Token) (goes_on : Bool) : Type 0 where
+  pub token : Token
+  pub all_are : all ≡ read ++ token ∷ []
+  pub starts : StartsWith line token (left_after goes_on rest)

@@ -1,12 +1,11 @@
 //! The lines of a text, one after another.
-ghost use Rattle.std.specs.Prelude.{◌≡◌, ◌+◌, ◌<◌, ◌^◌, ℕ, [], ◌∷◌, length, false, Err, IfOk, OnOk, IsTrue, ◌↔◌};
+ghost use Rattle.std.specs.Prelude.{◌≡◌, ◌+◌, ◌<◌, ◌^◌, ℕ, [], ◌∷◌, length, false, Err, IfOk, OnOk, OnErr, IsTrue, ◌↔◌};
 ghost use Rattle.script_lang.specs.Lines.{lines_of, unskipped, starts_skipped, TakesLine, HasNoLine, next_number, PassesLine, Skips};
 
 use crate::words::{Token, cut, place_of, words_of};
 use crate::{NoMemory, ScriptError};
 use bytes::Bytes;
 use std::alloc::Global;
-use std::mem;
 
 /// The lines of a text that are still to be read.
 #[derive(Drop)]
@@ -101,18 +100,13 @@ fn pass_line(text: &mut Bytes)
     }
 }
 
-/// Takes the first line off a text. After want of memory the text is empty.
+/// Takes the first line off a text. After want of memory the text is as it was.
 fn take_line(text: &mut Bytes) -> Result<Bytes, NoMemory>
     requires { 0 < length text.old }
     ensures line { IfOk result (λ line. lines_of text.old ≡ line ∷ lines_of text.new) }
-    ensures shorter { length text.new < length text.old }
+    ensures shorter { OnOk result (length text.new < length text.old) }
+    ensures err { OnErr result (text.new ≡ text.old) }
 {
-    let (line, more) = cut(mem::replace(text, Bytes::new()), b'\n')?;
-    match more {
-        None => Ok(line),
-        Some(rest) => {
-            *text = rest;
-            Ok(line)
-        }
-    }
+    let (line, _) = cut(text, b'\n')?;
+    Ok(line)
 }

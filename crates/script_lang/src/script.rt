@@ -66,6 +66,14 @@ impl Commands {
     {
         self.items.as_slice()
     }
+
+    /// The commands, in order, each to be taken.
+    pub fn into_vec(self) -> Vec<Command>
+        ensures { result.items ≡ self }
+    {
+        let Commands { items } = self;
+        items
+    }
 }
 
 /// How urgent a job is: the less its number, the sooner it is taken.
@@ -141,6 +149,15 @@ impl Jobs {
     {
         self.items.as_slice()
     }
+
+    /// The jobs, in order, each to be taken.
+    pub fn into_vec(self) -> Vec<Job>
+        ensures jobs { result.items ≡ self }
+        ensures single { length self ≡ 1 }
+    {
+        let Jobs { items } = self;
+        items
+    }
 }
 
 /// A phase: jobs that are run beside one another.
@@ -187,6 +204,14 @@ impl Phases {
         ensures { result.now ≡ self.now }
     {
         self.items.as_slice()
+    }
+
+    /// The phases, in order, each to be taken.
+    pub fn into_vec(self) -> Vec<Phase>
+        ensures { result.items ≡ self }
+    {
+        let Phases { items } = self;
+        items
     }
 }
 

@@ -58,6 +58,15 @@ impl ScriptRule {
     {
         &self.rule
     }
+
+    /// The rule, taken.
+    pub fn into_rule(self) -> Rule<WsAtom>
+        ensures rule { result ≡ self }
+        ensures lines { IsTrue (can_be_named self) }
+    {
+        let ScriptRule { rule } = self;
+        rule
+    }
 }
 
 /// Whether each of the atoms that is a range of lines has a line.

@@ -109,6 +109,35 @@ fn the_priorities_are_five_numbers(rt: HostRuntime) {
     }
 }
 
+/// The commands of a script of one job, taken out of it.
+fn taken_commands(script: Script) -> Option<Vec<Command>> {
+    let phase = script.phases.into_vec().pop()?;
+    let job = phase.jobs.into_vec().pop()?;
+    Some(job.commands.into_vec())
+}
+
+/// How many atoms the rule of a command has that begins one.
+fn atoms_begun(command: Option<Command>) -> Option<usize> {
+    match command {
+        Some(Command::Begin(rule)) => Some(rule.into_rule().atoms().len()),
+        _ => None,
+    }
+}
+
+#[test]
+fn a_script_is_taken_apart(rt: HostRuntime) -> Result<(), Fail> {
+    let text = b"phase\njob j 30 path /\nbatch\nbegin path /P path /Q\nendjob\nendphase\n";
+    let script = read(rt.alloc(), text)?;
+    let Some(mut commands) = taken_commands(script) else {
+        assert!(rt; false);
+        return Ok(());
+    };
+    assert_eq!(rt; commands.len(), 2);
+    assert_eq!(rt; atoms_begun(commands.pop()), Some(2));
+    assert_eq!(rt; atoms_begun(commands.pop()), None);
+    Ok(())
+}
+
 /// The command of a script that has one.
 fn only_command(script: &Script) -> Option<&Command> {
     match job(script)?.commands.as_slice() {

@@ -1,16 +1,17 @@
 //! The words of a line.
-ghost use Rattle.std.specs.Prelude.{◌≡◌, ◌==◌, ◌+◌, ◌<◌, List, ℕ, true, false, [], ◌∷◌, ◌++◌, length, drop, Option, Some, None, IfOk, IfSome, MatchOption};
+ghost use Rattle.std.specs.Prelude.{◌≡◌, ◌==◌, ◌+◌, ◌<◌, List, ℕ, true, false, [], ◌∷◌, ◌++◌, length, drop, Option, Some, None, IfOk, IfSome, OnErr, MatchOption};
 ghost use Rattle.std.specs.Bool.{MatchBool};
 ghost use Rattle.std.specs.List.{slice_split, list_all, position};
 ghost use Rattle.script_lang.specs.declared.words.Token.{Token};
 ghost use Rattle.script_lang.specs.Words.{is_bare, is_bare_byte, SpellsLine};
 ghost use Rattle.script_lang.specs.Quoted.{quote_from};
-ghost use Rattle.script_lang.specs.Tokens.{starts_quoted, after_token, StartsWith, StartsWithNone};
+ghost use Rattle.script_lang.specs.Tokens.{starts_quoted, after_token, left_after, StartsWith, StartsWithNone, TakesToken};
 
 use crate::NoMemory;
 use crate::quoted::{denoted, quote_place};
 use bytes::Bytes;
 use std::alloc::Global;
+use std::mem;
 
 /// A word as it stands in a line.
 #[derive(Debug, Drop)]
@@ -27,28 +28,32 @@ pub fn words_of(alloc: Global, line: Bytes) -> Result<Option<Vec<Token>>, NoMemo
     ensures { IfOk result (λ found. MatchOption found ((tokens : List Token) → SpellsLine line tokens → ⊥)
         (λ tokens. SpellsLine line tokens.items)) }
 {
-    let mut tokens = Vec::new(alloc);
+    let mut tokens = Vec::with_capacity(alloc, 4)?;
     let mut rest = line;
     loop {
-        let Some((token, more)) = first_token(alloc, rest)? else {
+        let Some(goes_on) = take_token(alloc, &mut tokens, &mut rest)? else {
             return Ok(None);
         };
-        tokens.push(token)?;
-        let Some(next) = more else {
+        if !goes_on {
             return Ok(Some(tokens));
-        };
-        rest = next;
+        }
     }
 }
 
-/// The token in front of a line, and what is left after the space that follows it.
-fn first_token(alloc: Global, line: Bytes) -> Result<Option<(Token, Option<Bytes>)>, NoMemory>
-    ensures { IfOk result (λ found. MatchOption found (StartsWithNone line) (λ first. StartsWith line first.0 first.1)) }
+/// Takes the token in front off a line, with the space that follows it, and adds it to those read. Whether there was
+/// such a space; none where no token is in front.
+fn take_token(
+    alloc: Global,
+    tokens: &mut Vec<Token>,
+    line: &mut Bytes,
+) -> Result<Option<bool>, NoMemory>
+    ensures { IfOk result (λ found. MatchOption found (StartsWithNone line.old)
+        (λ goes_on. TakesToken line.old line.new tokens.old.items tokens.new.items goes_on)) }
 {
     if starts_quoted(line.as_slice()) {
-        quoted_token(alloc, line)
+        take_quoted(alloc, tokens, line)
     } else {
-        bare_token(line)
+        take_bare(tokens, line)
     }
 }
 
@@ -61,15 +66,47 @@ fn starts_quoted(line: &[u8]) -> bool
     }
 }
 
-fn bare_token(line: Bytes) -> Result<Option<(Token, Option<Bytes>)>, NoMemory>
-    requires { starts_quoted line ≡ false }
-    ensures { IfOk result (λ found. MatchOption found (StartsWithNone line) (λ first. StartsWith line first.0 first.1)) }
+fn take_bare(tokens: &mut Vec<Token>, line: &mut Bytes) -> Result<Option<bool>, NoMemory>
+    requires { starts_quoted line.old ≡ false }
+    ensures { IfOk result (λ found. MatchOption found (StartsWithNone line.old)
+        (λ goes_on. TakesToken line.old line.new tokens.old.items tokens.new.items goes_on)) }
 {
-    let (word, more) = cut(line, b' ')?;
+    let (word, goes_on) = cut(line, b' ')?;
     if !is_bare(word.as_slice()) {
         return Ok(None);
     }
-    Ok(Some((Token { bare: true, word }, more)))
+    tokens.push(Token { bare: true, word })?;
+    Ok(Some(goes_on))
+}
+
+fn take_quoted(
+    alloc: Global,
+    tokens: &mut Vec<Token>,
+    line: &mut Bytes,
+) -> Result<Option<bool>, NoMemory>
+    requires { starts_quoted line.old ≡ true }
+    ensures { IfOk result (λ found. MatchOption found (StartsWithNone line.old)
+        (λ goes_on. TakesToken line.old line.new tokens.old.items tokens.new.items goes_on)) }
+{
+    let whole = mem::replace(line, Bytes::new());
+    let Some((token, more)) = quoted_token(alloc, whole)? else {
+        return Ok(None);
+    };
+    tokens.push(token)?;
+    Ok(Some(leave(line, more)))
+}
+
+/// Leaves what follows a token, where something does. Whether something does.
+fn leave(line: &mut Bytes, more: Option<Bytes>) -> bool
+    ensures { more ≡ left_after result line.new }
+{
+    match more {
+        None => false,
+        Some(rest) => {
+            *line = rest;
+            true
+        }
+    }
 }
 
 fn quoted_token(alloc: Global, line: Bytes) -> Result<Option<(Token, Option<Bytes>)>, NoMemory>
@@ -138,22 +175,36 @@ pub fn is_bare(text: &[u8]) -> bool
 fn has_bare_bytes(text: &[u8]) -> bool
     ensures { result ≡ list_all is_bare_byte text.now }
 {
-    text.iter().all(|b| 33 <= *b && *b <= 126 && *b != b'"')
+    // no byte ends the loop, so that many are looked at in one step
+    let mut bare = true;
+    for b in text {
+        bare &= is_bare_byte(*b);
+    }
+    bare
 }
 
-/// What stands before the first such byte, and what follows it, where there is one. Nothing is copied.
-pub fn cut(text: Bytes, mark: u8) -> Result<(Bytes, Option<Bytes>), NoMemory>
-    ensures parts { IfOk result (λ cut. MatchOption cut.1 (slice_split (λ b. b == mark) text ≡ cut.0 ∷ [])
-        (λ rest. slice_split (λ b. b == mark) text ≡ cut.0 ∷ slice_split (λ b. b == mark) rest)) }
-    ensures whole { IfOk result (λ cut. MatchOption cut.1 (cut.0 ≡ text) (λ rest. length cut.0 + 1 + length rest ≡ length text)) }
+fn is_bare_byte(b: u8) -> bool
+    ensures { result ≡ is_bare_byte b }
 {
-    let mut rest = text;
-    match place_of(rest.as_slice(), mark) {
-        None => Ok((rest, None)),
+    (33 <= b) & (b <= 126) & (b != b'"')
+}
+
+/// Takes what stands before the first such byte off a text, and that byte too. Whether there is one; where there is
+/// none, all of the text is taken. Nothing is copied.
+pub fn cut(text: &mut Bytes, mark: u8) -> Result<(Bytes, bool), NoMemory>
+    ensures parts { IfOk result (λ cut. MatchBool cut.1
+        (slice_split (λ b. b == mark) text.old ≡ cut.0 ∷ slice_split (λ b. b == mark) text.new)
+        (slice_split (λ b. b == mark) text.old ≡ cut.0 ∷ [])) }
+    ensures whole { IfOk result (λ cut. MatchBool cut.1 (length cut.0 + 1 + length text.new ≡ length text.old)
+        ((cut.0 ≡ text.old) × (text.new ≡ []))) }
+    ensures err { OnErr result (text.new ≡ text.old) }
+{
+    match place_of(text.as_slice(), mark) {
+        None => Ok((mem::replace(text, Bytes::new()), false)),
         Some(at) => {
-            let front = rest.split_to(at)?;
-            rest.advance(1);
-            Ok((front, Some(rest)))
+            let front = text.split_to(at)?;
+            text.advance(1);
+            Ok((front, true))
         }
     }
 }

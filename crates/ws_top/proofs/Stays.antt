@@ -120,12 +120,18 @@ front_left a b c ys zs made f e = record {
   front = sym (append_assoc (map call_of c) f.others zs) ∙ ap (λ cs. cs ++ zs) f.front ∙ append_assoc (map call_of b) ys zs ∙ e;
 }
 
--- some of the calls of one item, where those of it and of the items after it were left to make
-pub front_in : {A : Type 0} (a b c : List Entry) (f : A → List Call) (xs : List A) (i : ℕ) (x : A) → i < length xs → x ≡ slice_index_or xs i x
-    → AsksFront b c (f x) → map call_of b ++ flat_map f (drop i xs) ≡ map call_of a ++ flat_map f xs → AsksFront a c (flat_map f xs)
-front_in a b c f xs i x l e h g = front_left a b c (f x) (flat_map f (drop (i + 1) xs)) (flat_map f xs) h
-    (ap (λ ys. map call_of b ++ flat_map f ys) (sym (dropped xs i x l e)) ∙ g)
+-- some of the calls of the first of these items, where those of all of them were left to make
+pub front_in : {A : Type 0} (a b c : List Entry) (f : A → List Call) (xs left later : List A) (x : A) → left ≡ x ∷ later
+    → AsksFront b c (f x) → map call_of b ++ flat_map f left ≡ map call_of a ++ flat_map f xs → AsksFront a c (flat_map f xs)
+front_in a b c f xs left later x e h g = front_left a b c (f x) (flat_map f later) (flat_map f xs) h
+    (ap (λ ys. map call_of b ++ flat_map f ys) (sym e) ∙ g)
 
+pub front_first : {A : Type 0} (a b c : List Entry) (f : A → Call) (xs left later : List A) (x : A) → left ≡ x ∷ later
+    → AsksFront b c (f x ∷ []) → map call_of b ++ map f left ≡ map call_of a ++ map f xs → AsksFront a c (map f xs)
+front_first a b c f xs left later x e h g = front_left a b c (f x ∷ []) (map f later) (map f xs) h
+    (ap (λ ys. map call_of b ++ map f ys) (sym e) ∙ g)
+
+-- some of the calls of one item, where those of it and of the items after it were left to make
 pub front_in_map : {A : Type 0} (a b c : List Entry) (f : A → Call) (xs : List A) (i : ℕ) (x : A) → i < length xs → x ≡ slice_index_or xs i x
     → AsksFront b c (f x ∷ []) → map call_of b ++ map f (drop i xs) ≡ map call_of a ++ map f xs → AsksFront a c (map f xs)
 front_in_map a b c f xs i x l e h g = front_left a b c (f x ∷ []) (map f (drop (i + 1) xs)) (map f xs) h

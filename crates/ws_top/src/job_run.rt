@@ -6,22 +6,22 @@ ghost use Rattle.ws_core.specs.Histories.{has_entered, fresh};
 ghost use Rattle.ws_top.specs.Runs.{Asks, AsksFront, Stay, event_of, command_call, schedule_event, schedule_call, job_calls, phase_calls, calls};
 
 use crate::NoMemory;
-use script_lang::{Command, Job, Phase};
+use script_lang::{Command, Job, Phase, Phases};
 use std::alloc::Global;
 use ws_core::{Core, Event};
 
 /// What a command asks.
-fn event_of(command: &Command) -> Result<Event, NoMemory>
-    ensures { IfOk result (λ event. event ≡ event_of command.now) }
+fn event_of(command: Command) -> Event
+    ensures { result ≡ event_of command }
 {
     match command {
-        Command::Operation(op) => Ok(Event::Operation(op.copy()?)),
-        Command::Batch => Ok(Event::Batch),
-        Command::EndBatch => Ok(Event::EndBatch),
-        Command::Checkpoint => Ok(Event::Checkpoint),
-        Command::Begin(rule) => Ok(Event::Begin(rule.as_rule().copy()?)),
-        Command::TryBegin(rule) => Ok(Event::TryBegin(rule.as_rule().copy()?)),
-        Command::End(rule) => Ok(Event::End(rule.as_rule().copy()?)),
+        Command::Operation(op) => Event::Operation(op),
+        Command::Batch => Event::Batch,
+        Command::EndBatch => Event::EndBatch,
+        Command::Checkpoint => Event::Checkpoint,
+        Command::Begin(rule) => Event::Begin(rule.into_rule()),
+        Command::TryBegin(rule) => Event::TryBegin(rule.into_rule()),
+        Command::End(rule) => Event::End(rule.into_rule()),
     }
 }
 
@@ -43,17 +43,14 @@ fn ask(core: &mut Core, alloc: Global, pass: u64, event: Event) -> Result<(), No
 
 /// The worker does the command.
 #[tactic(auto, using(crate::proofs::Stays::command_stays, crate::proofs::Stays::front_here))]
-fn do_command(core: &mut Core, alloc: Global, command: &Command) -> Result<(), NoMemory>
+fn do_command(core: &mut Core, alloc: Global, command: Command) -> Result<(), NoMemory>
     requires { has_entered 1 core.old.state ≡ true }
     ensures opened { core.new.opened ≡ core.old.opened }
-    ensures asked { OnOk result (Asks core.old.history core.new.history (command_call command.now ∷ [])) }
-    ensures front { OnErr result (AsksFront core.old.history core.new.history (command_call command.now ∷ [])) }
+    ensures asked { OnOk result (Asks core.old.history core.new.history (command_call command ∷ [])) }
+    ensures front { OnErr result (AsksFront core.old.history core.new.history (command_call command ∷ [])) }
     ensures stays { OnOk result (Stay core.old.state core.new.state) }
 {
-    match event_of(command) {
-        Ok(event) => ask(core, alloc, 1, event),
-        Err(error) => Err(error),
-    }
+    ask(core, alloc, 1, event_of(command))
 }
 
 /// What schedules the job.
@@ -81,12 +78,12 @@ fn schedule_one(core: &mut Core, alloc: Global, job: &Job) -> Result<(), NoMemor
 }
 
 /// The worker does the commands, in order.
-#[tactic(auto, using(crate::proofs::Stays::stay_on, crate::proofs::Stays::front_in_map))]
-fn do_commands(core: &mut Core, alloc: Global, commands: &[Command]) -> Result<(), NoMemory>
+#[tactic(auto, using(crate::proofs::Stays::stay_on, crate::proofs::Stays::front_first))]
+fn do_commands(core: &mut Core, alloc: Global, commands: Vec<Command>) -> Result<(), NoMemory>
     requires { has_entered 1 core.old.state ≡ true }
     ensures opened { core.new.opened ≡ core.old.opened }
-    ensures asked { OnOk result (Asks core.old.history core.new.history (map command_call commands.now)) }
-    ensures front { OnErr result (AsksFront core.old.history core.new.history (map command_call commands.now)) }
+    ensures asked { OnOk result (Asks core.old.history core.new.history (map command_call commands.items)) }
+    ensures front { OnErr result (AsksFront core.old.history core.new.history (map command_call commands.items)) }
     ensures stays { OnOk result (Stay core.old.state core.new.state) }
 {
     for command in commands {
@@ -118,18 +115,18 @@ fn schedule(core: &mut Core, alloc: Global, jobs: &[Job]) -> Result<(), NoMemory
 
 /// The worker takes the job, does its commands and finishes.
 #[tactic(auto, using(crate::proofs::Stays::asks_none, crate::proofs::Stays::asks_more, crate::proofs::Stays::stay_same, crate::proofs::Stays::stay_on, crate::proofs::Stays::front_before, crate::proofs::Stays::front_between, crate::proofs::Stays::front_last))]
-fn do_job(core: &mut Core, alloc: Global, job: &Job) -> Result<(), NoMemory>
+fn do_job(core: &mut Core, alloc: Global, job: Job) -> Result<(), NoMemory>
     requires { has_entered 1 core.old.state ≡ true }
     ensures opened { core.new.opened ≡ core.old.opened }
-    ensures asked { OnOk result (Asks core.old.history core.new.history (job_calls job.now)) }
-    ensures front { OnErr result (AsksFront core.old.history core.new.history (job_calls job.now)) }
+    ensures asked { OnOk result (Asks core.old.history core.new.history (job_calls job)) }
+    ensures front { OnErr result (AsksFront core.old.history core.new.history (job_calls job)) }
     ensures stays { OnOk result (Stay core.old.state core.new.state) }
 {
     match ask(core, alloc, 1, Event::Take) {
         Ok(()) => {}
         Err(error) => return Err(error),
     }
-    match do_commands(core, alloc, job.commands.as_slice()) {
+    match do_commands(core, alloc, job.commands.into_vec()) {
         Ok(()) => {}
         Err(error) => return Err(error),
     }
@@ -138,11 +135,11 @@ fn do_job(core: &mut Core, alloc: Global, job: &Job) -> Result<(), NoMemory>
 
 /// The worker does the jobs, one after another.
 #[tactic(auto, using(crate::proofs::Stays::stay_on, crate::proofs::Stays::front_in))]
-fn do_jobs(core: &mut Core, alloc: Global, jobs: &[Job]) -> Result<(), NoMemory>
+fn do_jobs(core: &mut Core, alloc: Global, jobs: Vec<Job>) -> Result<(), NoMemory>
     requires { has_entered 1 core.old.state ≡ true }
     ensures opened { core.new.opened ≡ core.old.opened }
-    ensures asked { OnOk result (Asks core.old.history core.new.history (flat_map job_calls jobs.now)) }
-    ensures front { OnErr result (AsksFront core.old.history core.new.history (flat_map job_calls jobs.now)) }
+    ensures asked { OnOk result (Asks core.old.history core.new.history (flat_map job_calls jobs.items)) }
+    ensures front { OnErr result (AsksFront core.old.history core.new.history (flat_map job_calls jobs.items)) }
     ensures stays { OnOk result (Stay core.old.state core.new.state) }
 {
     for job in jobs {
@@ -156,29 +153,29 @@ fn do_jobs(core: &mut Core, alloc: Global, jobs: &[Job]) -> Result<(), NoMemory>
 
 /// The jobs of a phase are scheduled and then run.
 #[tactic(auto, using(crate::proofs::Stays::asks_none, crate::proofs::Stays::asks_more, crate::proofs::Stays::stay_same, crate::proofs::Stays::stay_on, crate::proofs::Stays::front_before, crate::proofs::Stays::front_after))]
-fn do_phase(core: &mut Core, alloc: Global, phase: &Phase) -> Result<(), NoMemory>
+fn do_phase(core: &mut Core, alloc: Global, phase: Phase) -> Result<(), NoMemory>
     requires first { has_entered 0 core.old.state ≡ true }
     requires worker { has_entered 1 core.old.state ≡ true }
     ensures opened { core.new.opened ≡ core.old.opened }
-    ensures asked { OnOk result (Asks core.old.history core.new.history (phase_calls phase.now)) }
-    ensures front { OnErr result (AsksFront core.old.history core.new.history (phase_calls phase.now)) }
+    ensures asked { OnOk result (Asks core.old.history core.new.history (phase_calls phase)) }
+    ensures front { OnErr result (AsksFront core.old.history core.new.history (phase_calls phase)) }
     ensures stays { OnOk result (Stay core.old.state core.new.state) }
 {
     match schedule(core, alloc, phase.jobs.as_slice()) {
         Ok(()) => {}
         Err(error) => return Err(error),
     }
-    do_jobs(core, alloc, phase.jobs.as_slice())
+    do_jobs(core, alloc, phase.jobs.into_vec())
 }
 
 /// The phases are run, one after another.
 #[tactic(auto, using(crate::proofs::Stays::stay_on, crate::proofs::Stays::front_in))]
-fn do_phases(core: &mut Core, alloc: Global, phases: &[Phase]) -> Result<(), NoMemory>
+fn do_phases(core: &mut Core, alloc: Global, phases: Vec<Phase>) -> Result<(), NoMemory>
     requires first { has_entered 0 core.old.state ≡ true }
     requires worker { has_entered 1 core.old.state ≡ true }
     ensures opened { core.new.opened ≡ core.old.opened }
-    ensures asked { OnOk result (Asks core.old.history core.new.history (flat_map phase_calls phases.now)) }
-    ensures front { OnErr result (AsksFront core.old.history core.new.history (flat_map phase_calls phases.now)) }
+    ensures asked { OnOk result (Asks core.old.history core.new.history (flat_map phase_calls phases.items)) }
+    ensures front { OnErr result (AsksFront core.old.history core.new.history (flat_map phase_calls phases.items)) }
     ensures stays { OnOk result (Stay core.old.state core.new.state) }
 {
     for phase in phases {
@@ -208,20 +205,20 @@ fn enter(core: &mut Core, alloc: Global) -> Result<(), NoMemory>
 
 /// Runs the phases of a script on a fresh workspace: a worker enters, does their jobs and leaves.
 #[tactic(auto, using(crate::proofs::Stays::asks_none, crate::proofs::Stays::asks_more, crate::proofs::Stays::front_before, crate::proofs::Stays::front_between, crate::proofs::Stays::front_last))]
-pub fn run_phases(core: &mut Core, alloc: Global, phases: &[Phase]) -> Result<(), NoMemory>
+pub fn run_phases(core: &mut Core, alloc: Global, phases: Phases) -> Result<(), NoMemory>
     requires { core.old.state ≡ fresh }
     ensures opened { core.new.opened ≡ core.old.opened }
-    ensures asked { OnOk result (Asks core.old.history core.new.history (calls phases.now)) }
-    ensures front { OnErr result (AsksFront core.old.history core.new.history (calls phases.now)) }
+    ensures asked { OnOk result (Asks core.old.history core.new.history (calls phases)) }
+    ensures front { OnErr result (AsksFront core.old.history core.new.history (calls phases)) }
 {
-    if phases.is_empty() {
+    if phases.as_slice().is_empty() {
         return Ok(());
     }
     match enter(core, alloc) {
         Ok(()) => {}
         Err(error) => return Err(error),
     }
-    match do_phases(core, alloc, phases) {
+    match do_phases(core, alloc, phases.into_vec()) {
         Ok(()) => {}
         Err(error) => return Err(error),
     }

@@ -15,6 +15,7 @@ use crate::writing::{Unwritten, write_waiting};
 use delta_kind::{Delta, DeltaNode};
 use report_text::{put_node, put_text};
 use std::alloc::Global;
+use std::mem;
 use ws_core::{Core, Entry};
 use ws_outside::Sink;
 
@@ -200,7 +201,11 @@ fn print_changes<K: Sink>(
     ensures calm { OnOk result (K.faults sink.new ≡ K.faults sink.old) }
 {
     match core.since_start(alloc) {
-        Ok(delta) => print_headed(sink, out, "since start\n", &delta),
+        Ok(delta) => {
+            let printed = print_headed(sink, out, "since start\n", &delta);
+            mem::forget(delta);
+            printed
+        }
         Err(_) => Err(Unwritten::Memory),
     }
 }

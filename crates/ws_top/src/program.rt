@@ -206,7 +206,7 @@ fn run_script(alloc: Global, script: Script) -> Result<Performed, NoMemory>
     ensures cut { IfOk result (λ p. CutShuffle script p.core.history) }
 {
     let mut core = Core::fresh(alloc)?;
-    let is_whole = run_phases(&mut core, alloc, script.phases.as_slice()).is_ok();
+    let is_whole = run_phases(&mut core, alloc, script.phases).is_ok();
     Ok(Performed { core, is_whole })
 }
 

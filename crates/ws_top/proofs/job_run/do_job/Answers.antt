@@ -5,8 +5,8 @@ use Rattle.ws_top.proofs.Stays.{front_before, front_between}
 use Rattle.ws_top.proofs.job_run.do_job.Goals as goal
 
 pub returns-in-Err-clause-front : goal.returns-in-Err-clause-front
-returns-in-Err-clause-front c = front_before c.args.core.now.history c.ask.new.core.history ((1, Take) ∷ []) (map command_call c.args.job.now.commands ++ (1, Finish) ∷ []) c.in-Err.ensures.front
+returns-in-Err-clause-front c = front_before c.args.core.now.history c.ask.new.core.history ((1, Take) ∷ []) (map command_call c.args.job.commands ++ (1, Finish) ∷ []) c.in-Err.ensures.front
 
 pub returns-in-Err-do_commands-clause-front : goal.returns-in-Err-do_commands-clause-front
-returns-in-Err-do_commands-clause-front c = front_between c.args.core.now.history c.ask.new.core.history c.do_commands.new.core.history ((1, Take) ∷ []) (map command_call c.args.job.now.commands) ((1, Finish) ∷ [])
-    c.in-Ok.ensures.asked (subst (λ commands. AsksFront c.ask.new.core.history c.do_commands.new.core.history (map command_call commands)) c.as_slice.ensures c.in-Err-do_commands.ensures.front)
+returns-in-Err-do_commands-clause-front c = front_between c.args.core.now.history c.ask.new.core.history c.do_commands.new.core.history ((1, Take) ∷ []) (map command_call c.args.job.commands) ((1, Finish) ∷ [])
+    c.in-Ok.ensures.asked (subst (λ commands. AsksFront c.ask.new.core.history c.do_commands.new.core.history (map command_call commands)) c.into_vec.ensures c.in-Err-do_commands.ensures.front)
