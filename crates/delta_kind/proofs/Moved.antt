@@ -36,10 +36,10 @@ same_node a b h = by (flag_if CONTENT (has_content (Some a) (Some b))) (flag_if 
     by c o t y m d v false h = absurd (omega arith)
 
 -- where a path doesn't differ, its markers stay
-pub same_markers : (a b : Element) → differs (Some a) (Some b) ≡ false → a.marks ≡ b.marks
-same_markers a b h = (same_marks-Decides a.marks b.marks).0 (by (flag_if CONTENT (has_content (Some a) (Some b))) (flag_if OPEN (has_open (Some a) (Some b)))
+pub same_markers : (a b : Element) → differs (Some a) (Some b) ≡ false → a.attached.marks ≡ b.attached.marks
+same_markers a b h = (same_marks-Decides a.attached.marks b.attached.marks).0 (by (flag_if CONTENT (has_content (Some a) (Some b))) (flag_if OPEN (has_open (Some a) (Some b)))
     (flag_if TYPE (has_type (Some a) (Some b))) (flag_if SYNC (has_sync (Some a) (Some b))) (flag_if REPLACED (has_replaced (Some a) (Some b)))
-    (flag_if DESCRIPTION (has_description (Some a) (Some b))) (flag_if DERIVED_CHANGED (has_derived_changed (Some a) (Some b))) (same_marks a.marks b.marks) (no_flags a b h))
+    (flag_if DESCRIPTION (has_description (Some a) (Some b))) (flag_if DERIVED_CHANGED (has_derived_changed (Some a) (Some b))) (same_marks a.attached.marks b.attached.marks) (no_flags a b h))
   where
     by : (c o t y r d v : ℕ) (s : Bool) → c + o + t + y + flag_if MARKERS (not s) + r + d + v ≡ 0 → s ≡ true
     by c o t y r d v true h = refl

@@ -104,7 +104,7 @@ idle_node f g p (Some a) None h = cc
 idle_node f g p (Some a) (Some b) h =
     let from : option_and_then f (lost (Some b) (Some a)) ≡ None = ap (option_and_then f) (none_gained (Some a) (Some b) h) in
     let to : option_and_then g (lost (Some a) (Some b)) ≡ None = ap (option_and_then g) (none_lost (Some a) (Some b) h) in
-    let still : marker_deltas empty empty ≡ marker_deltas a.marks b.marks = nothing_marked empty ∙ sym (nothing_marked b.marks) ∙ ap (λ m. marker_deltas m b.marks) (sym (same_markers a b h)) in
+    let still : marker_deltas empty empty ≡ marker_deltas a.attached.marks b.attached.marks = nothing_marked empty ∙ sym (nothing_marked b.attached.marks) ∙ ap (λ m. marker_deltas m b.attached.marks) (sym (same_markers a b h)) in
     λ i. record { path = p; kind = 4; flags = (nothing_flagged ∙ sym (no_flags a b h)) i + moved_flags (sym from i) (sym to i); moved_from = sym from i; moved_to = sym to i; markers = still i }
 
 node_there : (a b : Tree) (rows : Rows) → RowsOf a b rows → Rises None (row_paths rows) → (p : Names) → node_in (place_in Lost rows) (place_in Gained rows) rows p ≡ node_at a b p
@@ -204,10 +204,10 @@ differs_same None = refl
 differs_same (Some e) = λ i. not (flag_if CONTENT (idle (is_file e.kind) (e.stamp == e.stamp) (equal_numbers e.stamp) i)
     + flag_if OPEN (idle (is_project e.kind) (beq e.opened e.opened) (equal_bools e.opened) i)
     + flag_if TYPE (ap not (equal_numbers (kind_number e.kind)) i)
-    + flag_if SYNC (ap not (idle_syncs e.syncs) i)
-    + flag_if MARKERS (ap not (idle_marks e.marks) i)
+    + flag_if SYNC (ap not (idle_syncs e.attached.syncs) i)
+    + flag_if MARKERS (ap not (idle_marks e.attached.marks) i)
     + flag_if REPLACED (ap not (equal_numbers e.node) i)
-    + flag_if DESCRIPTION (idle (is_project e.kind) (e.desc_stamp == e.desc_stamp) (equal_numbers e.desc_stamp) i)
+    + flag_if DESCRIPTION (idle (is_project e.kind) (e.attached.desc_stamp == e.attached.desc_stamp) (equal_numbers e.attached.desc_stamp) i)
     + flag_if DERIVED_CHANGED (ap not (equal_bools e.derived) i) == 0)
 
 pub tells_no_change : (a b : Tree) → a ≡ b → delta a b ≡ []

@@ -30,12 +30,12 @@ has_type None after = false
 -- the synchronisation bytes of an element, none of one that isn't there
 abbrev pub syncs_of : Option Element → Syncs
 syncs_of None = empty
-syncs_of (Some e) = e.syncs
+syncs_of (Some e) = e.attached.syncs
 
 -- the markers of an element, none of one that isn't there
 abbrev pub marks_of : Option Element → Marks
 marks_of None = empty
-marks_of (Some e) = e.marks
+marks_of (Some e) = e.attached.marks
 
 -- the synchronisation bytes differ
 abbrev pub has_sync : Option Element → Option Element → Bool
@@ -53,7 +53,7 @@ has_replaced None after = false
 
 -- both are projects, and the stamps of their descriptions differ
 abbrev pub has_description : Option Element → Option Element → Bool
-has_description (Some a) (Some b) = is_project a.kind && is_project b.kind && not (a.desc_stamp == b.desc_stamp)
+has_description (Some a) (Some b) = is_project a.kind && is_project b.kind && not (a.attached.desc_stamp == b.attached.desc_stamp)
 has_description (Some a) None = false
 has_description None after = false
 

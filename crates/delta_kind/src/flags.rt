@@ -1,7 +1,8 @@
 //! The platform's kinds and flags of a change (`IResourceDelta`), and when each holds.
-ghost use Rattle.std.specs.Prelude.{◌≡◌, ◌≤◌, ◌<◌, ◌^◌, IfOk};
+ghost use Rattle.std.specs.Prelude.{◌≡◌, ◌≤◌, ◌<◌, ◌^◌, IfOk, unwrap_or};
 ghost use Rattle.std.specs.FinMap.{empty};
-ghost use Rattle.std.specs.Option.{option_copied};
+ghost use Rattle.std.specs.Option.{option_copied, option_map_or};
+ghost use Rattle.ws_elem.specs.Attached.{nothing_attached};
 ghost use Rattle.mark_set.specs.Deltas.{marker_deltas};
 ghost use Rattle.delta_kind.specs.Flags.{has_content, has_open, has_type, has_sync, has_markers, has_replaced, has_description, has_derived_changed, marks_of, syncs_of, flag_if, flags_of, moved_flags, kind_of, differs};
 
@@ -9,7 +10,7 @@ use mark_set::{MarkSet, MarkerDeltas};
 use res_path::Path;
 use std::alloc::Global;
 use sync_set::SyncSet;
-use ws_elem::{Element, NoMemory};
+use ws_elem::{Attachments, Element, NoMemory};
 
 /// Of a delta without nodes: nothing changed.
 pub const NO_CHANGE: u8 = 0;
@@ -92,8 +93,8 @@ fn syncs_of<'a>(element: Option<&'a Element>, none: &'a SyncSet) -> &'a SyncSet
     requires { none.now ≡ empty }
     ensures { result.now ≡ syncs_of (option_copied element.entry) }
 {
-    match element {
-        Some(element) => &element.syncs,
+    match attachments_of(element) {
+        Some(attachments) => &attachments.syncs,
         None => none,
     }
 }
@@ -109,8 +110,8 @@ fn marks_of<'a>(element: Option<&'a Element>, none: &'a MarkSet) -> &'a MarkSet
     requires { none.now ≡ empty }
     ensures { result.now ≡ marks_of (option_copied element.entry) }
 {
-    match element {
-        Some(element) => &element.marks,
+    match attachments_of(element) {
+        Some(attachments) => &attachments.marks,
         None => none,
     }
 }
@@ -129,9 +130,29 @@ fn has_description(before: Option<&Element>, after: Option<&Element>) -> bool
 {
     match (before, after) {
         (Some(a), Some(b)) => {
-            a.kind.is_project() && b.kind.is_project() && a.desc_stamp != b.desc_stamp
+            a.kind.is_project() && b.kind.is_project() && stamp_of(a) != stamp_of(b)
         }
         _ => false,
+    }
+}
+
+/// The stamp of the element's description.
+fn stamp_of(element: &Element) -> u64
+    ensures { result ≡ element.now.attached.desc_stamp }
+{
+    match element.attached.kept() {
+        Some(attachments) => attachments.desc_stamp,
+        None => 0,
+    }
+}
+
+/// What is attached to the element, if there is one; none only where nothing is.
+fn attachments_of(element: Option<&Element>) -> Option<&Attachments>
+    ensures { unwrap_or (option_copied result) nothing_attached ≡ option_map_or (λ e. e.attached) (option_copied element.entry) nothing_attached }
+{
+    match element {
+        Some(element) => element.attached.kept(),
+        None => None,
     }
 }
 

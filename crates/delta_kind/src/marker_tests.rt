@@ -7,16 +7,27 @@ use res_path::Path;
 use std::alloc::Global;
 use std::process::Abort;
 use std::test::Fail;
-use ws_elem::{ElemMap, Element};
+use ws_elem::{Attached, ElemMap, Element};
 
 /// Gives the marker of this id the line; it is made where it isn't there.
 fn put_line(alloc: Global, element: &mut Element, id: u64, line: i32) -> Result<(), Fail> {
-    if element.marks.get(id).is_none() {
-        element.marks.create(alloc, id, "problem", &[])?;
+    let mut attachments = element.attached.to_attachments()?;
+    if attachments.marks.get(id).is_none() {
+        attachments.marks.create(alloc, id, "problem", &[])?;
     }
-    element
+    attachments
         .marks
         .set(alloc, id, "line", Some(RawValue::Int(line)))?;
+    element.attached = Attached::of(alloc, attachments)?;
+    Ok(())
+}
+
+/// Gives the element synchronisation bytes.
+fn put_sync(alloc: Global, element: &mut Element, sync: &[u8]) -> Result<(), Fail> {
+    let mut attachments = element.attached.to_attachments()?;
+    let bytes = Bytes::copy_from_slice(alloc, sync)?;
+    attachments.syncs.set(alloc, 0, Some(bytes))?;
+    element.attached = Attached::of(alloc, attachments)?;
     Ok(())
 }
 
@@ -25,8 +36,7 @@ fn marked(alloc: Global, node: u64, line: i32, sync: Option<&[u8]>) -> Result<El
     let mut element = file(node, 1);
     put_line(alloc, &mut element, 7, line)?;
     if let Some(sync) = sync {
-        let bytes = Bytes::copy_from_slice(alloc, sync)?;
-        element.syncs.set(alloc, 0, Some(bytes))?;
+        put_sync(alloc, &mut element, sync)?;
     }
     Ok(element)
 }
@@ -34,8 +44,7 @@ fn marked(alloc: Global, node: u64, line: i32, sync: Option<&[u8]>) -> Result<El
 /// A file with synchronisation bytes and no markers.
 fn synced(alloc: Global, node: u64, sync: &[u8]) -> Result<Element, Fail> {
     let mut element = file(node, 1);
-    let bytes = Bytes::copy_from_slice(alloc, sync)?;
-    element.syncs.set(alloc, 0, Some(bytes))?;
+    put_sync(alloc, &mut element, sync)?;
     Ok(element)
 }
 

@@ -3,7 +3,7 @@ use res_path::Path;
 use std::alloc::Global;
 use std::process::Abort;
 use std::test::Fail;
-use ws_elem::{ElemMap, Element, Kind};
+use ws_elem::{Attached, Attachments, ElemMap, Element, Kind};
 
 pub fn path(alloc: Global, text: &str) -> Result<Path, Fail> {
     Ok(Path::parse(alloc, text)?)
@@ -276,13 +276,15 @@ fn descriptions_and_derived_resources_are_told(rt: HostRuntime) -> Result<(), Fa
     let alloc = rt.alloc();
     let before = tree_of(alloc, &[P, A])?;
     let mut after = before.copy()?;
+    let mut described = Attachments::none();
+    described.desc_stamp = 2;
     put(
         alloc,
         &mut after,
         "/P",
         Element {
             opened: true,
-            desc_stamp: 2,
+            attached: Attached::of(alloc, described)?,
             ..Element::bare(Kind::Project, 2)
         },
     )?;

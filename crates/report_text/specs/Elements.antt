@@ -25,7 +25,7 @@ switches_text e = codes " derived " ++ switch e.derived ++ codes " open " ++ swi
 
 -- its description's stamp, and how many markers it has and how many partners keep bytes with it
 abbrev pub counts_text : Element → List ℕ
-counts_text e = codes " desc " ++ decimal e.desc_stamp ++ codes " marks " ++ decimal (len e.marks) ++ codes " syncs " ++ decimal (len e.syncs)
+counts_text e = codes " desc " ++ decimal e.attached.desc_stamp ++ codes " marks " ++ decimal (len e.attached.marks) ++ codes " syncs " ++ decimal (len e.attached.syncs)
 
 -- a value as a script has it
 abbrev pub value_text : Value → List ℕ
@@ -60,4 +60,4 @@ syncs_text names syncs = flat_map (sync_text names) (entries syncs)
 
 -- what is shown of an element, where the partners have these names
 abbrev pub shown_text : List (List ℕ) → Element → List ℕ
-shown_text names e = contents_text e ++ switches_text e ++ counts_text e ++ marks_text e.marks ++ syncs_text names e.syncs
+shown_text names e = contents_text e ++ switches_text e ++ counts_text e ++ marks_text e.attached.marks ++ syncs_text names e.attached.syncs

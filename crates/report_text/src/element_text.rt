@@ -14,7 +14,7 @@ use mark_set::{Attrs, MarkSet, MarkText, Marker, Value};
 use res_path::Name;
 use std::alloc::Global;
 use sync_set::SyncSet;
-use ws_elem::Element;
+use ws_elem::{Attachments, Element};
 
 /// What is shown of an element, where the partners have these names in the order of their numbers.
 pub fn shown_text(alloc: Global, element: &Element, names: &[Name]) -> Result<Vec<u8>, NoMemory>
@@ -34,8 +34,10 @@ pub fn put_shown(out: &mut Vec<u8>, element: &Element, names: &[Name]) -> Result
     put_contents(out, element)?;
     put_switches(out, element)?;
     put_counts(out, element)?;
-    put_marks(out, &element.marks)?;
-    put_syncs(out, &element.syncs, names)
+    let nothing = Attachments::none();
+    let attachments = element.attached.or(&nothing);
+    put_marks(out, &attachments.marks)?;
+    put_syncs(out, &attachments.syncs, names)
 }
 
 fn put_contents(out: &mut Vec<u8>, element: &Element) -> Result<(), NoMemory>
@@ -65,9 +67,11 @@ fn put_switch(out: &mut Vec<u8>, before: &str, on: bool) -> Result<(), NoMemory>
 fn put_counts(out: &mut Vec<u8>, element: &Element) -> Result<(), NoMemory>
     ensures { OnOk result (out.new.items ≡ out.old.items ++ counts_text element.now) }
 {
-    put_counted(out, " desc ", element.desc_stamp)?;
-    put_counted(out, " marks ", element.marks.len() as u64)?;
-    put_counted(out, " syncs ", element.syncs.len() as u64)
+    let nothing = Attachments::none();
+    let attachments = element.attached.or(&nothing);
+    put_counted(out, " desc ", attachments.desc_stamp)?;
+    put_counted(out, " marks ", attachments.marks.len() as u64)?;
+    put_counted(out, " syncs ", attachments.syncs.len() as u64)
 }
 
 fn put_marks(out: &mut Vec<u8>, marks: &MarkSet) -> Result<(), NoMemory>

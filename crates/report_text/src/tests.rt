@@ -13,7 +13,7 @@ use std::alloc::Global;
 use std::process::Abort;
 use std::str::from_utf8;
 use std::test::Fail;
-use ws_elem::{ElemMap, Element, Kind};
+use ws_elem::{Attached, Attachments, ElemMap, Element, Kind};
 
 fn path(alloc: Global, text: &str) -> Result<Path, Fail> {
     Ok(Path::parse(alloc, text)?)
@@ -86,6 +86,13 @@ fn a_node_tells_where_it_was_and_went(rt: HostRuntime) -> Result<(), Fail> {
     Ok(())
 }
 
+/// These markers, and nothing else.
+fn with_marks(alloc: Global, marks: MarkSet) -> Result<Attached, Fail> {
+    let mut attachments = Attachments::none();
+    attachments.marks = marks;
+    Ok(Attached::of(alloc, attachments)?)
+}
+
 #[test]
 fn marker_deltas_stand_under_their_node(rt: HostRuntime) -> Result<(), Fail> {
     let alloc = rt.alloc();
@@ -100,8 +107,8 @@ fn marker_deltas_stand_under_their_node(rt: HostRuntime) -> Result<(), Fail> {
     let mut after = ElemMap::fresh(alloc)?;
     let mut one = file(alloc, 2, b"")?;
     let mut two = file(alloc, 2, b"")?;
-    one.marks = old;
-    two.marks = new;
+    one.attached = with_marks(alloc, old)?;
+    two.attached = with_marks(alloc, new)?;
     before.put(path(alloc, "/f")?, one)?;
     after.put(path(alloc, "/f")?, two)?;
     let delta = compare(alloc, &before, &after)?;
@@ -141,14 +148,18 @@ fn an_element_is_shown_with_its_markers_and_bytes(rt: HostRuntime) -> Result<(),
         raw(alloc, "message")?,
         RawValue::Text(raw(alloc, "two words")?),
     ))?;
-    element.marks.create(alloc, 12, "task", &[])?;
-    element.marks.create(alloc, 4, "problem", attrs.as_slice())?;
+    let mut attachments = Attachments::none();
+    attachments.marks.create(alloc, 12, "task", &[])?;
+    attachments
+        .marks
+        .create(alloc, 4, "problem", attrs.as_slice())?;
     let bytes = Bytes::copy_from_slice(alloc, b"\x00\xff")?;
-    element.syncs.set(alloc, 1, Some(bytes.clone()?))?;
-    element
+    attachments.syncs.set(alloc, 1, Some(bytes.clone()?))?;
+    attachments
         .syncs
         .set(alloc, 0, Some(Bytes::copy_from_slice(alloc, b"v1")?))?;
-    element.syncs.set(alloc, 2, Some(bytes))?;
+    attachments.syncs.set(alloc, 2, Some(bytes))?;
+    element.attached = Attached::of(alloc, attachments)?;
     let text = shown_text(alloc, &element, names.as_slice())?;
     assert_eq!(rt;
         from_utf8(text.as_slice()),

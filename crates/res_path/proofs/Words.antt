@@ -4,7 +4,8 @@ use Rattle.std.proofs.lemmas.List.{length-take, length-drop, get_or-drop, get_or
 use Rattle.std.specs.Int.{bit_at, trailing_zeros, w64}
 use Rattle.std.specs.Int.Bits.{bit_xor}
 use Rattle.std.specs.declared.cmp.Ordering.{Ordering}
-use Rattle.std.specs.Ordering.{nat_cmp, ordering_then}
+use Rattle.std.specs.Ordering.{nat_cmp, ordering_then, MatchOrdering}
+use Rattle.std.specs.Cmp.{nat_cmp_is}
 use Rattle.std.specs.FinMap.{nat_cmp-IsAntisymmetric}
 use Rattle.std.proofs.lemmas.Bool.{cases_lt}
 use Rattle.std.proofs.lemmas.Bool.Decides.{nat_tests}
@@ -186,3 +187,21 @@ differ_cmp n a b e d =
     ∙ (λ i. text_cmp (drop-cons a n 0 d.first i) (drop-cons b n 0 d.second i))
     ∙ decided (nat_cmp (rank (slice_index a n)) (rank (slice_index b n))) (text_cmp (drop (suc n) a) (drop (suc n) b))
     (λ z. d.other (rank_same (slice_index a n) (slice_index b n) (nat_cmp-IsAntisymmetric (rank (slice_index a n)) (rank (slice_index b n)) z)))
+
+-- a shorter front is the same
+pub fewer_same : (k n : ℕ) (a b : List ℕ) → k ≤ n → take n a ≡ take n b → take k a ≡ take k b
+fewer_same k n a b h e = sym (take_take k n a h) ∙ ap (take k) e ∙ take_take k n b h
+
+-- where the fronts are the same and one text has ended, the lengths decide
+pub ended_cmp : (n : ℕ) (a b : List ℕ) → take n a ≡ take n b → n ≤ length a → n ≤ length b → (length a ≤ n) ⊎ (length b ≤ n) → text_cmp a b ≡ nat_cmp (length a) (length b)
+ended_cmp n a b e h g s =
+    sym (text_cmp-drop n a b e h g)
+    ∙ nat_cmp_is (length a) (length b) (text_cmp (drop n a) (drop n b)) (by (drop n a) (drop n b) (length-drop n a) (length-drop n b) s)
+  where
+    by : (p q : List ℕ) → length p ≡ length a - n → length q ≡ length b - n → (length a ≤ n) ⊎ (length b ≤ n)
+        → MatchOrdering (text_cmp p q) (length a < length b) (length a ≡ length b) (length b < length a)
+    by [] [] k l s = omega (arith, k, l, h, g)
+    by [] (y ∷ q) k l s = omega (arith, k, l, h, g)
+    by (x ∷ p) [] k l s = omega (arith, k, l, h, g)
+    by (x ∷ p) (y ∷ q) k l (inl s) = absurd (omega (arith, k, s))
+    by (x ∷ p) (y ∷ q) k l (inr s) = absurd (omega (arith, l, s))

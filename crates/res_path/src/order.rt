@@ -1,5 +1,5 @@
 //! The order and the prefixes of paths, each in one pass over the texts that they are kept in.
-ghost use Rattle.std.specs.Prelude.{◌≡◌, ◌+◌, ◌≤◌, true, length, take, drop};
+ghost use Rattle.std.specs.Prelude.{◌≡◌, ◌⊎◌, ◌+◌, ◌≤◌, true, false, length, take, drop};
 ghost use Rattle.res_path.specs.Order.{rank, text_cmp, text_prefix, word_of, DifferAt};
 
 use std::cmp::Ordering;
@@ -8,13 +8,14 @@ use std::cmp::Ordering;
 pub fn compare(a: &[u8], b: &[u8]) -> Ordering
     ensures { result ≡ text_cmp a.now b.now }
 {
+    if a.len() < 8 || b.len() < 8 {
+        return compare_by_one(a, b);
+    }
     let (at, differs) = same_front(a, b);
     if differs {
         return rank(a[at]).cmp(&rank(b[at]));
     }
-    let (_, a_rest) = a.split_at(at);
-    let (_, b_rest) = b.split_at(at);
-    compare_by_one(a_rest, b_rest)
+    a.len().cmp(&b.len())
 }
 
 /// The same order, found byte after byte.
@@ -37,24 +38,28 @@ fn compare_by_one(a: &[u8], b: &[u8]) -> Ordering
     }
 }
 
-/// How many bytes at the front of both are found to be the same by words of eight, and whether the next ones are found
-/// to differ: where they aren't, less than a word is left of one text.
+/// How many bytes at the front of both are the same, found by words of eight, the last one up to the end of the
+/// shorter text; and whether the next ones differ: where they don't, one text has ended.
 fn same_front(a: &[u8], b: &[u8]) -> (usize, bool)
+    requires first { 8 ≤ length a.now }
+    requires second { 8 ≤ length b.now }
     ensures same { take result.0 a.now ≡ take result.0 b.now }
-    ensures first { result.0 ≤ length a.now }
-    ensures second { result.0 ≤ length b.now }
+    ensures within { (result.0 ≤ length a.now) × (result.0 ≤ length b.now) }
     ensures differs { result.1 ≡ true → DifferAt a.now b.now result.0 }
+    ensures ended { result.1 ≡ false → (length a.now ≤ result.0) ⊎ (length b.now ≤ result.0) }
 {
-    let both = a.len().min(b.len());
+    let last = a.len().min(b.len()) - 8;
     let mut at = 0;
-    while both - at >= 8 {
+    loop {
         let differences = word_at(a, at) ^ word_at(b, at);
         if differences != 0 {
             return (at + differences.trailing_zeros() as usize / 8, true);
         }
-        at += 8;
+        if at == last {
+            return (at + 8, false);
+        }
+        at = (at + 8).min(last);
     }
-    (at, false)
 }
 
 /// The eight bytes from this place on as one number, the first byte the lowest.

@@ -1,6 +1,6 @@
 -- Elements.
 use Rattle.std.specs.Prelude.{ℕ, false, []}
-use Rattle.std.specs.FinMap.{empty}
+use Rattle.ws_elem.specs.Attached.{nothing_attached}
 use Rattle.ws_elem.specs.declared.kind.Kind.{Kind}
 use Rattle.ws_elem.specs.declared.element.Element.{Element}
 
@@ -13,9 +13,6 @@ bare kind node = record {
   derived = false;
   node = node;
   stamp = 0;
-  desc_stamp = 0;
-  desc = [];
   bytes = [];
-  marks = empty;
-  syncs = empty;
+  attached = nothing_attached;
 }

@@ -1,3 +1,4 @@
+pub mod Attached
 pub mod Kinds
 pub mod Depths
 pub mod Elements

@@ -2,13 +2,12 @@
 ghost use Rattle.std.specs.Prelude.{◌≡◌, IfOk};
 ghost use Rattle.ws_elem.specs.Elements.{bare};
 
-use crate::{Kind, NoMemory};
+use crate::{Attached, Attachments, Kind, NoMemory};
 use bytes::Bytes;
-use mark_set::MarkSet;
-use sync_set::SyncSet;
+use std::alloc::Global;
 
 /// What the workspace keeps of one resource. A contract sees its fields, a text as its bytes.
-#[derive(Clone, Debug, PartialEq, Eq, Drop)]
+#[derive(Clone, Debug, Drop)]
 pub struct Element {
     pub kind: Kind,
     /// Only of an open project.
@@ -18,16 +17,10 @@ pub struct Element {
     pub node: u64,
     /// Changes with the contents; 0 but for files.
     pub stamp: u64,
-    /// Changes with the description; 0 but for projects.
-    pub desc_stamp: u64,
-    /// The description's text; empty but for projects.
-    pub desc: Bytes,
     /// The contents; empty but for files.
     pub bytes: Bytes,
-    /// The markers, by id.
-    pub marks: MarkSet,
-    /// What synchronisation partners keep with the resource, by partner number.
-    pub syncs: SyncSet,
+    /// The description, the markers and the synchronisation bytes.
+    pub attached: Attached,
 }
 
 impl Element {
@@ -41,11 +34,8 @@ impl Element {
             derived: false,
             node,
             stamp: 0,
-            desc_stamp: 0,
-            desc: Bytes::new(),
             bytes: Bytes::new(),
-            marks: MarkSet::empty(),
-            syncs: SyncSet::empty(),
+            attached: Attached::nothing(),
         }
     }
 
@@ -54,5 +44,24 @@ impl Element {
         ensures { IfOk result (λ copy. copy ≡ self.now) }
     {
         self.clone()
+    }
+
+    /// This element with these attachments. It shares the contents.
+    pub fn with_attachments(
+        &self,
+        alloc: Global,
+        attachments: Attachments,
+    ) -> Result<Element, NoMemory>
+        ensures { IfOk result (λ e. e ≡ record self.now { attached = attachments }) }
+    {
+        Ok(Element {
+            kind: self.kind,
+            opened: self.opened,
+            derived: self.derived,
+            node: self.node,
+            stamp: self.stamp,
+            bytes: self.bytes.clone()?,
+            attached: Attached::of(alloc, attachments)?,
+        })
     }
 }

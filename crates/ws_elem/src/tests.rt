@@ -1,5 +1,5 @@
 use crate::test_tools::{has, path};
-use crate::{Depth, ElemMap, Element, Kind};
+use crate::{Attachments, Depth, ElemMap, Element, Kind};
 use bytes::Bytes;
 use res_path::Path;
 use std::alloc::Global;
@@ -202,31 +202,56 @@ fn kinds_have_the_platforms_numbers_and_words(rt: HostRuntime) -> Result<(), Fai
 }
 
 #[test]
-fn elements_are_equal_where_all_their_parts_are(rt: HostRuntime) -> Result<(), Fail> {
-    let one = file(rt.alloc(), 5, b"text")?;
-    let other = file(rt.alloc(), 5, b"texts")?;
-    let copy = one.copy()?;
-    assert!(rt; copy == one);
-    assert!(rt; other != one);
+fn a_copy_of_an_element_has_its_parts(rt: HostRuntime) -> Result<(), Fail> {
+    let file = file(rt.alloc(), 5, b"text")?;
+    let copy = file.copy()?;
+    assert!(rt; copy.kind == Kind::File);
+    assert_eq!(rt; copy.node, 5);
+    assert_eq!(rt; copy.stamp, 1);
+    assert!(rt; copy.bytes == file.bytes);
+    assert!(rt; copy.attached.kept().is_none());
     Ok(())
 }
 
-/// Gives the element a marker, and bytes of a partner.
-fn mark(alloc: Global, element: &mut Element) -> Result<(), Fail> {
-    element.marks.create(alloc, 1, "problem", &[])?;
+/// A description, a marker, and bytes of a partner.
+fn attachments(alloc: Global) -> Result<Attachments, Fail> {
+    let mut attachments = Attachments::none();
+    attachments.desc_stamp = 7;
+    attachments.desc = Bytes::copy_from_slice(alloc, b"{}")?;
+    attachments.marks.create(alloc, 1, "problem", &[])?;
     let bytes = Bytes::copy_from_slice(alloc, b"v1")?;
-    element.syncs.set(alloc, 0, Some(bytes))?;
+    attachments.syncs.set(alloc, 0, Some(bytes))?;
+    Ok(attachments)
+}
+
+/// Whether these are a description with the stamp 7, the marker 1 and bytes of partner 0.
+fn are_all(attachments: &Attachments) -> bool {
+    attachments.desc_stamp == 7
+        && attachments.desc.as_slice() == b"{}"
+        && attachments.marks.get(1).is_some()
+        && attachments.syncs.get(0).is_some()
+}
+
+#[test]
+fn what_is_attached_goes_with_a_copy(rt: HostRuntime) -> Result<(), Fail> {
+    let alloc = rt.alloc();
+    let file = Element::bare(Kind::File, 5);
+    let marked = file.with_attachments(alloc, attachments(alloc)?)?;
+    let copy = marked.copy()?;
+    let nothing = Attachments::none();
+    assert!(rt; nothing.is_nothing());
+    assert!(rt; file.attached.or(&nothing).is_nothing());
+    assert!(rt; are_all(copy.attached.or(&nothing)));
+    assert!(rt; are_all(&marked.attached.to_attachments()?.copy()?));
+    assert_eq!(rt; copy.node, 5);
     Ok(())
 }
 
 #[test]
-fn a_copy_of_an_element_has_its_markers_and_bytes(rt: HostRuntime) -> Result<(), Fail> {
-    let mut file = Element::bare(Kind::File, 5);
-    assert!(rt; file.marks.is_empty());
-    assert!(rt; file.syncs.is_empty());
-    mark(rt.alloc(), &mut file)?;
-    let copy = file.copy()?;
-    assert!(rt; copy == file);
-    assert!(rt; copy != Element::bare(Kind::File, 5));
+fn where_nothing_is_attached_nothing_is_kept(rt: HostRuntime) -> Result<(), Fail> {
+    let file = Element::bare(Kind::File, 5);
+    let plain = file.with_attachments(rt.alloc(), Attachments::none())?;
+    assert!(rt; plain.attached.kept().is_none());
+    assert!(rt; plain.attached.to_attachments()?.is_nothing());
     Ok(())
 }

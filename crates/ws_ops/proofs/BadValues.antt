@@ -11,8 +11,8 @@ use Rattle.ws_ops.specs.Marking.{has_marker}
 use Rattle.ws_ops.specs.declared.refusal.OpRefusal.TheVariants.{BadValue}
 
 -- the marker is there
-pub marker_there : (e d : Element) (id : ℕ) → e ≡ d → has_marker id (Some d) ≡ true → IsSome (get e.marks id)
-marker_there e d id same h = ap (λ (x : Element). is_some (get x.marks id)) same ∙ h
+pub marker_there : (e d : Element) (id : ℕ) → e ≡ d → has_marker id (Some d) ≡ true → IsSome (get e.attached.marks id)
+marker_there e d id same h = ap (λ (x : Element). is_some (get x.attached.marks id)) same ∙ h
 
 -- what is done had no cause against it
 pub unspoilt : {A : Type 0} (c d : Option ValueCause) (r : Result A MarkError) (a : A) → c ≡ d → r ≡ Ok a → ((x : ValueCause) → c ≡ Some x → r ≡ Err (Spoilt x)) → option_map BadValue d ≡ None

@@ -98,9 +98,9 @@ no_ids (id ∷ ids) h = let none : length (id ∷ ids) ≡ 0 = eqb-true (length 
 -- an element without such markers loses nothing
 marks_stay : (mark_type : List ℕ) (e : Element) → not (count_marks mark_type e == 0) ≡ false → unmarked mark_type e ≡ e
 marks_stay mark_type e h =
-    let stay : retain_keys e.marks (λ id. not (has_type mark_type (get e.marks id))) ≡ e.marks =
-    sym (all_removed mark_type e.marks) ∙ ap (removed e.marks) (no_ids (ids_of_type mark_type e.marks) (is_zero (count_marks mark_type e == 0) h)) in
-    λ i. record e { marks = stay i }
+    let stay : retain_keys e.attached.marks (λ id. not (has_type mark_type (get e.attached.marks id))) ≡ e.attached.marks =
+    sym (all_removed mark_type e.attached.marks) ∙ ap (removed e.attached.marks) (no_ids (ids_of_type mark_type e.marks) (is_zero (count_marks mark_type e == 0) h)) in
+    λ i. record e { attached = record e.attached { marks = stay i } }
   where
     is_zero : (b : Bool) → not b ≡ false → b ≡ true
     is_zero true g = refl
@@ -108,10 +108,10 @@ marks_stay mark_type e h =
 
 -- nor one without such bytes
 bytes_stay : (number : ℕ) (e : Element) → not (count_bytes number e == 0) ≡ false → unsynced number e ≡ e
-bytes_stay number e h = by (get e.syncs number) refl h
+bytes_stay number e h = by (get e.attached.syncs number) refl h
   where
-    by : (x : Option (List ℕ)) → get e.syncs number ≡ x → not (cond (is_some x) 1 0 == 0) ≡ false → unsynced number e ≡ e
-    by None is g = λ i. record e { syncs = remove_absent e.syncs number is i }
+    by : (x : Option (List ℕ)) → get e.attached.syncs number ≡ x → not (cond (is_some x) 1 0 == 0) ≡ false → unsynced number e ≡ e
+    by None is g = λ i. record e { attached = record e.attached { syncs = remove_absent e.attached.syncs number is i } }
     by (Some bytes) is g = cc
 
 -- ---- elements one after another

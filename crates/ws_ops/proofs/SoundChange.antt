@@ -104,7 +104,7 @@ contents_keeps r p bytes x h = change_keeps (IsChanged r p change) r p change (r
     later e d = record {
       node = d.node;
       stamp = omega arith;
-      desc_stamp = let less : e.desc_stamp < r.next_stamp = d.desc_stamp in omega arith;
+      desc_stamp = let less : e.attached.desc_stamp < r.next_stamp = d.desc_stamp in omega arith;
       marks = d.marks;
       syncs = d.syncs;
     }
@@ -137,7 +137,7 @@ derive_keeps r p on x h = change_keeps (λ _. ⊥) r p (λ e. record e { derived
         ≡ record (cond b (record e { opened = true }) e) { derived = on }) [ true ↦ refl | false ↦ refl ]
 
 pub describe_keeps : (r : Resources) (p : Names) (text : List ℕ) → IsSound r → first_cause (describe_causes r p text) ≡ None → Keeps (λ _. ⊥) r (describe r p text)
-describe_keeps r p text x h = change_keeps (λ _. ⊥) r p (λ e. record e { desc = unwrap_or (canonical_of text) []; desc_stamp = r.next_stamp }) (r.next_stamp + 1) x
+describe_keeps r p text x h = change_keeps (λ _. ⊥) r p (λ e. record e { attached = record e.attached { desc = unwrap_or (canonical_of text) []; desc_stamp = r.next_stamp } }) (r.next_stamp + 1) x
     record { alike = λ e. record { kind = refl; node = refl; opened = refl }; turns = turns (unwrap_or (canonical_of text) []) }
     (short_kept (get r.tree) p (one_short p (one_name p (passed (not (is_project_path p)) (WrongKind p) _ h).0))) (omega arith)
     (λ e is.
@@ -150,7 +150,10 @@ describe_keeps r p text x h = change_keeps (λ _. ⊥) r p (λ e. record e { des
     })
     (λ _ none. absurd none) (λ _ _ none. absurd none)
   where
-    turns : (d : List ℕ) (e : Element) → opened (record e { desc = d; desc_stamp = r.next_stamp }) ≡ record (opened e) { desc = d; desc_stamp = r.next_stamp }
+    described : List ℕ → Element → Element
+    described d e = record e { attached = record e.attached { desc = d; desc_stamp = r.next_stamp } }
+
+    turns : (d : List ℕ) (e : Element) → opened (described d e) ≡ described d (opened e)
     turns d e = elim (is_project e.kind) as (λ b.
-        cond b (record e { desc = d; desc_stamp = r.next_stamp; opened = true }) (record e { desc = d; desc_stamp = r.next_stamp })
-        ≡ record (cond b (record e { opened = true }) e) { desc = d; desc_stamp = r.next_stamp }) [ true ↦ refl | false ↦ refl ]
+        cond b (record (described d e) { opened = true }) (described d e)
+        ≡ described d (cond b (record e { opened = true }) e)) [ true ↦ refl | false ↦ refl ]

@@ -54,9 +54,9 @@ copy_drawn r after n s e d less room more = record {
   stamp = at_cond (λ z. z < after.next_stamp) (is_file e.kind) s e.stamp
       (λ h. let one : stamps_of e ≡ 1 = file_stamps e h in omega arith)
       (λ _. let drawn : e.stamp < r.next_stamp = d.stamp in omega arith);
-  desc_stamp = at_cond (λ z. z < after.next_stamp) (is_project e.kind) s e.desc_stamp
+  desc_stamp = at_cond (λ z. z < after.next_stamp) (is_project e.kind) s e.attached.desc_stamp
       (λ h. let one : stamps_of e ≡ 1 = project_stamps e h in omega arith)
-      (λ _. let drawn : e.desc_stamp < r.next_stamp = d.desc_stamp in omega arith);
+      (λ _. let drawn : e.attached.desc_stamp < r.next_stamp = d.desc_stamp in omega arith);
   marks = no_marks after.next_marker;
   syncs = no_bytes (length after.partners);
 }

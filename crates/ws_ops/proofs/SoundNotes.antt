@@ -40,7 +40,7 @@ use Rattle.ws_ops.proofs.SoundPaths.{never}
 
 -- an element with its markers and bytes so changed
 abbrev note : (Marks → Marks) → (Syncs → Syncs) → Element → Element
-note m s e = record e { marks = m e.marks; syncs = s e.syncs }
+note m s e = record e { attached = record e.attached { marks = m e.attached.marks; syncs = s e.attached.syncs } }
 
 alike : (m : Marks → Marks) (s : Syncs → Syncs) (e : Element) → Alike e (note m s e)
 alike m s e = record { kind = refl; node = refl; opened = refl }
@@ -150,7 +150,7 @@ note_keeps r tree next test m s x more is in_marks in_syncs = record {
         let d : IsDrawn r e = at_some (IsDrawn r) (get r.tree q) e h (x.tree_known.drawn q) in
         let old : IsOld r e = old_tree r q e h in
         record {
-          drawn = record { node = d.node; stamp = d.stamp; desc_stamp = d.desc_stamp; marks = in_marks e.marks d.marks; syncs = in_syncs e.syncs d.syncs };
+          drawn = record { node = d.node; stamp = d.stamp; desc_stamp = d.desc_stamp; marks = in_marks e.attached.marks d.marks; syncs = in_syncs e.attached.syncs d.syncs };
           whence = inl record { from = old.from; stood = old.stood; kind = old.kind; stamp = old.stamp; bytes = old.bytes };
         }
 

@@ -67,9 +67,9 @@ pub drawn_later : (r after : Resources) (e : Element) → IsLater r after → Is
 drawn_later r after e l d = record {
   node = let n : e.node < r.next_node = d.node in let m : r.next_node ≤ after.next_node = l.0 in omega arith;
   stamp = let n : e.stamp < r.next_stamp = d.stamp in let m : r.next_stamp ≤ after.next_stamp = l.1 in omega arith;
-  desc_stamp = let n : e.desc_stamp < r.next_stamp = d.desc_stamp in let m : r.next_stamp ≤ after.next_stamp = l.1 in omega arith;
-  marks = λ id. below_more (get e.marks id) id r.next_marker after.next_marker l.2 (d.marks id);
-  syncs = λ number. below_more (get e.syncs number) number (length r.partners) (length after.partners) l.3 (d.syncs number);
+  desc_stamp = let n : e.attached.desc_stamp < r.next_stamp = d.desc_stamp in let m : r.next_stamp ≤ after.next_stamp = l.1 in omega arith;
+  marks = λ id. below_more (get e.attached.marks id) id r.next_marker after.next_marker l.2 (d.marks id);
+  syncs = λ number. below_more (get e.attached.syncs number) number (length r.partners) (length after.partners) l.3 (d.syncs number);
 }
 
 -- what has no markers and no bytes has none that aren't drawn

@@ -3,8 +3,10 @@ use Rattle.std.specs.Prelude.{ℕ, ◌+◌, Bool, true, false, if◌then◌else�
 use Rattle.std.specs.FinMap.{empty, insert, remove, get}
 use Rattle.std.specs.Option.{option_map}
 use Rattle.res_path.specs.Paths.{Names}
+use Rattle.ws_elem.specs.declared.attached.Attachments.{Attachments}
 use Rattle.ws_elem.specs.declared.element.Element.{Element}
 use Rattle.ws_elem.specs.declared.kind.Kind.TheVariants.{File, Folder, Project}
+use Rattle.ws_elem.specs.Attached.{nothing_attached}
 use Rattle.ws_elem.specs.Elements.{bare}
 use Rattle.ws_elem.specs.Kinds.{is_file, is_project}
 use Rattle.ws_elem.specs.Trees.{Tree, without}
@@ -41,7 +43,7 @@ new_folder node = bare Folder node
 
 -- an open project with the empty description, with its node and its description's stamp
 abbrev pub new_project : ℕ → ℕ → Element
-new_project node stamp = record (bare Project node) { opened = true; desc_stamp = stamp; desc = empty_description }
+new_project node stamp = record (bare Project node) { opened = true; attached = record nothing_attached { desc_stamp = stamp; desc = empty_description } }
 
 -- the element stands at p, and its numbers are drawn
 abbrev pub create : Resources → Names → Element → Resources
@@ -78,15 +80,21 @@ derive r p on = record r { tree = change_at r.tree p (λ e. record e { derived =
 abbrev pub move : Resources → Names → Names → Resources
 move r from to = record r { tree = put_all (without r.tree from) (carried from to (branch r.tree from)) }
 
+-- what is attached to an element, with this stamp for a project's description; without markers and synchronisation bytes
+abbrev pub stamped : ℕ → Element → Attachments
+stamped stamp e = record e.attached {
+  desc_stamp = if is_project e.kind then stamp else e.attached.desc_stamp;
+  marks = empty;
+  syncs = empty;
+}
+
 -- an element with this node, and with this stamp for its contents or its description; without markers and
 -- synchronisation bytes
 abbrev pub renumbered : ℕ → ℕ → Element → Element
 renumbered node stamp e = record e {
   node = node;
   stamp = if is_file e.kind then stamp else e.stamp;
-  desc_stamp = if is_project e.kind then stamp else e.desc_stamp;
-  marks = empty;
-  syncs = empty;
+  attached = stamped stamp e;
 }
 
 -- the elements with fresh numbers, drawn in their order
@@ -125,13 +133,13 @@ close_project r p = if is_shut r.tree p then r else record r {
 -- the text in its canonical form, with a fresh stamp
 abbrev pub describe : Resources → Names → List ℕ → Resources
 describe r p text = record r {
-  tree = change_at r.tree p (λ e. record e { desc = unwrap_or (canonical_of text) []; desc_stamp = r.next_stamp });
+  tree = change_at r.tree p (λ e. record e { attached = record e.attached { desc = unwrap_or (canonical_of text) []; desc_stamp = r.next_stamp } });
   next_stamp = r.next_stamp + 1;
 }
 
 -- the markers of what is at p are changed so
 abbrev pub change_marks : Tree → Names → (Marks → Marks) → Tree
-change_marks t p change = change_at t p (λ e. record e { marks = change e.marks })
+change_marks t p change = change_at t p (λ e. record e { attached = record e.attached { marks = change e.attached.marks } })
 
 -- a marker with the next id
 abbrev pub mark : Resources → Names → List ℕ → List (List ℕ × RawValue) → Resources
@@ -157,7 +165,7 @@ register r name = if is_partner r.partners name then r else record r { partners 
 
 -- the partner keeps these bytes at p, or none
 abbrev pub sync : Resources → Names → List ℕ → Option (List ℕ) → Resources
-sync r p name bytes = record r { tree = change_at r.tree p (λ e. record e { syncs = with_bytes e.syncs (number_of r.partners name) bytes }) }
+sync r p name bytes = record r { tree = change_at r.tree p (λ e. record e { attached = record e.attached { syncs = with_bytes e.attached.syncs (number_of r.partners name) bytes } }) }
 
 -- the partner's bytes at p and below it are gone, to the depth
 abbrev pub flush : Resources → Names → List ℕ → Depth → Resources

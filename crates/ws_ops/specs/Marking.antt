@@ -19,7 +19,7 @@ use Rattle.ws_ops.specs.Members.{put_all}
 -- a marker with this id is there
 abbrev pub has_marker : ℕ → Option Element → Bool
 has_marker id None = false
-has_marker id (Some e) = is_some (get e.marks id)
+has_marker id (Some e) = is_some (get e.attached.marks id)
 
 -- with one more marker
 abbrev pub with_marker : Marks → ℕ → List ℕ → List (List ℕ × RawValue) → Marks
@@ -36,11 +36,11 @@ with_attribute_of marks id name value = put_marker marks id (option_map (λ mark
 
 -- without the markers of this type
 abbrev pub unmarked : List ℕ → Element → Element
-unmarked mark_type e = record e { marks = retain_keys e.marks (λ id. not (has_type mark_type (get e.marks id))) }
+unmarked mark_type e = record e { attached = record e.attached { marks = retain_keys e.attached.marks (λ id. not (has_type mark_type (get e.attached.marks id))) } }
 
 -- how many markers of this type
 abbrev pub count_marks : List ℕ → Element → ℕ
-count_marks mark_type e = length (ids_of_type mark_type e.marks)
+count_marks mark_type e = length (ids_of_type mark_type e.attached.marks)
 
 -- without the markers with these ids
 abbrev pub removed : Marks → List ℕ → Marks
@@ -49,11 +49,11 @@ removed marks (id ∷ ids) = removed (remove marks id) ids
 
 -- without the bytes of the partner with this number
 abbrev pub unsynced : ℕ → Element → Element
-unsynced number e = record e { syncs = remove e.syncs number }
+unsynced number e = record e { attached = record e.attached { syncs = remove e.attached.syncs number } }
 
 -- 1 where that partner has bytes
 abbrev pub count_bytes : ℕ → Element → ℕ
-count_bytes number e = if is_some (get e.syncs number) then 1 else 0
+count_bytes number e = if is_some (get e.attached.syncs number) then 1 else 0
 
 -- ---- a resource and what is below it
 

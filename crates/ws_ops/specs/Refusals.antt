@@ -138,7 +138,7 @@ gets_too_long from to = list_any (λ e. nat_lt 4096 (length (path_text (rebased 
 -- why a project's description doesn't fit a project of this name
 abbrev pub description_cause : Option Element → List ℕ → Option OpRefusal
 description_cause None name = None
-description_cause (Some e) name = if is_project e.kind then option_map BadDescription (desc_cause name e.desc) else None
+description_cause (Some e) name = if is_project e.kind then option_map BadDescription (desc_cause name e.attached.desc) else None
 
 -- why what is at `from` can't come to stand at `to`, whatever is below it
 abbrev pub standing_causes : Tree → Names → Names → List (Option OpRefusal)

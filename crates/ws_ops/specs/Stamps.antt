@@ -16,9 +16,9 @@ SameContents a b = (p q : Names)
 pub record IsDrawn (r : Resources) (e : Element) : Type 0 where
   pub node : e.node < r.next_node
   pub stamp : e.stamp < r.next_stamp
-  pub desc_stamp : e.desc_stamp < r.next_stamp
-  pub marks : (id : ℕ) → IfSome (get e.marks id) (λ _. id < r.next_marker)
-  pub syncs : (number : ℕ) → IfSome (get e.syncs number) (λ _. number < length r.partners)
+  pub desc_stamp : e.attached.desc_stamp < r.next_stamp
+  pub marks : (id : ℕ) → IfSome (get e.attached.marks id) (λ _. id < r.next_marker)
+  pub syncs : (number : ℕ) → IfSome (get e.attached.syncs number) (λ _. number < length r.partners)
 
 -- so are those of all elements
 abbrev pub AllDrawn : Resources → Tree → Type 0

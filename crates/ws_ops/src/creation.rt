@@ -10,7 +10,7 @@ use crate::{NoMemory, Op, OpAnswer, OpError, Side};
 use bytes::Bytes;
 use res_path::Path;
 use std::alloc::Global;
-use ws_elem::{Element, Kind, TreeRep};
+use ws_elem::{Attached, Attachments, Element, Kind, TreeRep};
 
 /// The description of a project that nobody described.
 const EMPTY_DESCRIPTION: &[u8] = b"{\"commands\":[],\"references\":[]}";
@@ -57,7 +57,7 @@ pub fn create_project<T: TreeRep>(
 {
     check_project_path(path)?;
     check_creation(tree, side, path, 1)?;
-    let element = new_project(side);
+    let element = new_project(alloc, side)?;
     Ok(plan_creation(alloc, side, path, element, 1)?)
 }
 
@@ -72,14 +72,16 @@ pub fn new_file(side: &Side, bytes: &Bytes) -> Result<Element, NoMemory>
 }
 
 /// The element of a new project.
-fn new_project(side: &Side) -> Element
-    ensures { result ≡ new_project side.now.next_node side.now.next_stamp }
+fn new_project(alloc: Global, side: &Side) -> Result<Element, NoMemory>
+    ensures { IfOk result (λ element. element ≡ new_project side.now.next_node side.now.next_stamp) }
 {
+    let mut attachments = Attachments::none();
+    attachments.desc_stamp = side.next_stamp;
+    attachments.desc = Bytes::from_static(EMPTY_DESCRIPTION);
     let mut element = Element::bare(Kind::Project, side.next_node);
     element.opened = true;
-    element.desc_stamp = side.next_stamp;
-    element.desc = Bytes::from_static(EMPTY_DESCRIPTION);
-    element
+    element.attached = Attached::of(alloc, attachments)?;
+    Ok(element)
 }
 
 /// The plan that puts a new element at the path, and draws a node and so many stamps.

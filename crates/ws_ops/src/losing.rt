@@ -9,7 +9,7 @@ use crate::{Entries, NoMemory};
 use mark_set::{MarkSet, RawText};
 use res_path::Path;
 use std::alloc::{AllocError, Global};
-use ws_elem::Element;
+use ws_elem::{Attachments, Element};
 
 /// The elements are to lose their markers of this type. Gives how many markers go. Elements without such stay as they
 /// are.
@@ -78,13 +78,15 @@ fn unmark(
     ensures changes { OnOk result (changes.new ≡ changes.old
         ++ put (if count_marks mark_type.now element.now == 0 then [] else (path.now, unmarked mark_type.now element.now) ∷ [])) }
 {
-    let ids = element.marks.by_type(alloc, mark_type.text())?;
+    let nothing = Attachments::none();
+    let kept = element.attached.or(&nothing);
+    let ids = kept.marks.by_type(alloc, mark_type.text())?;
     if ids.len() == 0 {
         return Ok(0);
     }
-    let mut unmarked = element.copy()?;
-    remove_all(&mut unmarked.marks, ids.as_slice());
-    changes.put(path.copy()?, unmarked)?;
+    let mut attachments = kept.copy()?;
+    remove_all(&mut attachments.marks, ids.as_slice());
+    changes.put(path.copy()?, element.with_attachments(alloc, attachments)?)?;
     Ok(ids.len() as u64)
 }
 
@@ -119,11 +121,13 @@ fn unsync(
     ensures changes { OnOk result (changes.new ≡ changes.old
         ++ put (if count_bytes number element.now == 0 then [] else (path.now, unsynced number element.now) ∷ [])) }
 {
-    if element.syncs.get(number).is_none() {
+    let nothing = Attachments::none();
+    let kept = element.attached.or(&nothing);
+    if kept.syncs.get(number).is_none() {
         return Ok(0);
     }
-    let mut unsynced = element.copy()?;
-    unsynced.syncs.set(alloc, number, None)?;
-    changes.put(path.copy()?, unsynced)?;
+    let mut attachments = kept.copy()?;
+    attachments.syncs.set(alloc, number, None)?;
+    changes.put(path.copy()?, element.with_attachments(alloc, attachments)?)?;
     Ok(1)
 }

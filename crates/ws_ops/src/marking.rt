@@ -15,7 +15,7 @@ use crate::{NoMemory, Op, OpAnswer, OpError, OpRefusal, Side, losing, walk};
 use mark_set::{MarkError, RawAttrs, RawText, RawValue};
 use res_path::Path;
 use std::alloc::Global;
-use ws_elem::{Depth, Element, TreeRep};
+use ws_elem::{Attachments, Depth, Element, TreeRep};
 
 /// A marker with the next id, of this type and with these attributes.
 #[tactic(auto, using(crate::proofs::Effected::change_there))]
@@ -70,8 +70,9 @@ pub fn unmark<T: TreeRep>(
 {
     let there = there_open(tree, path)?;
     check_marker(there, id)?;
-    let mut unmarked = there.copy()?;
-    losing::remove(&mut unmarked.marks, id);
+    let mut attachments = there.attached.to_attachments()?;
+    losing::remove(&mut attachments.marks, id);
+    let unmarked = there.with_attachments(alloc, attachments)?;
     Ok(Plan::put(alloc, side, path, unmarked)?)
 }
 
@@ -108,7 +109,8 @@ pub fn there_open<'a, T: TreeRep>(tree: &'a T, path: &Path) -> Result<&'a Elemen
 fn check_marker(element: &Element, id: u64) -> Result<(), OpError>
     ensures { Judges (when (not (has_marker id (Some element.now))) (OpRefusal.MarkerUnknown id)) result }
 {
-    if element.marks.get(id).is_none() {
+    let nothing = Attachments::none();
+    if element.attached.or(&nothing).marks.get(id).is_none() {
         return Err(OpError::Refused(OpRefusal::MarkerUnknown(id)));
     }
     Ok(())
@@ -123,14 +125,14 @@ fn with_marker(
     attrs: &RawAttrs,
 ) -> Result<Element, OpError>
     ensures judged { Judges (option_map OpRefusal.BadValue (marker_cause mark_type.now attrs.now)) result }
-    ensures element { IfOk result (λ e. e ≡ record element.now { marks = with_marker element.now.marks id mark_type.now attrs.now }) }
+    ensures element { IfOk result (λ e. e ≡ record element.now { attached = record element.now.attached { marks = with_marker element.now.attached.marks id mark_type.now attrs.now } }) }
 {
-    let mut element = element.copy()?;
-    match element
+    let mut attachments = element.attached.to_attachments()?;
+    match attachments
         .marks
         .create(alloc, id, mark_type.text(), attrs.as_slice())
     {
-        Ok(()) => Ok(element),
+        Ok(()) => Ok(element.with_attachments(alloc, attachments)?),
         Err(MarkError::BadValue(cause)) => Err(OpError::Refused(OpRefusal::BadValue(cause))),
         Err(MarkError::Memory) => Err(OpError::Memory),
         Err(MarkError::MarkerUnknown) => unreachable!(),
@@ -148,12 +150,12 @@ fn with_attribute(
 ) -> Result<Element, OpError>
     requires { has_marker id (Some element.now) ≡ true }
     ensures judged { Judges (option_map OpRefusal.BadValue (change_cause name.now value.now)) result }
-    ensures element { IfOk result (λ e. e ≡ record element.now { marks = with_attribute_of element.now.marks id name.now value.now }) }
+    ensures element { IfOk result (λ e. e ≡ record element.now { attached = record element.now.attached { marks = with_attribute_of element.now.attached.marks id name.now value.now } }) }
 {
-    let mut element = element.copy()?;
+    let mut attachments = element.attached.to_attachments()?;
     let value = copied(value)?;
-    match element.marks.set(alloc, id, name.text(), value) {
-        Ok(()) => Ok(element),
+    match attachments.marks.set(alloc, id, name.text(), value) {
+        Ok(()) => Ok(element.with_attachments(alloc, attachments)?),
         Err(MarkError::BadValue(cause)) => Err(OpError::Refused(OpRefusal::BadValue(cause))),
         Err(MarkError::Memory) => Err(OpError::Memory),
         Err(MarkError::MarkerUnknown) => unreachable!(),

@@ -106,12 +106,13 @@ fn put_marker(alloc: Global, text: &mut String, marker: &Marker) -> Result<(), F
 
 /// Adds the element's markers, and the partners' bytes by their numbers.
 pub fn put_notes(alloc: Global, text: &mut String, element: &Element) -> Result<(), Fail> {
-    for id in &element.marks.ids(alloc)? {
-        if let Some(marker) = element.marks.get(*id) {
+    let attachments = element.attached.to_attachments()?;
+    for id in &attachments.marks.ids(alloc)? {
+        if let Some(marker) = attachments.marks.get(*id) {
             put_marker(alloc, text, marker)?;
         }
     }
-    for (partner, bytes) in element.syncs.iter() {
+    for (partner, bytes) in attachments.syncs.iter() {
         let shown = format!(in alloc; " @{partner} {}", str::from_utf8(bytes.as_slice())?)?;
         text.push_str(shown.as_str())?;
     }

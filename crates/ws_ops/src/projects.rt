@@ -65,9 +65,10 @@ pub fn describe<T: TreeRep>(
     check_open(tree, path)?;
     let canonical = canonical(alloc, path, text)?;
     check_stamp(side)?;
-    let mut element = project.copy()?;
-    element.desc = canonical;
-    element.desc_stamp = side.next_stamp;
+    let mut attachments = project.attached.to_attachments()?;
+    attachments.desc = canonical;
+    attachments.desc_stamp = side.next_stamp;
+    let element = project.with_attachments(alloc, attachments)?;
     let mut plan = Plan::put(alloc, side, path, element)?;
     plan.next_stamp += 1;
     Ok(plan)

@@ -53,8 +53,9 @@ pub fn sync<T: TreeRep>(
     check_not_root(path)?;
     let element = there_open(tree, path)?;
     let number = number_of(&side.partners, name)?;
-    let mut synced = element.copy()?;
-    synced.syncs.set(alloc, number, bytes.clone()?)?;
+    let mut attachments = element.attached.to_attachments()?;
+    attachments.syncs.set(alloc, number, bytes.clone()?)?;
+    let synced = element.with_attachments(alloc, attachments)?;
     Ok(Plan::put(alloc, side, path, synced)?)
 }
 

@@ -98,9 +98,10 @@ fn put_element(
     element: &Element,
 ) -> Result<(), Fail> {
     let kind = element.kind;
+    let attachments = element.attached.to_attachments()?;
     let numbers = format!(in alloc;
         "{path} {kind} {} {} {}",
-        element.node, element.stamp, element.desc_stamp
+        element.node, element.stamp, attachments.desc_stamp
     )?;
     text.push_str(numbers.as_str())?;
     if element.opened {
@@ -109,10 +110,10 @@ fn put_element(
     if element.derived {
         text.push_str(" derived")?;
     }
-    if element.desc.as_slice() == PLAIN.as_bytes() {
+    if attachments.desc.as_slice() == PLAIN.as_bytes() {
         text.push_str(" plain")?;
     } else {
-        put_bytes(text, element.desc.as_slice())?;
+        put_bytes(text, attachments.desc.as_slice())?;
     }
     put_bytes(text, element.bytes.as_slice())?;
     put_notes(alloc, text, element)

@@ -4,7 +4,7 @@ ghost use Rattle.std.specs.Bool.{beq};
 ghost use Rattle.std.specs.FinMap.{get};
 ghost use Rattle.std.specs.List.{list_all};
 ghost use Rattle.res_path.specs.Paths.{is_prefix, path_text};
-ghost use Rattle.ws_ops.specs.Effects.{copies, renumbered};
+ghost use Rattle.ws_ops.specs.Effects.{copies, renumbered, stamped};
 ghost use Rattle.ws_ops.specs.Judging.{Judges, IfRefused};
 ghost use Rattle.ws_ops.specs.Members.{branch, carried, rebased};
 ghost use Rattle.ws_ops.specs.Numbers.{has_stamp, stamps_of, stamps_of_all};
@@ -19,7 +19,7 @@ use crate::{Entries, NoMemory, Op, OpError, OpRefusal, Side, walk};
 use proj_desc::Desc;
 use res_path::{Path, PathError};
 use std::alloc::Global;
-use ws_elem::{Element, TreeRep};
+use ws_elem::{Attached, Attachments, Element, TreeRep};
 
 /// The elements at or below a path, and the same at their places below another.
 struct Relocation {
@@ -257,7 +257,7 @@ fn copies(
     let mut stamp = stamp;
     let mut rest = entries;
     while let Some((entry, others)) = rest.split_first() {
-        let element = renumbered(&entry.1, node, stamp)?;
+        let element = renumbered(alloc, &entry.1, node, stamp)?;
         copies.push(entry.0.copy()?, element)?;
         node += 1;
         stamp = stamp_after(stamp, &entry.1);
@@ -276,7 +276,12 @@ fn stamp_after(stamp: u64, element: &Element) -> u64
 
 /// The element with this node, and with this stamp for its contents or its description, without markers and
 /// synchronisation bytes.
-fn renumbered(element: &Element, node: u64, stamp: u64) -> Result<Element, NoMemory>
+fn renumbered(
+    alloc: Global,
+    element: &Element,
+    node: u64,
+    stamp: u64,
+) -> Result<Element, NoMemory>
     ensures { IfOk result (λ e. e ≡ renumbered node stamp element.now) }
 {
     Ok(Element {
@@ -287,15 +292,28 @@ fn renumbered(element: &Element, node: u64, stamp: u64) -> Result<Element, NoMem
         } else {
             element.stamp
         },
+        bytes: element.bytes.clone()?,
+        attached: stamped(alloc, element, stamp)?,
+        ..Element::bare(element.kind, node)
+    })
+}
+
+/// What is attached to the element, with this stamp for a project's description, without markers and synchronisation
+/// bytes.
+fn stamped(alloc: Global, element: &Element, stamp: u64) -> Result<Attached, NoMemory>
+    ensures { IfOk result (λ attached. attached ≡ stamped stamp element.now) }
+{
+    let kept = element.attached.to_attachments()?;
+    let stamped = Attachments {
         desc_stamp: if element.kind.is_project() {
             stamp
         } else {
-            element.desc_stamp
+            kept.desc_stamp
         },
-        desc: element.desc.clone()?,
-        bytes: element.bytes.clone()?,
-        ..Element::bare(element.kind, node)
-    })
+        desc: kept.desc,
+        ..Attachments::none()
+    };
+    Attached::of(alloc, stamped)
 }
 
 /// Refused where the element is a project whose description doesn't fit a project of the name that `to` has.
@@ -307,7 +325,9 @@ fn check_description(alloc: Global, element: &Element, to: &Path) -> Result<(), 
         return Ok(());
     }
     let name = name_of(alloc, to)?;
-    match Desc::check(alloc, &name, element.desc.as_slice())? {
+    let nothing = Attachments::none();
+    let attachments = element.attached.or(&nothing);
+    match Desc::check(alloc, &name, attachments.desc.as_slice())? {
         None => Ok(()),
         Some(cause) => Err(OpError::Refused(OpRefusal::BadDescription(cause))),
     }
