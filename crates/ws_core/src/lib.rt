@@ -1,7 +1,8 @@
 //! The workspace's core: what an event of a pass does, and the history of what was done.
 //!
 //! - `event`: an `Event`, what a pass may ask.
-//! - `reply`: a `Reply`, what it is answered: an `Answer`, maybe a `Refusal`, and the notice.
+//! - `reply`: a `Reply`, what it is answered: an `Answer`, maybe a `Refusal`, and a `Notice`.
+//! - `notice`: a `Notice`, what an event tells.
 //! - `history`: an `Entry`, one event with its reply, and a `History`, entries in order.
 //! - `numbers`: `Numbers`, passes by their numbers.
 //! - `state`: a `State`, what there is at one moment.
@@ -19,6 +20,7 @@ mod admitting;
 mod arranging;
 mod event;
 mod history;
+mod notice;
 mod numbers;
 mod operating;
 mod operation_rules;
@@ -33,6 +35,7 @@ mod waiting;
 
 pub use event::Event;
 pub use history::{Entry, History};
+pub use notice::Notice;
 pub use numbers::Numbers;
 pub use operation_rules::operation_rule;
 pub use reply::{Answer, Refusal, Reply};

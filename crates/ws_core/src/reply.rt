@@ -3,8 +3,7 @@ ghost use Rattle.std.specs.Prelude.{◌≡◌};
 ghost use Rattle.ws_core.specs.Refusals.{refusal_number};
 ghost use Rattle.ws_core.specs.Operations.{answered};
 
-use crate::WsRule;
-use delta_kind::Delta;
+use crate::{Notice, WsRule};
 use res_path::Name;
 use ws_ops::{Entries, OpAnswer, OpRefusal, Partners};
 
@@ -88,5 +87,5 @@ impl Answer {
 #[derive(Debug, Drop)]
 pub struct Reply {
     pub answer: Answer,
-    pub notice: Option<Delta>,
+    pub notice: Notice,
 }

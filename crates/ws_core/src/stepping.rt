@@ -13,8 +13,7 @@ ghost use Rattle.ws_core.specs.Steps.{act_admitted, step, tell, tells, told, not
 use crate::arranging::is_spent;
 use crate::operating::{operate, operate_and_tell, refusal_of};
 use crate::telling::notice_between;
-use crate::{Answer, Event, NoMemory, Refusal, Reply, State};
-use delta_kind::Delta;
+use crate::{Answer, Event, NoMemory, Notice, Refusal, Reply, State};
 use std::alloc::Global;
 use tree_flat::FlatTree;
 use ws_elem::ElemMap;
@@ -53,7 +52,7 @@ impl State {
         }
         Ok(Reply {
             answer,
-            notice: None,
+            notice: Notice::none(),
         })
     }
 
@@ -127,7 +126,7 @@ impl State {
         let answer = self.act(alloc, pass, event)?;
         Ok(Reply {
             answer,
-            notice: None,
+            notice: Notice::none(),
         })
     }
 
@@ -280,11 +279,11 @@ impl State {
     }
 
     /// What changed since the tree was last told, where anything did.
-    fn notice(&self, alloc: Global) -> Result<Option<Delta>, NoMemory>
+    fn notice(&self, alloc: Global) -> Result<Notice, NoMemory>
         ensures { IfOk result (λ n. n ≡ notice self.now) }
     {
         if self.unchanged {
-            return Ok(None);
+            return Ok(Notice::none());
         }
         notice_between(alloc, &self.told, self.tree.map())
     }

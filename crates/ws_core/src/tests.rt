@@ -272,7 +272,7 @@ fn put_nodes(alloc: Global, text: &mut String, nodes: &[DeltaNode]) -> Result<()
 /// The answer, and then each node that is told.
 fn reply_text(alloc: Global, reply: &Reply) -> Result<String, Fail> {
     let mut text = answer_text(alloc, &reply.answer)?;
-    if let Some(delta) = &reply.notice {
+    if let Some(delta) = reply.notice.delta() {
         put_nodes(alloc, &mut text, delta.nodes())?;
     }
     Ok(text)
