@@ -3,6 +3,7 @@
 //! - `event`: an `Event`, what a pass may ask.
 //! - `reply`: a `Reply`, what it is answered: an `Answer`, maybe a `Refusal`, and a `Notice`.
 //! - `notice`: a `Notice`, what an event tells.
+//! - `apart`: an `Apart`, a value that is kept apart from what holds it.
 //! - `history`: an `Entry`, one event with its reply, and a `History`, entries in order.
 //! - `numbers`: `Numbers`, passes by their numbers.
 //! - `state`: a `State`, what there is at one moment.
@@ -17,6 +18,7 @@
 #![tactic(auto)]
 
 mod admitting;
+mod apart;
 mod arranging;
 mod event;
 mod history;
@@ -33,6 +35,7 @@ mod telling;
 mod tests;
 mod waiting;
 
+pub use apart::Apart;
 pub use event::Event;
 pub use history::{Entry, History};
 pub use notice::Notice;

@@ -237,10 +237,10 @@ fn answer_text(alloc: Global, answer: &Answer) -> Result<String, Fail> {
         Answer::Done => Ok(String::from_str(alloc, "done")?),
         Answer::Id(id) => Ok(format!(in alloc; "id {id}")?),
         Answer::None => Ok(String::from_str(alloc, "none")?),
-        Answer::Job(name) => Ok(format!(in alloc; "job {name}")?),
+        Answer::Job(name) => Ok(format!(in alloc; "job {}", name.value())?),
         Answer::Count(count) => Ok(format!(in alloc; "count {count}")?),
-        Answer::Seen(entries, _) => seen_text(alloc, entries),
-        Answer::Refused(refusal) => refusal_text(alloc, refusal),
+        Answer::Seen(seen) => seen_text(alloc, &seen.value().0),
+        Answer::Refused(refusal) => refusal_text(alloc, refusal.value()),
     }
 }
 
