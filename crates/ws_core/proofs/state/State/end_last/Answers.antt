@@ -1,5 +1,4 @@
-use Rattle.std.proofs.Common.{◌≡◌, List, ap, sym, ◌∙◌, subst, OnOk, IfErr}
-use Rattle.sched_rules.specs.declared.ws_atom.WsAtom.{WsAtom}
+use Rattle.std.proofs.Common.{◌≡◌, ap, sym, ◌∙◌, subst, OnOk, IfErr}
 use Rattle.ws_ops.specs.Resources.{resources}
 use Rattle.rule_table.specs.Tables.{last_rule}
 use Rattle.rule_table.specs.Refusals.{RefusesEnd}
