@@ -18,7 +18,7 @@ abbrev pub answered : OpAnswer → Answer
 answered op_answers.Done = answers.Done
 answered (op_answers.Id id) = answers.Id id
 answered (op_answers.Count count) = answers.Count count
-answered (op_answers.Seen entries partners) = answers.Seen entries partners
+answered (op_answers.Seen entries partners) = answers.Seen (entries, partners)
 
 -- a refused operation changes nothing
 abbrev pub operated_by : Option OpRefusal → Resources → Op → Resources × Answer

@@ -1,5 +1,5 @@
 //! What the rules of the passes admit, and what they keep out.
-ghost use Rattle.std.specs.Prelude.{◌≡◌, false, None as nothing, IfOk, OnOk, OnErr};
+ghost use Rattle.std.specs.Prelude.{◌≡◌, false, None as nothing, IfOk, IfErr, OnOk, OnErr};
 ghost use Rattle.std.specs.Option.{option_map_or};
 ghost use Rattle.sched_rules.specs.Atoms.{atom_contains};
 ghost use Rattle.sched_rules.specs.Rules.{rule_contains};
@@ -100,15 +100,33 @@ impl State {
     }
 
     /// The rule that the pass began last is over, where it is this one. Otherwise that is refused.
-    pub(crate) fn end(&mut self, pass: u64, rule: &WsRule) -> Answer
-        ensures state { self.new ≡ (act_admitted self.old pass (End rule.now)).0 }
-        ensures answer { result ≡ (act_admitted self.old pass (End rule.now)).1 }
+    pub(crate) fn end(
+        &mut self,
+        alloc: Global,
+        pass: u64,
+        rule: &WsRule,
+    ) -> Result<Answer, NoMemory>
+        ensures state { OnOk result (self.new ≡ (act_admitted self.old pass (End rule.now)).0) }
+        ensures answer { IfOk result (λ answer. answer ≡ (act_admitted self.old pass (End rule.now)).1) }
+        ensures err { OnErr result (self.new ≡ self.old) }
+    {
+        match self.end_last(pass, rule) {
+            Ok(()) => Ok(Answer::Done),
+            Err(refusal) => Answer::refused(alloc, refusal),
+        }
+    }
+
+    /// The same, with why it is refused. It takes no memory.
+    fn end_last(&mut self, pass: u64, rule: &WsRule) -> Result<(), Refusal>
+        ensures ok { OnOk result (act_admitted self.old pass (End rule.now) ≡ (self.new, Answer.Done)) }
+        ensures refused { IfErr result (λ r. act_admitted self.old pass (End rule.now) ≡ (self.old, Answer.Refused r)) }
+        ensures same { OnErr result (self.new ≡ self.old) }
     {
         match self.rules.end(pass, rule) {
-            Ok(()) => Answer::Done,
-            Err(EndError::NotLast { held }) => Answer::Refused(Refusal::NotLast(held)),
-            Err(EndError::HoldsNothing) => Answer::Refused(Refusal::HoldsNothing),
-            Err(EndError::TargetHolds) => Answer::Refused(Refusal::HoldsNothing),
+            Ok(()) => Ok(()),
+            Err(EndError::NotLast { held }) => Err(Refusal::NotLast(held)),
+            Err(EndError::HoldsNothing) => Err(Refusal::HoldsNothing),
+            Err(EndError::TargetHolds) => Err(Refusal::HoldsNothing),
         }
     }
 }

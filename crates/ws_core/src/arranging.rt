@@ -3,8 +3,9 @@ ghost use Rattle.std.specs.Prelude.{◌≡◌, false, if◌then◌else◌, IfOk,
 ghost use Rattle.ws_ops.specs.Refusals.{is_spent};
 ghost use Rattle.ws_core.specs.Effects.{enter, leave, schedule, begin, may_run, take, finish};
 
-use crate::{Answer, NoMemory, State, Waiting, WsRule};
+use crate::{Answer, Apart, NoMemory, State, Waiting, WsRule};
 use res_path::Name;
+use std::alloc::Global;
 
 /// The most that a counter may be.
 const MAX_NUMBER: u64 = (1 << 63) - 1;
@@ -32,12 +33,17 @@ impl State {
     }
 
     /// The job waits.
-    pub(crate) fn schedule(&mut self, name: &Name, rule: &WsRule) -> Result<(), NoMemory>
+    pub(crate) fn schedule(
+        &mut self,
+        alloc: Global,
+        name: &Name,
+        rule: &WsRule,
+    ) -> Result<(), NoMemory>
         ensures ok { OnOk result (self.new ≡ schedule self.old name.now rule.now) }
         ensures err { OnErr result (self.new ≡ self.old) }
     {
         self.waiting = Some(Waiting {
-            name: name.copy()?,
+            name: Apart::of(alloc, name.copy()?)?,
             rule: rule.copy()?,
         });
         Ok(())

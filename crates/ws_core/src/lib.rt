@@ -1,7 +1,9 @@
 //! The workspace's core: what an event of a pass does, and the history of what was done.
 //!
 //! - `event`: an `Event`, what a pass may ask.
-//! - `reply`: a `Reply`, what it is answered: an `Answer`, maybe a `Refusal`, and the notice.
+//! - `reply`: a `Reply`, what it is answered: an `Answer`, maybe a `Refusal`, and a `Notice`.
+//! - `notice`: a `Notice`, what an event tells.
+//! - `apart`: an `Apart`, a value that is kept apart from what holds it.
 //! - `history`: an `Entry`, one event with its reply, and a `History`, entries in order.
 //! - `numbers`: `Numbers`, passes by their numbers.
 //! - `state`: a `State`, what there is at one moment.
@@ -16,9 +18,11 @@
 #![tactic(auto)]
 
 mod admitting;
+mod apart;
 mod arranging;
 mod event;
 mod history;
+mod notice;
 mod numbers;
 mod operating;
 mod operation_rules;
@@ -31,8 +35,10 @@ mod telling;
 mod tests;
 mod waiting;
 
+pub use apart::Apart;
 pub use event::Event;
 pub use history::{Entry, History};
+pub use notice::Notice;
 pub use numbers::Numbers;
 pub use operation_rules::operation_rule;
 pub use reply::{Answer, Refusal, Reply};

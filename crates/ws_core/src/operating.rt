@@ -10,11 +10,11 @@ ghost use Rattle.ws_core.specs.Operations.{answered, operated};
 ghost use Rattle.ws_core.specs.Steps.{some_nodes};
 
 use crate::telling::notice_between;
-use crate::{Answer, NoMemory, Reply};
+use crate::{Answer, NoMemory, Refusal, Reply};
 use std::alloc::{AllocError, Global};
 use tree_flat::FlatTree;
 use ws_elem::{ElemMap, TreeRep};
-use ws_ops::{Applied, Op, OpError, OpRefusal, Side, apply, take_back};
+use ws_ops::{Applied, Op, OpAnswer, OpError, OpRefusal, Side, apply, take_back};
 
 /// Why the operation is refused, if it is. It is tried, and taken back: nothing has changed.
 pub fn refusal_of(
@@ -62,11 +62,46 @@ pub fn operate(
     ensures err { OnErr result (resources tree.new.map side.new ≡ resources tree.old.map side.old) }
 {
     let outcome = apply(alloc, tree, side, op);
-    drop_room(tree, side);
     match outcome {
-        Ok(Applied { answer, back: _ }) => Ok(Answer::of(answer)),
-        Err(OpError::Refused(refusal)) => Ok(Answer::refused(refusal)),
-        Err(OpError::Memory) => Err(AllocError),
+        Ok(done) => answer_done(alloc, tree, side, done),
+        Err(OpError::Refused(refusal)) => {
+            drop_room(tree, side);
+            Answer::refused(alloc, Refusal::Operation(refusal))
+        }
+        Err(OpError::Memory) => {
+            drop_room(tree, side);
+            Err(AllocError)
+        }
+    }
+}
+
+/// Answers what was done. Where memory wants, that is taken back.
+fn answer_done(
+    alloc: Global,
+    tree: &mut FlatTree,
+    side: &mut Side,
+    done: Applied,
+) -> Result<Answer, NoMemory>
+    requires tree { HasRooms tree.old.room done.back.tree }
+    requires shelf { HasRooms side.old.shelf.room done.back.shelf }
+    ensures resources { OnOk result (resources tree.new.map side.new ≡ resources tree.old.map side.old) }
+    ensures answer { IfOk result (λ answer. answer ≡ answered done.answer) }
+    ensures err { OnErr result (resources tree.new.map side.new ≡ taken_back (resources tree.old.map side.old) done.back) }
+{
+    let Applied {
+        answer,
+        back: way_back,
+    } = done;
+    match Answer::of(alloc, answer) {
+        Ok(answer) => {
+            drop_room(tree, side);
+            Ok(answer)
+        }
+        Err(error) => {
+            take_back(tree, side, way_back);
+            drop_room(tree, side);
+            Err(error)
+        }
     }
 }
 
@@ -90,11 +125,7 @@ pub fn operate_and_tell(
         Ok(done) => tell_done(alloc, tree, side, told, done),
         Err(OpError::Refused(refusal)) => {
             drop_room(tree, side);
-            let notice = notice_between(alloc, told, tree.map())?;
-            Ok(Reply {
-                answer: Answer::refused(refusal),
-                notice,
-            })
+            refusal_told(alloc, told, tree.map(), refusal)
         }
         Err(OpError::Memory) => {
             drop_room(tree, side);
@@ -120,13 +151,10 @@ fn tell_done(
     ensures err { OnErr result (resources tree.new.map side.new ≡ taken_back (resources tree.old.map side.old) done.back) }
 {
     let Applied { answer, back } = done;
-    match notice_between(alloc, told, tree.map()) {
-        Ok(notice) => {
+    match answer_told(alloc, told, tree.map(), answer) {
+        Ok(reply) => {
             drop_room(tree, side);
-            Ok(Reply {
-                answer: Answer::of(answer),
-                notice,
-            })
+            Ok(reply)
         }
         Err(error) => {
             take_back(tree, side, back);
@@ -134,6 +162,36 @@ fn tell_done(
             Err(error)
         }
     }
+}
+
+/// What an operation that is done is answered, and what changed from one tree to another.
+fn answer_told(
+    alloc: Global,
+    before: &ElemMap,
+    after: &ElemMap,
+    answer: OpAnswer,
+) -> Result<Reply, NoMemory>
+    ensures answer { IfOk result (λ reply. reply.answer ≡ answered answer) }
+    ensures notice { IfOk result (λ reply. reply.notice ≡ some_nodes (delta before.now.map after.now.map)) }
+{
+    let answer = Answer::of(alloc, answer)?;
+    let notice = notice_between(alloc, before, after)?;
+    Ok(Reply { answer, notice })
+}
+
+/// What an operation that is refused is answered, and what changed from one tree to another.
+fn refusal_told(
+    alloc: Global,
+    before: &ElemMap,
+    after: &ElemMap,
+    refusal: OpRefusal,
+) -> Result<Reply, NoMemory>
+    ensures answer { IfOk result (λ reply. reply.answer ≡ Answer.Refused (Refusal.Operation refusal)) }
+    ensures notice { IfOk result (λ reply. reply.notice ≡ some_nodes (delta before.now.map after.now.map)) }
+{
+    let answer = Answer::refused(alloc, Refusal::Operation(refusal))?;
+    let notice = notice_between(alloc, before, after)?;
+    Ok(Reply { answer, notice })
 }
 
 /// Takes all room away, of which only the last operation has made any. Costs what that operation changed.

@@ -1,11 +1,11 @@
 //! What an event is answered.
-ghost use Rattle.std.specs.Prelude.{◌≡◌};
+ghost use Rattle.std.specs.Prelude.{◌≡◌, IfOk};
 ghost use Rattle.ws_core.specs.Refusals.{refusal_number};
 ghost use Rattle.ws_core.specs.Operations.{answered};
 
-use crate::WsRule;
-use delta_kind::Delta;
+use crate::{Apart, NoMemory, Notice, WsRule};
 use res_path::Name;
+use std::alloc::Global;
 use ws_ops::{Entries, OpAnswer, OpRefusal, Partners};
 
 /// Why an event is refused. A refused event changes nothing.
@@ -46,7 +46,7 @@ impl Refusal {
     }
 }
 
-/// What an event is answered.
+/// What an event is answered. What few answers have is kept apart, so that each answer is small.
 #[derive(Clone, Debug, Drop)]
 pub enum Answer {
     Done,
@@ -57,30 +57,39 @@ pub enum Answer {
     /// No job waits.
     None,
     /// The job that is to be run.
-    Job(Name),
+    Job(Apart<Name>),
     /// What was read: elements with their paths, and the names of the synchronisation partners by their numbers.
-    Seen(Entries, Partners),
-    Refused(Refusal),
+    Seen(Apart<(Entries, Partners)>),
+    Refused(Apart<Refusal>),
 }
 
 impl Answer {
-    /// The answer to an operation that is done.
-    pub(crate) fn of(answer: OpAnswer) -> Answer
-        ensures { result ≡ answered answer }
+    /// The answer to an operation that is done. Only what was read takes memory.
+    pub(crate) fn of(alloc: Global, answer: OpAnswer) -> Result<Answer, NoMemory>
+        ensures { IfOk result (λ a. a ≡ answered answer) }
     {
         match answer {
-            OpAnswer::Done => Answer::Done,
-            OpAnswer::Id(id) => Answer::Id(id),
-            OpAnswer::Count(count) => Answer::Count(count),
-            OpAnswer::Seen(entries, partners) => Answer::Seen(entries, partners),
+            OpAnswer::Done => Ok(Answer::Done),
+            OpAnswer::Id(id) => Ok(Answer::Id(id)),
+            OpAnswer::Count(count) => Ok(Answer::Count(count)),
+            OpAnswer::Seen(entries, partners) => Answer::seen(alloc, entries, partners),
         }
     }
 
-    /// The answer to an operation that is refused.
-    pub(crate) fn refused(refusal: OpRefusal) -> Answer
-        ensures { result ≡ Answer.Refused (Refusal.Operation refusal) }
+    /// The answer to an operation that read this.
+    fn seen(alloc: Global, entries: Entries, partners: Partners) -> Result<Answer, NoMemory>
+        ensures { IfOk result (λ a. a ≡ Answer.Seen (entries, partners)) }
     {
-        Answer::Refused(Refusal::Operation(refusal))
+        let seen = Apart::of(alloc, (entries, partners))?;
+        Ok(Answer::Seen(seen))
+    }
+
+    /// The answer to an event that is refused.
+    pub(crate) fn refused(alloc: Global, refusal: Refusal) -> Result<Answer, NoMemory>
+        ensures { IfOk result (λ a. a ≡ Answer.Refused refusal) }
+    {
+        let refusal = Apart::of(alloc, refusal)?;
+        Ok(Answer::Refused(refusal))
     }
 }
 
@@ -88,5 +97,5 @@ impl Answer {
 #[derive(Debug, Drop)]
 pub struct Reply {
     pub answer: Answer,
-    pub notice: Option<Delta>,
+    pub notice: Notice,
 }

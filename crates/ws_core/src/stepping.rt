@@ -13,8 +13,7 @@ ghost use Rattle.ws_core.specs.Steps.{act_admitted, step, tell, tells, told, not
 use crate::arranging::is_spent;
 use crate::operating::{operate, operate_and_tell, refusal_of};
 use crate::telling::notice_between;
-use crate::{Answer, Event, NoMemory, Refusal, Reply, State};
-use delta_kind::Delta;
+use crate::{Answer, Event, NoMemory, Notice, Refusal, Reply, State};
 use std::alloc::Global;
 use tree_flat::FlatTree;
 use ws_elem::ElemMap;
@@ -47,13 +46,13 @@ impl State {
         ensures reply { IfOk result (λ reply. reply ≡ (tell event.now (self.old, Refused refusal)).1) }
         ensures err { OnErr result (self.new ≡ self.old) }
     {
-        let answer = Answer::Refused(refusal);
+        let answer = Answer::refused(alloc, refusal)?;
         if self.is_told(event) {
             return self.tell(alloc, answer);
         }
         Ok(Reply {
             answer,
-            notice: None,
+            notice: Notice::none(),
         })
     }
 
@@ -127,7 +126,7 @@ impl State {
         let answer = self.act(alloc, pass, event)?;
         Ok(Reply {
             answer,
-            notice: None,
+            notice: Notice::none(),
         })
     }
 
@@ -156,18 +155,18 @@ impl State {
     {
         match event {
             Event::Enter if is_spent(self.next_pass) => {
-                return Ok(Answer::Refused(Refusal::NumbersUsed));
+                return Answer::refused(alloc, Refusal::NumbersUsed);
             }
             Event::Enter => return self.enter(),
             Event::Leave => self.leave(pass),
-            Event::Schedule(name, _, rule) => self.schedule(name, rule)?,
+            Event::Schedule(name, _, rule) => self.schedule(alloc, name, rule)?,
             Event::Take => return self.take_job(pass),
             Event::Finish => self.finish(pass),
             Event::Begin(rule) | Event::TryBegin(rule) => self.begin(pass, rule)?,
-            Event::End(rule) => return Ok(self.end(pass, rule)),
+            Event::End(rule) => return self.end(alloc, pass, rule),
             Event::Batch => self.batches.push(pass)?,
             Event::EndBatch if !self.batches.contains(pass) => {
-                return Ok(Answer::Refused(Refusal::NoBatch));
+                return Answer::refused(alloc, Refusal::NoBatch);
             }
             Event::EndBatch => self.batches.remove_newest(pass),
             Event::Checkpoint => {}
@@ -195,7 +194,7 @@ impl State {
         ensures err { OnErr result (self.new ≡ self.old) }
     {
         match self.first_refusal(alloc, op)? {
-            Some(refusal) => Ok(Answer::refused(refusal)),
+            Some(refusal) => Answer::refused(alloc, Refusal::Operation(refusal)),
             None => self.change_kept(alloc, op),
         }
     }
@@ -233,7 +232,10 @@ impl State {
         ensures err { OnErr result (self.new ≡ self.old) }
     {
         match self.first_refusal(alloc, op)? {
-            Some(refusal) => self.tell(alloc, Answer::refused(refusal)),
+            Some(refusal) => {
+                let answer = Answer::refused(alloc, Refusal::Operation(refusal))?;
+                self.tell(alloc, answer)
+            }
             None => self.change_kept_and_tell(alloc, op),
         }
     }
@@ -280,11 +282,11 @@ impl State {
     }
 
     /// What changed since the tree was last told, where anything did.
-    fn notice(&self, alloc: Global) -> Result<Option<Delta>, NoMemory>
+    fn notice(&self, alloc: Global) -> Result<Notice, NoMemory>
         ensures { IfOk result (λ n. n ≡ notice self.now) }
     {
         if self.unchanged {
-            return Ok(None);
+            return Ok(Notice::none());
         }
         notice_between(alloc, &self.told, self.tree.map())
     }

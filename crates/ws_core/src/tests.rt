@@ -237,10 +237,10 @@ fn answer_text(alloc: Global, answer: &Answer) -> Result<String, Fail> {
         Answer::Done => Ok(String::from_str(alloc, "done")?),
         Answer::Id(id) => Ok(format!(in alloc; "id {id}")?),
         Answer::None => Ok(String::from_str(alloc, "none")?),
-        Answer::Job(name) => Ok(format!(in alloc; "job {name}")?),
+        Answer::Job(name) => Ok(format!(in alloc; "job {}", name.value())?),
         Answer::Count(count) => Ok(format!(in alloc; "count {count}")?),
-        Answer::Seen(entries, _) => seen_text(alloc, entries),
-        Answer::Refused(refusal) => refusal_text(alloc, refusal),
+        Answer::Seen(seen) => seen_text(alloc, &seen.value().0),
+        Answer::Refused(refusal) => refusal_text(alloc, refusal.value()),
     }
 }
 
@@ -272,7 +272,7 @@ fn put_nodes(alloc: Global, text: &mut String, nodes: &[DeltaNode]) -> Result<()
 /// The answer, and then each node that is told.
 fn reply_text(alloc: Global, reply: &Reply) -> Result<String, Fail> {
     let mut text = answer_text(alloc, &reply.answer)?;
-    if let Some(delta) = &reply.notice {
+    if let Some(delta) = reply.notice.delta() {
         put_nodes(alloc, &mut text, delta.nodes())?;
     }
     Ok(text)

@@ -1,13 +1,14 @@
 //! The job that waits.
 ghost use Rattle.std.specs.Prelude.{◌≡◌, IfOk};
 
-use crate::{NoMemory, WsRule};
+use crate::{Apart, NoMemory, WsRule};
 use res_path::Name;
 
 /// A job that waits to be run.
 #[derive(Clone, Debug, Drop)]
 pub struct Waiting {
-    pub name: Name,
+    /// Kept apart, as the answer to who takes the job has it.
+    pub name: Apart<Name>,
     /// What it is to have to itself while it runs.
     pub rule: WsRule,
 }

@@ -117,7 +117,7 @@ answer_text event (Id n) = codes "id " ++ decimal n
 answer_text event (Count n) = codes "count " ++ decimal n
 answer_text event answers.None = codes "none"
 answer_text event (Job name) = word_text name
-answer_text event (Seen es partners) = seen_text event es partners
+answer_text event (Seen seen) = seen_text event seen.0 seen.1
 answer_text event (Refused refusal) = codes "refused " ++ refusal_text refusal
 
 -- the pass, what it asked, and what it was answered

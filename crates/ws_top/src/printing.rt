@@ -146,7 +146,7 @@ fn print_shown<K: Sink>(sink: &mut K, out: &mut Vec<u8>, entry: &Entry) -> Resul
     ensures calm { OnOk result (K.faults sink.new ≡ K.faults sink.old) }
 {
     match print_line(sink, out, entry) {
-        Ok(()) => print_notice(sink, out, entry.reply.notice.as_ref()),
+        Ok(()) => print_notice(sink, out, entry.reply.notice.delta()),
         Err(error) => Err(error),
     }
 }

@@ -271,9 +271,12 @@ fn put_answer(out: &mut Vec<u8>, event: &Event, answer: &Answer) -> Result<(), N
         Answer::Id(id) => put_counted(out, "id ", *id),
         Answer::Count(count) => put_counted(out, "count ", *count),
         Answer::None => put_text(out, "none"),
-        Answer::Job(name) => put_word(out, name.text().as_bytes()),
-        Answer::Seen(entries, partners) => put_seen(out, event, entries, partners),
-        Answer::Refused(refusal) => put_refused(out, refusal),
+        Answer::Job(name) => put_word(out, name.value().text().as_bytes()),
+        Answer::Seen(seen) => {
+            let (entries, partners) = seen.value();
+            put_seen(out, event, entries, partners)
+        }
+        Answer::Refused(refusal) => put_refused(out, refusal.value()),
     }
 }
 

@@ -1,4 +1,4 @@
-use Rattle.std.proofs.Common.{◌≡◌, ap, subst}
+use Rattle.std.proofs.Common.{◌≡◌, ap, ◌∙◌, subst}
 use Rattle.ws_core.specs.declared.state.State.{State}
 use Rattle.ws_core.specs.States.{told_tree}
 use Rattle.ws_core.proofs.Seen.{unchanged_tells}
@@ -7,4 +7,4 @@ use Rattle.ws_core.proofs.state.State.notice.Goals as goal
 pub returns-then-self : goal.returns-then-self
 returns-then-self c =
     let i = c.self.inside in
-    unchanged_tells c.args.self.now (subst (λ (s : State). s.told ≡ s.tree) c.self.view_is (ap (λ b. told_tree b i.tree.map i.told.map) c.if-self.true))
+    c.none.ensures ∙ unchanged_tells c.args.self.now (subst (λ (s : State). s.told ≡ s.tree) c.self.view_is (ap (λ b. told_tree b i.tree.map i.told.map) c.if-self.true))
