@@ -99,7 +99,7 @@ no_ids (id ∷ ids) h = let none : length (id ∷ ids) ≡ 0 = eqb-true (length 
 marks_stay : (mark_type : List ℕ) (e : Element) → not (count_marks mark_type e == 0) ≡ false → unmarked mark_type e ≡ e
 marks_stay mark_type e h =
     let stay : retain_keys e.attached.marks (λ id. not (has_type mark_type (get e.attached.marks id))) ≡ e.attached.marks =
-    sym (all_removed mark_type e.attached.marks) ∙ ap (removed e.attached.marks) (no_ids (ids_of_type mark_type e.marks) (is_zero (count_marks mark_type e == 0) h)) in
+    sym (all_removed mark_type e.attached.marks) ∙ ap (removed e.attached.marks) (no_ids (ids_of_type mark_type e.attached.marks) (is_zero (count_marks mark_type e == 0) h)) in
     λ i. record e { attached = record e.attached { marks = stay i } }
   where
     is_zero : (b : Bool) → not b ≡ false → b ≡ true

@@ -84,10 +84,18 @@ fn unmark(
     if ids.len() == 0 {
         return Ok(0);
     }
-    let mut attachments = kept.copy()?;
-    remove_all(&mut attachments.marks, ids.as_slice());
-    changes.put(path.copy()?, element.with_attachments(alloc, attachments)?)?;
+    let unmarked = without_markers(alloc, element, ids.as_slice())?;
+    changes.put(path.copy()?, unmarked)?;
     Ok(ids.len() as u64)
+}
+
+/// The element without the markers of these ids.
+fn without_markers(alloc: Global, element: &Element, ids: &[u64]) -> Result<Element, NoMemory>
+    ensures { IfOk result (λ e. e ≡ record element.now { attached = record element.now.attached { marks = removed element.now.attached.marks ids.now } }) }
+{
+    let mut attachments = element.attached.to_attachments()?;
+    remove_all(&mut attachments.marks, ids);
+    element.with_attachments(alloc, attachments)
 }
 
 /// Takes the markers with these ids away.

@@ -1,5 +1,5 @@
 //! The plans of what changes markers.
-ghost use Rattle.std.specs.Prelude.{◌≡◌, not, true, Some, IfOk};
+ghost use Rattle.std.specs.Prelude.{◌≡◌, not, true, Some, IsSome, IfOk};
 ghost use Rattle.std.specs.Option.{option_map};
 ghost use Rattle.std.specs.FinMap.{get};
 ghost use Rattle.mark_set.specs.Causes.{marker_cause, change_cause};
@@ -127,12 +127,28 @@ fn with_marker(
     ensures judged { Judges (option_map OpRefusal.BadValue (marker_cause mark_type.now attrs.now)) result }
     ensures element { IfOk result (λ e. e ≡ record element.now { attached = record element.now.attached { marks = with_marker element.now.attached.marks id mark_type.now attrs.now } }) }
 {
-    let mut attachments = element.attached.to_attachments()?;
+    let attachments = element.attached.to_attachments()?;
+    let marked = marked(alloc, attachments, id, mark_type, attrs)?;
+    Ok(element.with_attachments(alloc, marked)?)
+}
+
+/// The attachments with one more marker. Refused where its type or an attribute is past its limits.
+fn marked(
+    alloc: Global,
+    attachments: Attachments,
+    id: u64,
+    mark_type: &RawText,
+    attrs: &RawAttrs,
+) -> Result<Attachments, OpError>
+    ensures judged { Judges (option_map OpRefusal.BadValue (marker_cause mark_type.now attrs.now)) result }
+    ensures marks { IfOk result (λ a. a ≡ record attachments { marks = with_marker attachments.marks id mark_type.now attrs.now }) }
+{
+    let mut attachments = attachments;
     match attachments
         .marks
         .create(alloc, id, mark_type.text(), attrs.as_slice())
     {
-        Ok(()) => Ok(element.with_attachments(alloc, attachments)?),
+        Ok(()) => Ok(attachments),
         Err(MarkError::BadValue(cause)) => Err(OpError::Refused(OpRefusal::BadValue(cause))),
         Err(MarkError::Memory) => Err(OpError::Memory),
         Err(MarkError::MarkerUnknown) => unreachable!(),
@@ -152,10 +168,28 @@ fn with_attribute(
     ensures judged { Judges (option_map OpRefusal.BadValue (change_cause name.now value.now)) result }
     ensures element { IfOk result (λ e. e ≡ record element.now { attached = record element.now.attached { marks = with_attribute_of element.now.attached.marks id name.now value.now } }) }
 {
-    let mut attachments = element.attached.to_attachments()?;
+    let attachments = element.attached.to_attachments()?;
+    let attributed = attributed(alloc, attachments, id, name, value)?;
+    Ok(element.with_attachments(alloc, attributed)?)
+}
+
+/// The attachments with this value of one attribute of a marker, or without it. Refused where name or value is past its
+/// limits.
+fn attributed(
+    alloc: Global,
+    attachments: Attachments,
+    id: u64,
+    name: &RawText,
+    value: &Option<RawValue>,
+) -> Result<Attachments, OpError>
+    requires { IsSome (get attachments.marks id) }
+    ensures judged { Judges (option_map OpRefusal.BadValue (change_cause name.now value.now)) result }
+    ensures marks { IfOk result (λ a. a ≡ record attachments { marks = with_attribute_of attachments.marks id name.now value.now }) }
+{
+    let mut attachments = attachments;
     let value = copied(value)?;
     match attachments.marks.set(alloc, id, name.text(), value) {
-        Ok(()) => Ok(element.with_attachments(alloc, attachments)?),
+        Ok(()) => Ok(attachments),
         Err(MarkError::BadValue(cause)) => Err(OpError::Refused(OpRefusal::BadValue(cause))),
         Err(MarkError::Memory) => Err(OpError::Memory),
         Err(MarkError::MarkerUnknown) => unreachable!(),

@@ -276,12 +276,7 @@ fn stamp_after(stamp: u64, element: &Element) -> u64
 
 /// The element with this node, and with this stamp for its contents or its description, without markers and
 /// synchronisation bytes.
-fn renumbered(
-    alloc: Global,
-    element: &Element,
-    node: u64,
-    stamp: u64,
-) -> Result<Element, NoMemory>
+fn renumbered(alloc: Global, element: &Element, node: u64, stamp: u64) -> Result<Element, NoMemory>
     ensures { IfOk result (λ e. e ≡ renumbered node stamp element.now) }
 {
     Ok(Element {

@@ -1,8 +1,8 @@
 use Rattle.std.proofs.Common.{◌≡◌, ap, ◌∙◌}
 use Rattle.std.specs.Prelude.{Err}
 use Rattle.mark_set.specs.Causes.{change_cause}
-use Rattle.ws_ops.proofs.BadValues.{unspoilt, spoilt, marker_there}
-use Rattle.ws_ops.proofs.marking.with_attribute.Goals as goal
+use Rattle.ws_ops.proofs.BadValues.{unspoilt, spoilt}
+use Rattle.ws_ops.proofs.marking.attributed.Goals as goal
 
 pub returns-in-Ok-clause-judged : goal.returns-in-Ok-clause-judged
 returns-in-Ok-clause-judged c =
@@ -10,7 +10,7 @@ returns-in-Ok-clause-judged c =
     let cause = change_cause c.args.name.now c.args.value.now in
     let same : told ≡ cause = λ i. change_cause (c.text.ensures.value i) (c.in_ok-value.ensures i) in
     unspoilt told cause c.set.result c.in-Ok.field-0 same c.in-Ok.is
-    (λ x h. (c.set.ensures.bad x).1 (marker_there c.in_ok-element.element c.args.element.now c.args.id c.in_ok-element.ensures c.requires, h))
+    (λ x h. (c.set.ensures.bad x).1 (c.requires, h))
 
 pub returns-in-Err-BadValue-clause-judged : goal.returns-in-Err-BadValue-clause-judged
 returns-in-Err-BadValue-clause-judged c =
