@@ -13,6 +13,7 @@ use crate::line::Line;
 use crate::progress::Progress;
 use crate::reader::Reader;
 use crate::script::Script;
+use crate::words::Token;
 use bytes::Bytes;
 use std::alloc::Global;
 
@@ -27,9 +28,10 @@ pub fn parse(alloc: Global, text: Bytes) -> Result<Script, ScriptError>
     ensures bad { (number : ℕ) → result ≡ Err (BadLine number) → IsFirstBad text number }
 {
     let mut reader = Reader::new(text);
+    let mut tokens = Vec::new(alloc);
     let mut progress = Progress::new(alloc);
     while !is_whole(&mut reader, &progress) {
-        progress = step(&mut reader, alloc, progress)?;
+        progress = step(&mut reader, alloc, &mut tokens, progress)?;
     }
     Ok(Script {
         phases: progress.phases,
@@ -46,28 +48,37 @@ fn is_whole(reader: &mut Reader, progress: &Progress) -> bool
     at_end && progress.is_outside()
 }
 
-/// Reads one more line that isn't skipped.
-fn step(reader: &mut Reader, alloc: Global, progress: Progress) -> Result<Progress, ScriptError>
+/// Reads one more line that isn't skipped. Its tokens are put in place of those that were there.
+fn step(
+    reader: &mut Reader,
+    alloc: Global,
+    tokens: &mut Vec<Token>,
+    progress: Progress,
+) -> Result<Progress, ScriptError>
     ensures read { IfOk result (Steps (lines_of reader.old.rest) (lines_of reader.new.rest) progress) }
     ensures count { OnOk result (Advances reader.old reader.new) }
     ensures bad { (number : ℕ) → result ≡ Err (BadLine number) → IsStuck reader.old.number (lines_of reader.old.rest) progress number }
 {
-    let line = next_line(reader, alloc)?;
+    let line = next_line(reader, alloc, tokens)?;
     match progress.advanced(alloc, line)? {
         Some(next) => Ok(next),
         None => Err(ScriptError::BadLine(reader.number)),
     }
 }
 
-/// What the next line that isn't skipped says.
-fn next_line(reader: &mut Reader, alloc: Global) -> Result<Line, ScriptError>
+/// What the next line that isn't skipped says. Its tokens are put in place of those that were there.
+fn next_line(
+    reader: &mut Reader,
+    alloc: Global,
+    tokens: &mut Vec<Token>,
+) -> Result<Line, ScriptError>
     ensures read { IfOk result (SaysNext (lines_of reader.old.rest) (lines_of reader.new.rest)) }
     ensures count { OnOk result (Advances reader.old reader.new) }
     ensures at { OnOk result (reader.new.number ≡ next_number reader.old.number (lines_of reader.old.rest)) }
     ensures bad { (number : ℕ) → result ≡ Err (BadLine number) → (progress : Progress) → IsStuck reader.old.number (lines_of reader.old.rest) progress number }
 {
-    let tokens = reader.line(alloc)?;
-    let Some(line) = line_of(alloc, tokens.as_slice())? else {
+    reader.line(alloc, tokens)?;
+    let Some(line) = line_of(alloc, tokens.as_mut_slice())? else {
         return Err(ScriptError::BadLine(reader.number));
     };
     Ok(line)
