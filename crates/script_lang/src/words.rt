@@ -22,8 +22,8 @@ pub struct Token {
     pub word: Bytes,
 }
 
-/// Reads the tokens that a line spells, in place of those that were there. Whether it spells some. A bare word, and a
-/// quoted one without an escape, shares the line's bytes. Costs one pass over the line.
+/// Reads the tokens that a line spells, in place of those that were there. Whether it spells some. A bare word that is
+/// no common one, and a quoted one without an escape, shares the line's bytes. Costs one pass over the line.
 pub fn words_of(alloc: Global, line: Bytes, tokens: &mut Vec<Token>) -> Result<bool, NoMemory>
     ensures { IfOk result (λ found. MatchBool found (SpellsLine line tokens.new.items) ((others : List Token) → SpellsLine line others → ⊥)) }
 {
