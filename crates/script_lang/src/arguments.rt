@@ -8,7 +8,9 @@ ghost use Rattle.script_lang.specs.Reading.{IsFound, IsPairFound, IsTripleFound}
 
 use crate::NoMemory;
 use crate::attributes::{attributes_of, set_value_of};
-use crate::parts::{depth_of, name_of, number_of, path_of, switch_of, text_of};
+use crate::parts::{
+    depth_of, number_of, path_of, switch_of, take_name, take_path, take_word, text_of,
+};
 use crate::words::Token;
 use bytes::Bytes;
 use mark_set::{RawAttrs, RawText, RawValue};
@@ -17,134 +19,116 @@ use std::alloc::Global;
 use ws_elem::Depth;
 
 /// A path, and nothing else.
-pub fn path_alone(tokens: &[Token]) -> Result<Option<Path>, NoMemory>
-    ensures { IfOk result (IsFound (λ path. a_path path ∷ []) tokens.now) }
+pub fn path_alone(tokens: &mut [Token]) -> Option<Path>
+    ensures { IsFound (λ path. a_path path ∷ []) tokens.old result }
 {
     match tokens {
-        [place] => path_of(place),
-        _ => Ok(None),
+        [place] => take_path(place),
+        _ => None,
     }
 }
 
 /// A name, and nothing else.
-pub fn name_alone(tokens: &[Token]) -> Result<Option<Name>, NoMemory>
-    ensures { IfOk result (IsFound (λ name. a_name name ∷ []) tokens.now) }
+pub fn name_alone(tokens: &mut [Token]) -> Option<Name>
+    ensures { IsFound (λ name. a_name name ∷ []) tokens.old result }
 {
     match tokens {
-        [name] => name_of(name),
-        _ => Ok(None),
+        [name] => take_name(name),
+        _ => None,
     }
 }
 
 /// A path and any word.
-pub fn path_and_bytes(tokens: &[Token]) -> Result<Option<(Path, Bytes)>, NoMemory>
-    ensures { IfOk result (IsPairFound (λ path bytes. a_path path ∷ a_word bytes ∷ []) tokens.now) }
+pub fn path_and_bytes(tokens: &mut [Token]) -> Option<(Path, Bytes)>
+    ensures { IsPairFound (λ path bytes. a_path path ∷ a_word bytes ∷ []) tokens.old result }
 {
     let [place, bytes] = tokens else {
-        return Ok(None);
+        return None;
     };
-    match path_of(place)? {
-        None => Ok(None),
-        Some(path) => Ok(Some((path, bytes.word.clone()?))),
+    match take_path(place) {
+        None => None,
+        Some(path) => Some((path, take_word(bytes))),
     }
 }
 
 /// Two paths.
-pub fn two_paths(tokens: &[Token]) -> Result<Option<(Path, Path)>, NoMemory>
-    ensures { IfOk result (IsPairFound (λ path to. a_path path ∷ a_path to ∷ []) tokens.now) }
+pub fn two_paths(tokens: &mut [Token]) -> Option<(Path, Path)>
+    ensures { IsPairFound (λ path to. a_path path ∷ a_path to ∷ []) tokens.old result }
 {
-    let [place, other] = tokens else {
-        return Ok(None);
-    };
-    let Some(path) = path_of(place)? else {
-        return Ok(None);
-    };
-    match path_of(other)? {
-        None => Ok(None),
-        Some(to) => Ok(Some((path, to))),
+    match tokens {
+        [place, other] => take_path(place).zip(take_path(other)),
+        _ => None,
     }
 }
 
 /// A path, and `on` or `off`.
-pub fn path_and_switch(tokens: &[Token]) -> Result<Option<(Path, bool)>, NoMemory>
-    ensures { IfOk result (IsPairFound (λ path derived. a_path path ∷ keyword (switch_word derived) ∷ []) tokens.now) }
+pub fn path_and_switch(tokens: &mut [Token]) -> Option<(Path, bool)>
+    ensures { IsPairFound (λ path derived. a_path path ∷ keyword (switch_word derived) ∷ []) tokens.old result }
 {
     let [place, switch] = tokens else {
-        return Ok(None);
+        return None;
     };
     let Some(derived) = switch_of(switch) else {
-        return Ok(None);
+        return None;
     };
-    match path_of(place)? {
-        None => Ok(None),
-        Some(path) => Ok(Some((path, derived))),
+    match take_path(place) {
+        None => None,
+        Some(path) => Some((path, derived)),
     }
 }
 
 /// A path and a marker's id.
-pub fn path_and_id(tokens: &[Token]) -> Result<Option<(Path, u64)>, NoMemory>
-    ensures { IfOk result (IsPairFound (λ path id. a_path path ∷ a_number 64 0 id ∷ []) tokens.now) }
+pub fn path_and_id(tokens: &mut [Token]) -> Option<(Path, u64)>
+    ensures { IsPairFound (λ path id. a_path path ∷ a_number 64 0 id ∷ []) tokens.old result }
 {
     let [place, id] = tokens else {
-        return Ok(None);
+        return None;
     };
     let Some(id) = number_of(id) else {
-        return Ok(None);
+        return None;
     };
-    match path_of(place)? {
-        None => Ok(None),
-        Some(path) => Ok(Some((path, id))),
+    match take_path(place) {
+        None => None,
+        Some(path) => Some((path, id)),
     }
 }
 
 /// A path and a name.
-pub fn path_and_name(tokens: &[Token]) -> Result<Option<(Path, Name)>, NoMemory>
-    ensures { IfOk result (IsPairFound (λ path name. a_path path ∷ a_name name ∷ []) tokens.now) }
+pub fn path_and_name(tokens: &mut [Token]) -> Option<(Path, Name)>
+    ensures { IsPairFound (λ path name. a_path path ∷ a_name name ∷ []) tokens.old result }
 {
-    let [place, name] = tokens else {
-        return Ok(None);
-    };
-    let Some(path) = path_of(place)? else {
-        return Ok(None);
-    };
-    match name_of(name)? {
-        None => Ok(None),
-        Some(name) => Ok(Some((path, name))),
+    match tokens {
+        [place, name] => take_path(place).zip(take_name(name)),
+        _ => None,
     }
 }
 
 /// A path, a name and any word.
-pub fn path_name_bytes(tokens: &[Token]) -> Result<Option<(Path, Name, Bytes)>, NoMemory>
-    ensures { IfOk result (IsTripleFound (λ path name bytes. a_path path ∷ a_name name ∷ a_word bytes ∷ []) tokens.now) }
+pub fn path_name_bytes(tokens: &mut [Token]) -> Option<(Path, Name, Bytes)>
+    ensures { IsTripleFound (λ path name bytes. a_path path ∷ a_name name ∷ a_word bytes ∷ []) tokens.old result }
 {
     let [place, name, bytes] = tokens else {
-        return Ok(None);
+        return None;
     };
-    let Some(path) = path_of(place)? else {
-        return Ok(None);
-    };
-    match name_of(name)? {
-        None => Ok(None),
-        Some(name) => Ok(Some((path, name, bytes.word.clone()?))),
+    match take_path(place).zip(take_name(name)) {
+        None => None,
+        Some((path, name)) => Some((path, name, take_word(bytes))),
     }
 }
 
 /// A path, a name and a depth.
-pub fn path_name_depth(tokens: &[Token]) -> Result<Option<(Path, Name, Depth)>, NoMemory>
-    ensures { IfOk result (IsTripleFound (λ path name depth. a_path path ∷ a_name name ∷ keyword (depth_word depth) ∷ []) tokens.now) }
+pub fn path_name_depth(tokens: &mut [Token]) -> Option<(Path, Name, Depth)>
+    ensures { IsTripleFound (λ path name depth. a_path path ∷ a_name name ∷ keyword (depth_word depth) ∷ []) tokens.old result }
 {
     let [place, name, depth] = tokens else {
-        return Ok(None);
+        return None;
     };
     let Some(depth) = depth_of(depth) else {
-        return Ok(None);
+        return None;
     };
-    let Some(path) = path_of(place)? else {
-        return Ok(None);
-    };
-    match name_of(name)? {
-        None => Ok(None),
-        Some(name) => Ok(Some((path, name, depth))),
+    match take_path(place).zip(take_name(name)) {
+        None => None,
+        Some((path, name)) => Some((path, name, depth)),
     }
 }
 

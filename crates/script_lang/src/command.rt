@@ -16,8 +16,8 @@ use std::alloc::Global;
 use ws_ops::Op;
 
 /// What a line of these words says, where a script may have it.
-pub fn line_of(alloc: Global, tokens: &[Token]) -> Result<Option<Line>, NoMemory>
-    ensures { IfOk result (IsLineOf tokens.now) }
+pub fn line_of(alloc: Global, tokens: &mut [Token]) -> Result<Option<Line>, NoMemory>
+    ensures { IfOk result (IsLineOf tokens.old) }
 {
     let [first, rest @ ..] = tokens else {
         return Ok(None);
@@ -29,8 +29,8 @@ pub fn line_of(alloc: Global, tokens: &[Token]) -> Result<Option<Line>, NoMemory
 }
 
 /// The line that begins with the verb and goes on with these tokens.
-fn line_with(alloc: Global, verb: Verb, rest: &[Token]) -> Result<Option<Line>, NoMemory>
-    ensures { IfOk result (IsLineOf (begun_with verb rest.now)) }
+fn line_with(alloc: Global, verb: Verb, rest: &mut [Token]) -> Result<Option<Line>, NoMemory>
+    ensures { IfOk result (IsLineOf (begun_with verb rest.old)) }
 {
     match verb {
         Verb::Phase => Ok(alone(rest, Line::BeginPhase)),

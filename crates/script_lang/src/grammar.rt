@@ -13,23 +13,25 @@ use crate::line::Line;
 use crate::progress::Progress;
 use crate::reader::Reader;
 use crate::script::Script;
+use crate::words::Token;
 use bytes::Bytes;
 use std::alloc::Global;
 
 /// The script that the text spells. Refused with the number of the first bad line where it spells none: the first
 /// one at which no continuation could make the lines so far the beginning of a script; one past the last where the
 /// text ends too early. Lines are counted from 1, also those that are skipped. The words share the text's bytes but
-/// for those with escapes, and for the texts of markers, which are copied. Costs one pass over the text, and for each
-/// atom of a rule one over the rule of the atoms before it.
+/// for those with escapes, for a few common ones, which take no memory, and for the texts of markers, which are
+/// copied. Costs one pass over the text, and for each atom of a rule one over the rule of the atoms before it.
 pub fn parse(alloc: Global, text: Bytes) -> Result<Script, ScriptError>
     ensures found { IfOk result (IsScript text) }
     ensures all { (script : Script) → IsScript text script → MatchResult result (λ found. found ≡ script) (λ e. e ≡ Memory) }
     ensures bad { (number : ℕ) → result ≡ Err (BadLine number) → IsFirstBad text number }
 {
     let mut reader = Reader::new(text);
+    let mut tokens = Vec::new(alloc);
     let mut progress = Progress::new(alloc);
     while !is_whole(&mut reader, &progress) {
-        progress = step(&mut reader, alloc, progress)?;
+        progress = step(&mut reader, alloc, &mut tokens, progress)?;
     }
     Ok(Script {
         phases: progress.phases,
@@ -46,28 +48,37 @@ fn is_whole(reader: &mut Reader, progress: &Progress) -> bool
     at_end && progress.is_outside()
 }
 
-/// Reads one more line that isn't skipped.
-fn step(reader: &mut Reader, alloc: Global, progress: Progress) -> Result<Progress, ScriptError>
+/// Reads one more line that isn't skipped. Its tokens are put in place of those that were there.
+fn step(
+    reader: &mut Reader,
+    alloc: Global,
+    tokens: &mut Vec<Token>,
+    progress: Progress,
+) -> Result<Progress, ScriptError>
     ensures read { IfOk result (Steps (lines_of reader.old.rest) (lines_of reader.new.rest) progress) }
     ensures count { OnOk result (Advances reader.old reader.new) }
     ensures bad { (number : ℕ) → result ≡ Err (BadLine number) → IsStuck reader.old.number (lines_of reader.old.rest) progress number }
 {
-    let line = next_line(reader, alloc)?;
+    let line = next_line(reader, alloc, tokens)?;
     match progress.advanced(alloc, line)? {
         Some(next) => Ok(next),
         None => Err(ScriptError::BadLine(reader.number)),
     }
 }
 
-/// What the next line that isn't skipped says.
-fn next_line(reader: &mut Reader, alloc: Global) -> Result<Line, ScriptError>
+/// What the next line that isn't skipped says. Its tokens are put in place of those that were there.
+fn next_line(
+    reader: &mut Reader,
+    alloc: Global,
+    tokens: &mut Vec<Token>,
+) -> Result<Line, ScriptError>
     ensures read { IfOk result (SaysNext (lines_of reader.old.rest) (lines_of reader.new.rest)) }
     ensures count { OnOk result (Advances reader.old reader.new) }
     ensures at { OnOk result (reader.new.number ≡ next_number reader.old.number (lines_of reader.old.rest)) }
     ensures bad { (number : ℕ) → result ≡ Err (BadLine number) → (progress : Progress) → IsStuck reader.old.number (lines_of reader.old.rest) progress number }
 {
-    let tokens = reader.line(alloc)?;
-    let Some(line) = line_of(alloc, tokens.as_slice())? else {
+    reader.line(alloc, tokens)?;
+    let Some(line) = line_of(alloc, tokens.as_mut_slice())? else {
         return Err(ScriptError::BadLine(reader.number));
     };
     Ok(line)

@@ -16,41 +16,41 @@ use std::alloc::Global;
 use ws_ops::{Op, Want};
 
 /// The operation whose line begins with the verb and goes on with these tokens.
-pub fn operation_with(alloc: Global, verb: Verb, rest: &[Token]) -> Result<Option<Op>, NoMemory>
-    ensures { IfOk result (IsFound operation_parts (begun_with verb rest.now)) }
+pub fn operation_with(alloc: Global, verb: Verb, rest: &mut [Token]) -> Result<Option<Op>, NoMemory>
+    ensures { IfOk result (IsFound operation_parts (begun_with verb rest.old)) }
 {
     match verb {
-        Verb::Create => created(rest),
-        Verb::Delete => deleted(rest),
-        Verb::Write => written(rest),
-        Verb::Touch => touched(rest),
-        Verb::Derived => derived(rest),
-        Verb::Move => moved(rest),
-        Verb::Copy => copied(rest),
-        Verb::Open => opened(rest),
-        Verb::Close => closed(rest),
-        Verb::Describe => described(rest),
+        Verb::Create => Ok(created(rest)),
+        Verb::Delete => Ok(deleted(rest)),
+        Verb::Write => Ok(written(rest)),
+        Verb::Touch => Ok(touched(rest)),
+        Verb::Derived => Ok(derived(rest)),
+        Verb::Move => Ok(moved(rest)),
+        Verb::Copy => Ok(copied(rest)),
+        Verb::Open => Ok(opened(rest)),
+        Verb::Close => Ok(closed(rest)),
+        Verb::Describe => Ok(described(rest)),
         Verb::Mark => marked(alloc, rest),
         Verb::Attr => set(alloc, rest),
-        Verb::Unmark => unmarked(rest),
+        Verb::Unmark => Ok(unmarked(rest)),
         Verb::ClearMarks => cleared(alloc, rest),
-        Verb::Partner => registered(rest),
-        Verb::Sync => synchronised(rest),
-        Verb::NoSync => unsynchronised(rest),
-        Verb::Flush => flushed(rest),
-        Verb::Show => shown(rest),
-        Verb::Cat => told(rest),
-        Verb::Tree => listed(rest),
-        Verb::Digest => digested(rest),
+        Verb::Partner => Ok(registered(rest)),
+        Verb::Sync => Ok(synchronised(rest)),
+        Verb::NoSync => Ok(unsynchronised(rest)),
+        Verb::Flush => Ok(flushed(rest)),
+        Verb::Show => Ok(shown(rest)),
+        Verb::Cat => Ok(told(rest)),
+        Verb::Tree => Ok(listed(rest)),
+        Verb::Digest => Ok(digested(rest)),
         _ => Ok(None),
     }
 }
 
-fn created(rest: &[Token]) -> Result<Option<Op>, NoMemory>
-    ensures { IfOk result (IsFound operation_parts (begun_with Verb.Create rest.now)) }
+fn created(rest: &mut [Token]) -> Option<Op>
+    ensures { IsFound operation_parts (begun_with Verb.Create rest.old) result }
 {
     let [kind, more @ ..] = rest else {
-        return Ok(None);
+        return None;
     };
     if is_key(kind, b"project") {
         return project(kind, more);
@@ -61,153 +61,153 @@ fn created(rest: &[Token]) -> Result<Option<Op>, NoMemory>
     if is_key(kind, b"file") {
         return file(kind, more);
     }
-    Ok(None)
+    None
 }
 
-fn project(kind: &Token, rest: &[Token]) -> Result<Option<Op>, NoMemory>
+fn project(kind: &Token, rest: &mut [Token]) -> Option<Op>
     requires { FitsPart kind.now (keyword (codes "project")) }
-    ensures { IfOk result (IsFound operation_parts (begun_with Verb.Create (kind.now ∷ rest.now))) }
+    ensures { IsFound operation_parts (begun_with Verb.Create (kind.now ∷ rest.old)) result }
 {
-    match path_alone(rest)? {
-        None => Ok(None),
-        Some(path) => Ok(Some(Op::CreateProject(path))),
+    match path_alone(rest) {
+        None => None,
+        Some(path) => Some(Op::CreateProject(path)),
     }
 }
 
-fn folder(kind: &Token, rest: &[Token]) -> Result<Option<Op>, NoMemory>
+fn folder(kind: &Token, rest: &mut [Token]) -> Option<Op>
     requires { FitsPart kind.now (keyword (codes "folder")) }
-    ensures { IfOk result (IsFound operation_parts (begun_with Verb.Create (kind.now ∷ rest.now))) }
+    ensures { IsFound operation_parts (begun_with Verb.Create (kind.now ∷ rest.old)) result }
 {
-    match path_alone(rest)? {
-        None => Ok(None),
-        Some(path) => Ok(Some(Op::CreateFolder(path))),
+    match path_alone(rest) {
+        None => None,
+        Some(path) => Some(Op::CreateFolder(path)),
     }
 }
 
-fn file(kind: &Token, rest: &[Token]) -> Result<Option<Op>, NoMemory>
+fn file(kind: &Token, rest: &mut [Token]) -> Option<Op>
     requires { FitsPart kind.now (keyword (codes "file")) }
-    ensures { IfOk result (IsFound operation_parts (begun_with Verb.Create (kind.now ∷ rest.now))) }
+    ensures { IsFound operation_parts (begun_with Verb.Create (kind.now ∷ rest.old)) result }
 {
-    match path_and_bytes(rest)? {
-        None => Ok(None),
-        Some((path, bytes)) => Ok(Some(Op::CreateFile(path, bytes))),
+    match path_and_bytes(rest) {
+        None => None,
+        Some((path, bytes)) => Some(Op::CreateFile(path, bytes)),
     }
 }
 
-fn deleted(rest: &[Token]) -> Result<Option<Op>, NoMemory>
-    ensures { IfOk result (IsFound operation_parts (begun_with Verb.Delete rest.now)) }
+fn deleted(rest: &mut [Token]) -> Option<Op>
+    ensures { IsFound operation_parts (begun_with Verb.Delete rest.old) result }
 {
-    match path_alone(rest)? {
-        None => Ok(None),
-        Some(path) => Ok(Some(Op::Delete(path))),
+    match path_alone(rest) {
+        None => None,
+        Some(path) => Some(Op::Delete(path)),
     }
 }
 
-fn touched(rest: &[Token]) -> Result<Option<Op>, NoMemory>
-    ensures { IfOk result (IsFound operation_parts (begun_with Verb.Touch rest.now)) }
+fn touched(rest: &mut [Token]) -> Option<Op>
+    ensures { IsFound operation_parts (begun_with Verb.Touch rest.old) result }
 {
-    match path_alone(rest)? {
-        None => Ok(None),
-        Some(path) => Ok(Some(Op::Touch(path))),
+    match path_alone(rest) {
+        None => None,
+        Some(path) => Some(Op::Touch(path)),
     }
 }
 
-fn opened(rest: &[Token]) -> Result<Option<Op>, NoMemory>
-    ensures { IfOk result (IsFound operation_parts (begun_with Verb.Open rest.now)) }
+fn opened(rest: &mut [Token]) -> Option<Op>
+    ensures { IsFound operation_parts (begun_with Verb.Open rest.old) result }
 {
-    match path_alone(rest)? {
-        None => Ok(None),
-        Some(path) => Ok(Some(Op::Open(path))),
+    match path_alone(rest) {
+        None => None,
+        Some(path) => Some(Op::Open(path)),
     }
 }
 
-fn closed(rest: &[Token]) -> Result<Option<Op>, NoMemory>
-    ensures { IfOk result (IsFound operation_parts (begun_with Verb.Close rest.now)) }
+fn closed(rest: &mut [Token]) -> Option<Op>
+    ensures { IsFound operation_parts (begun_with Verb.Close rest.old) result }
 {
-    match path_alone(rest)? {
-        None => Ok(None),
-        Some(path) => Ok(Some(Op::Close(path))),
+    match path_alone(rest) {
+        None => None,
+        Some(path) => Some(Op::Close(path)),
     }
 }
 
-fn shown(rest: &[Token]) -> Result<Option<Op>, NoMemory>
-    ensures { IfOk result (IsFound operation_parts (begun_with Verb.Show rest.now)) }
+fn shown(rest: &mut [Token]) -> Option<Op>
+    ensures { IsFound operation_parts (begun_with Verb.Show rest.old) result }
 {
-    match path_alone(rest)? {
-        None => Ok(None),
-        Some(path) => Ok(Some(Op::Read(path, Want::Show))),
+    match path_alone(rest) {
+        None => None,
+        Some(path) => Some(Op::Read(path, Want::Show)),
     }
 }
 
-fn told(rest: &[Token]) -> Result<Option<Op>, NoMemory>
-    ensures { IfOk result (IsFound operation_parts (begun_with Verb.Cat rest.now)) }
+fn told(rest: &mut [Token]) -> Option<Op>
+    ensures { IsFound operation_parts (begun_with Verb.Cat rest.old) result }
 {
-    match path_alone(rest)? {
-        None => Ok(None),
-        Some(path) => Ok(Some(Op::Read(path, Want::Cat))),
+    match path_alone(rest) {
+        None => None,
+        Some(path) => Some(Op::Read(path, Want::Cat)),
     }
 }
 
-fn listed(rest: &[Token]) -> Result<Option<Op>, NoMemory>
-    ensures { IfOk result (IsFound operation_parts (begun_with Verb.Tree rest.now)) }
+fn listed(rest: &mut [Token]) -> Option<Op>
+    ensures { IsFound operation_parts (begun_with Verb.Tree rest.old) result }
 {
-    match path_alone(rest)? {
-        None => Ok(None),
-        Some(path) => Ok(Some(Op::Read(path, Want::Tree))),
+    match path_alone(rest) {
+        None => None,
+        Some(path) => Some(Op::Read(path, Want::Tree)),
     }
 }
 
-fn digested(rest: &[Token]) -> Result<Option<Op>, NoMemory>
-    ensures { IfOk result (IsFound operation_parts (begun_with Verb.Digest rest.now)) }
+fn digested(rest: &mut [Token]) -> Option<Op>
+    ensures { IsFound operation_parts (begun_with Verb.Digest rest.old) result }
 {
-    match path_alone(rest)? {
-        None => Ok(None),
-        Some(path) => Ok(Some(Op::Read(path, Want::Digest))),
+    match path_alone(rest) {
+        None => None,
+        Some(path) => Some(Op::Read(path, Want::Digest)),
     }
 }
 
-fn written(rest: &[Token]) -> Result<Option<Op>, NoMemory>
-    ensures { IfOk result (IsFound operation_parts (begun_with Verb.Write rest.now)) }
+fn written(rest: &mut [Token]) -> Option<Op>
+    ensures { IsFound operation_parts (begun_with Verb.Write rest.old) result }
 {
-    match path_and_bytes(rest)? {
-        None => Ok(None),
-        Some((path, bytes)) => Ok(Some(Op::Write(path, bytes))),
+    match path_and_bytes(rest) {
+        None => None,
+        Some((path, bytes)) => Some(Op::Write(path, bytes)),
     }
 }
 
-fn described(rest: &[Token]) -> Result<Option<Op>, NoMemory>
-    ensures { IfOk result (IsFound operation_parts (begun_with Verb.Describe rest.now)) }
+fn described(rest: &mut [Token]) -> Option<Op>
+    ensures { IsFound operation_parts (begun_with Verb.Describe rest.old) result }
 {
-    match path_and_bytes(rest)? {
-        None => Ok(None),
-        Some((path, text)) => Ok(Some(Op::Describe(path, text))),
+    match path_and_bytes(rest) {
+        None => None,
+        Some((path, text)) => Some(Op::Describe(path, text)),
     }
 }
 
-fn moved(rest: &[Token]) -> Result<Option<Op>, NoMemory>
-    ensures { IfOk result (IsFound operation_parts (begun_with Verb.Move rest.now)) }
+fn moved(rest: &mut [Token]) -> Option<Op>
+    ensures { IsFound operation_parts (begun_with Verb.Move rest.old) result }
 {
-    match two_paths(rest)? {
-        None => Ok(None),
-        Some((path, to)) => Ok(Some(Op::Move(path, to))),
+    match two_paths(rest) {
+        None => None,
+        Some((path, to)) => Some(Op::Move(path, to)),
     }
 }
 
-fn copied(rest: &[Token]) -> Result<Option<Op>, NoMemory>
-    ensures { IfOk result (IsFound operation_parts (begun_with Verb.Copy rest.now)) }
+fn copied(rest: &mut [Token]) -> Option<Op>
+    ensures { IsFound operation_parts (begun_with Verb.Copy rest.old) result }
 {
-    match two_paths(rest)? {
-        None => Ok(None),
-        Some((path, to)) => Ok(Some(Op::Copy(path, to))),
+    match two_paths(rest) {
+        None => None,
+        Some((path, to)) => Some(Op::Copy(path, to)),
     }
 }
 
-fn derived(rest: &[Token]) -> Result<Option<Op>, NoMemory>
-    ensures { IfOk result (IsFound operation_parts (begun_with Verb.Derived rest.now)) }
+fn derived(rest: &mut [Token]) -> Option<Op>
+    ensures { IsFound operation_parts (begun_with Verb.Derived rest.old) result }
 {
-    match path_and_switch(rest)? {
-        None => Ok(None),
-        Some((path, derived)) => Ok(Some(Op::Derived(path, derived))),
+    match path_and_switch(rest) {
+        None => None,
+        Some((path, derived)) => Some(Op::Derived(path, derived)),
     }
 }
 
@@ -229,12 +229,12 @@ fn set(alloc: Global, rest: &[Token]) -> Result<Option<Op>, NoMemory>
     }
 }
 
-fn unmarked(rest: &[Token]) -> Result<Option<Op>, NoMemory>
-    ensures { IfOk result (IsFound operation_parts (begun_with Verb.Unmark rest.now)) }
+fn unmarked(rest: &mut [Token]) -> Option<Op>
+    ensures { IsFound operation_parts (begun_with Verb.Unmark rest.old) result }
 {
-    match path_and_id(rest)? {
-        None => Ok(None),
-        Some((path, id)) => Ok(Some(Op::Unmark(path, id))),
+    match path_and_id(rest) {
+        None => None,
+        Some((path, id)) => Some(Op::Unmark(path, id)),
     }
 }
 
@@ -247,38 +247,38 @@ fn cleared(alloc: Global, rest: &[Token]) -> Result<Option<Op>, NoMemory>
     }
 }
 
-fn registered(rest: &[Token]) -> Result<Option<Op>, NoMemory>
-    ensures { IfOk result (IsFound operation_parts (begun_with Verb.Partner rest.now)) }
+fn registered(rest: &mut [Token]) -> Option<Op>
+    ensures { IsFound operation_parts (begun_with Verb.Partner rest.old) result }
 {
-    match name_alone(rest)? {
-        None => Ok(None),
-        Some(name) => Ok(Some(Op::Partner(name))),
+    match name_alone(rest) {
+        None => None,
+        Some(name) => Some(Op::Partner(name)),
     }
 }
 
-fn synchronised(rest: &[Token]) -> Result<Option<Op>, NoMemory>
-    ensures { IfOk result (IsFound operation_parts (begun_with Verb.Sync rest.now)) }
+fn synchronised(rest: &mut [Token]) -> Option<Op>
+    ensures { IsFound operation_parts (begun_with Verb.Sync rest.old) result }
 {
-    match path_name_bytes(rest)? {
-        None => Ok(None),
-        Some((path, name, bytes)) => Ok(Some(Op::Sync(path, name, Some(bytes)))),
+    match path_name_bytes(rest) {
+        None => None,
+        Some((path, name, bytes)) => Some(Op::Sync(path, name, Some(bytes))),
     }
 }
 
-fn unsynchronised(rest: &[Token]) -> Result<Option<Op>, NoMemory>
-    ensures { IfOk result (IsFound operation_parts (begun_with Verb.NoSync rest.now)) }
+fn unsynchronised(rest: &mut [Token]) -> Option<Op>
+    ensures { IsFound operation_parts (begun_with Verb.NoSync rest.old) result }
 {
-    match path_and_name(rest)? {
-        None => Ok(None),
-        Some((path, name)) => Ok(Some(Op::Sync(path, name, None))),
+    match path_and_name(rest) {
+        None => None,
+        Some((path, name)) => Some(Op::Sync(path, name, None)),
     }
 }
 
-fn flushed(rest: &[Token]) -> Result<Option<Op>, NoMemory>
-    ensures { IfOk result (IsFound operation_parts (begun_with Verb.Flush rest.now)) }
+fn flushed(rest: &mut [Token]) -> Option<Op>
+    ensures { IsFound operation_parts (begun_with Verb.Flush rest.old) result }
 {
-    match path_name_depth(rest)? {
-        None => Ok(None),
-        Some((path, name, depth)) => Ok(Some(Op::Flush(path, name, depth))),
+    match path_name_depth(rest) {
+        None => None,
+        Some((path, name, depth)) => Some(Op::Flush(path, name, depth)),
     }
 }

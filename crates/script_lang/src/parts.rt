@@ -1,18 +1,21 @@
 //! What the words of a line stand for, one by one.
-ghost use Rattle.std.specs.Prelude.{◌≡◌, ℕ, ◌<◌, ◌^◌, ℤ, decimal, FitsSigned, IfOk, MatchOption, IsTrue, ◌↔◌};
+ghost use Rattle.std.specs.Prelude.{◌≡◌, List, ℕ, ◌<◌, ◌^◌, ℤ, decimal, FitsSigned, IfOk, MatchOption, IsTrue, ◌↔◌};
 ghost use Rattle.std.specs.Fmt.{signed_decimal};
 ghost use Rattle.std.specs.Int.{w32};
+ghost use Rattle.res_path.specs.Names.{IsName};
+ghost use Rattle.res_path.specs.Paths.{Names, IsPath, path_text};
 ghost use Rattle.script_lang.specs.Commands.{keyword, a_number, an_integer, a_name, a_path, a_text, FitsPart, IsNumber, priority_word, switch_word, truth_word, depth_word};
 ghost use Rattle.script_lang.specs.Reading.{IsPartFound};
 
 use crate::NoMemory;
 use crate::script::Priority;
 use crate::words::Token;
-use bytes::ByteStr;
+use bytes::{ByteStr, Bytes};
 use itoa::Buffer;
 use mark_set::RawText;
 use res_path::{Name, Path};
 use std::alloc::Global;
+use std::mem;
 use std::str::from_utf8;
 use ws_elem::Depth;
 
@@ -27,12 +30,26 @@ pub fn is_key(token: &Token, text: &[u8]) -> bool
 pub fn path_of(token: &Token) -> Result<Option<Path>, NoMemory>
     ensures { IfOk result (IsPartFound a_path token.now) }
 {
-    let Ok(text) = ByteStr::from_utf8(token.word.clone()?) else {
-        return Ok(None);
+    Ok(path_in(token.word.clone()?))
+}
+
+/// The path that the token spells, to which the token's text goes over.
+pub fn take_path(token: &mut Token) -> Option<Path>
+    ensures { IsPartFound a_path token.old result }
+{
+    path_in(take_word(token))
+}
+
+/// The path that a word is.
+fn path_in(word: Bytes) -> Option<Path>
+    ensures { MatchOption result ((path : Names) → IsPath path → word ≡ path_text path → ⊥) (λ path. IsPath path × (word ≡ path_text path)) }
+{
+    let Ok(text) = ByteStr::from_utf8(word) else {
+        return None;
     };
     match Path::from_text(text) {
-        Ok(path) => Ok(Some(path)),
-        Err(_) => Ok(None),
+        Ok(path) => Some(path),
+        Err(_) => None,
     }
 }
 
@@ -40,13 +57,34 @@ pub fn path_of(token: &Token) -> Result<Option<Path>, NoMemory>
 pub fn name_of(token: &Token) -> Result<Option<Name>, NoMemory>
     ensures { IfOk result (IsPartFound a_name token.now) }
 {
-    let Ok(text) = ByteStr::from_utf8(token.word.clone()?) else {
-        return Ok(None);
+    Ok(name_in(token.word.clone()?))
+}
+
+/// The name that the token spells, to which the token's text goes over.
+pub fn take_name(token: &mut Token) -> Option<Name>
+    ensures { IsPartFound a_name token.old result }
+{
+    name_in(take_word(token))
+}
+
+/// The name that a word is.
+fn name_in(word: Bytes) -> Option<Name>
+    ensures { MatchOption result ((name : List ℕ) → IsName name → word ≡ name → ⊥) (λ name. IsName name × (word ≡ name)) }
+{
+    let Ok(text) = ByteStr::from_utf8(word) else {
+        return None;
     };
     match Name::from_text(text) {
-        Ok(name) => Ok(Some(name)),
-        Err(_) => Ok(None),
+        Ok(name) => Some(name),
+        Err(_) => None,
     }
+}
+
+/// The word that the token denotes, which the token no longer has.
+pub fn take_word(token: &mut Token) -> Bytes
+    ensures { result ≡ token.old.word }
+{
+    mem::replace(&mut token.word, Bytes::new())
 }
 
 /// The text that the token is, copied.

@@ -43,10 +43,11 @@ impl Reader {
         self.rest.is_empty()
     }
 
-    /// The tokens of the next line that isn't skipped. Refused with the number of that line where it spells none, and
-    /// with one past the last where only skipped lines are left. Costs one pass over the lines that are read.
-    pub fn line(&mut self, alloc: Global) -> Result<Vec<Token>, ScriptError>
-        ensures line { IfOk result (λ tokens. TakesLine (lines_of self.old.rest) tokens.items (lines_of self.new.rest)) }
+    /// Reads the tokens of the next line that isn't skipped, in place of those that were there. Refused with the number
+    /// of that line where it spells none, and with one past the last where only skipped lines are left. Costs one pass
+    /// over the lines that are read.
+    pub fn line(&mut self, alloc: Global, tokens: &mut Vec<Token>) -> Result<(), ScriptError>
+        ensures line { OnOk result (TakesLine (lines_of self.old.rest) tokens.new.items (lines_of self.new.rest)) }
         ensures count { OnOk result (Advances self.old self.new) }
         ensures number { OnOk result (self.new.number ≡ next_number self.old.number (lines_of self.old.rest)) }
         ensures bad { (number : ℕ) → result ≡ Err (ScriptError.BadLine number) → HasNoLine (lines_of self.old.rest) }
@@ -58,10 +59,10 @@ impl Reader {
         }
         let line = take_line(&mut self.rest)?;
         self.number += 1;
-        match words_of(alloc, line)? {
-            Some(tokens) => Ok(tokens),
-            None => Err(ScriptError::BadLine(self.number)),
+        if !words_of(alloc, line, tokens)? {
+            return Err(ScriptError::BadLine(self.number));
         }
+        Ok(())
     }
 
     /// Passes the skipped lines that come first.

@@ -7,7 +7,12 @@ use std::alloc::Global;
 use std::test::Fail;
 
 fn tokens(alloc: Global, line: &[u8]) -> Result<Option<Vec<Token>>, Fail> {
-    Ok(words_of(alloc, Bytes::copy_from_slice(alloc, line)?)?)
+    let mut tokens = Vec::new(alloc);
+    if words_of(alloc, Bytes::copy_from_slice(alloc, line)?, &mut tokens)? {
+        Ok(Some(tokens))
+    } else {
+        Ok(None)
+    }
 }
 
 fn is(token: &Token, bare: bool, word: &[u8]) -> bool {
@@ -185,8 +190,9 @@ fn reader(alloc: Global, text: &[u8]) -> Result<Reader, Fail> {
 fn numbers(alloc: Global, text: &[u8]) -> Result<Vec<u64>, Fail> {
     let mut numbers = Vec::new(alloc);
     let mut reader = reader(alloc, text)?;
+    let mut tokens = Vec::new(alloc);
     for _ in 0..text.len() + 1 {
-        match reader.line(alloc) {
+        match reader.line(alloc, &mut tokens) {
             Ok(_) => numbers.push(reader.number)?,
             Err(ScriptError::BadLine(number)) => {
                 numbers.push(number)?;

@@ -1,5 +1,5 @@
 //! The words of a line.
-ghost use Rattle.std.specs.Prelude.{◌≡◌, ◌==◌, ◌+◌, ◌<◌, List, ℕ, true, false, [], ◌∷◌, ◌++◌, length, drop, Option, Some, None, IfOk, IfSome, OnErr, MatchOption};
+ghost use Rattle.std.specs.Prelude.{◌≡◌, ◌==◌, ◌+◌, ◌<◌, ◌≤◌, List, ℕ, true, false, [], ◌∷◌, ◌++◌, length, take, drop, Option, Some, None, IfOk, IfSome, OnOk, OnErr, MatchOption};
 ghost use Rattle.std.specs.Bool.{MatchBool};
 ghost use Rattle.std.specs.List.{slice_split, list_all, position};
 ghost use Rattle.script_lang.specs.declared.words.Token.{Token};
@@ -22,20 +22,19 @@ pub struct Token {
     pub word: Bytes,
 }
 
-/// The tokens that a line spells, where it spells some. A bare word, and a quoted one without an escape, shares the
-/// line's bytes. Costs one pass over the line.
-pub fn words_of(alloc: Global, line: Bytes) -> Result<Option<Vec<Token>>, NoMemory>
-    ensures { IfOk result (λ found. MatchOption found ((tokens : List Token) → SpellsLine line tokens → ⊥)
-        (λ tokens. SpellsLine line tokens.items)) }
+/// Reads the tokens that a line spells, in place of those that were there. Whether it spells some. A bare word that is
+/// no common one, and a quoted one without an escape, shares the line's bytes. Costs one pass over the line.
+pub fn words_of(alloc: Global, line: Bytes, tokens: &mut Vec<Token>) -> Result<bool, NoMemory>
+    ensures { IfOk result (λ found. MatchBool found (SpellsLine line tokens.new.items) ((others : List Token) → SpellsLine line others → ⊥)) }
 {
-    let mut tokens = Vec::with_capacity(alloc, 4)?;
+    tokens.clear();
     let mut rest = line;
     loop {
-        let Some(goes_on) = take_token(alloc, &mut tokens, &mut rest)? else {
-            return Ok(None);
+        let Some(goes_on) = take_token(alloc, tokens, &mut rest)? else {
+            return Ok(false);
         };
         if !goes_on {
-            return Ok(Some(tokens));
+            return Ok(true);
         }
     }
 }
@@ -202,13 +201,45 @@ pub fn cut(text: &mut Bytes, mark: u8) -> Result<(Bytes, bool), NoMemory>
     match place_of(text.as_slice(), mark) {
         None => Ok((mem::replace(text, Bytes::new()), false)),
         Some(at) => {
-            let front = text.split_to(at)?;
+            let front = take_front(text, at)?;
             text.advance(1);
             Ok((front, true))
         }
     }
 }
 
+/// Takes so many bytes off a text. They share the text's bytes, but for a common word, which needs no share of them.
+fn take_front(text: &mut Bytes, at: usize) -> Result<Bytes, NoMemory>
+    requires { at ≤ length text.old }
+    ensures front { IfOk result (λ front. front ≡ take at text.old) }
+    ensures rest { OnOk result (text.new ≡ drop at text.old) }
+    ensures err { OnErr result (text.new ≡ text.old) }
+{
+    match common_word(&text.as_slice()[..at]) {
+        None => text.split_to(at),
+        Some(word) => {
+            text.advance(at);
+            Ok(word)
+        }
+    }
+}
+
+/// The word, where it is one of those that scripts repeat most.
+fn common_word(word: &[u8]) -> Option<Bytes>
+    ensures { IfSome result (λ common. common ≡ word.now) }
+{
+    match word {
+        b"create" => Some(Bytes::from_static(b"create")),
+        b"file" => Some(Bytes::from_static(b"file")),
+        b"folder" => Some(Bytes::from_static(b"folder")),
+        b"write" => Some(Bytes::from_static(b"write")),
+        b"delete" => Some(Bytes::from_static(b"delete")),
+        b"mark" => Some(Bytes::from_static(b"mark")),
+        _ => None,
+    }
+}
+
+/// Where the first such byte stands.
 pub fn place_of(text: &[u8], mark: u8) -> Option<usize>
     ensures place { result ≡ position (λ b. b == mark) text.now }
     ensures bound { IfSome result (λ at. at < length text.now) }
