@@ -227,7 +227,7 @@ fn attachments(alloc: Global) -> Result<Attachments, Fail> {
 /// Whether these are a description with the stamp 7, the marker 1 and bytes of partner 0.
 fn are_all(attachments: &Attachments) -> bool {
     attachments.desc_stamp == 7
-        && attachments.desc.as_slice() == b"{}"
+        && attachments.desc.as_slice() == b"{}".as_slice()
         && attachments.marks.get(1).is_some()
         && attachments.syncs.get(0).is_some()
 }
