@@ -1,18 +1,11 @@
 -- Values past their limits.
-use Rattle.std.proofs.Common.{◌≡◌, ℕ, true, refl, sym, ap, ◌∙◌}
-use Rattle.std.specs.Prelude.{Option, Some, None, is_some, IsSome, Result, Ok, Err}
+use Rattle.std.proofs.Common.{◌≡◌, refl, sym, ap, ◌∙◌}
+use Rattle.std.specs.Prelude.{Option, Some, None, Result, Ok, Err}
 use Rattle.std.specs.Option.{option_map}
-use Rattle.std.specs.FinMap.{get}
 use Rattle.mark_set.specs.declared.error.MarkError.{MarkError}
 use Rattle.mark_set.specs.declared.error.MarkError.TheVariants.{BadValue as Spoilt}
 use Rattle.mark_set.specs.declared.error.ValueCause.{ValueCause}
-use Rattle.ws_elem.specs.declared.element.Element.{Element}
-use Rattle.ws_ops.specs.Marking.{has_marker}
 use Rattle.ws_ops.specs.declared.refusal.OpRefusal.TheVariants.{BadValue}
-
--- the marker is there
-pub marker_there : (e d : Element) (id : ℕ) → e ≡ d → has_marker id (Some d) ≡ true → IsSome (get e.attached.marks id)
-marker_there e d id same h = ap (λ (x : Element). is_some (get x.attached.marks id)) same ∙ h
 
 -- what is done had no cause against it
 pub unspoilt : {A : Type 0} (c d : Option ValueCause) (r : Result A MarkError) (a : A) → c ≡ d → r ≡ Ok a → ((x : ValueCause) → c ≡ Some x → r ≡ Err (Spoilt x)) → option_map BadValue d ≡ None

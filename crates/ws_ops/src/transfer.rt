@@ -294,18 +294,19 @@ fn renumbered(alloc: Global, element: &Element, node: u64, stamp: u64) -> Result
 }
 
 /// What is attached to the element, with this stamp for a project's description, without markers and synchronisation
-/// bytes.
+/// bytes, of which nothing is copied.
 fn stamped(alloc: Global, element: &Element, stamp: u64) -> Result<Attached, NoMemory>
     ensures { IfOk result (λ attached. attached ≡ stamped stamp element.now) }
 {
-    let kept = element.attached.to_attachments()?;
+    let nothing = Attachments::none();
+    let kept = element.attached.or(&nothing);
     let stamped = Attachments {
         desc_stamp: if element.kind.is_project() {
             stamp
         } else {
             kept.desc_stamp
         },
-        desc: kept.desc,
+        desc: kept.desc.clone()?,
         ..Attachments::none()
     };
     Attached::of(alloc, stamped)
