@@ -2,17 +2,20 @@
 use Rattle.std.proofs.Common.{◌≡◌, ℕ, ◌+◌, Bool, true, false, cond, not, [], refl, sym, ap, ◌∙◌, arith}
 use Rattle.std.specs.Prelude.{Option, Some, None, ◌==◌}
 use Rattle.std.specs.FinMap.{empty, get, entries, get-entries}
+use Rattle.std.specs.Option.{option_map_or}
 use Rattle.std.proofs.lemmas.Bool.Decides.{nat_tests}
 use Rattle.res_path.specs.Paths.{Names}
 use Rattle.mark_set.specs.Deltas.{marker_deltas}
 use Rattle.mark_set.specs.Markers.{Marks, same_marks, same_marks-Decides}
 use Rattle.mark_set.proofs.Changes.{no_deltas}
 use Rattle.sync_set.specs.Syncs.{Syncs, same_syncs, same_syncs-Decides}
+use Rattle.ws_elem.specs.declared.attached.Attachments.{Attachments}
 use Rattle.ws_elem.specs.declared.element.Element.{Element}
+use Rattle.ws_elem.specs.Attached.{nothing_attached}
 use Rattle.ws_elem.specs.Trees.{Tree}
 use Rattle.delta_kind.specs.declared.row.Turn.TheVariants.{Lost, Gained}
 use Rattle.delta_kind.specs.declared.flags.TheConstants.{CONTENT, OPEN, TYPE, SYNC, MARKERS, REPLACED, DESCRIPTION, DERIVED_CHANGED}
-use Rattle.delta_kind.specs.Flags.{has_content, has_open, has_type, has_sync, has_markers, has_replaced, has_description, has_derived_changed, flag_if, flags_of, differs}
+use Rattle.delta_kind.specs.Flags.{has_content, has_open, has_type, has_sync, has_markers, has_replaced, has_description, has_derived_changed, marks_of, syncs_of, flag_if, flags_of, differs}
 use Rattle.delta_kind.specs.Moves.{lost, is_number, place_of}
 use Rattle.delta_kind.specs.Rows.{Rows, Sides, row_paths, turned, place_in, untouched}
 use Rattle.delta_kind.proofs.Merged.{RowsOf}
@@ -58,8 +61,30 @@ nothing_flagged = λ i. 0 + flag_if SYNC (not (idle_syncs empty i)) + flag_if MA
 pub nothing_marked : (m : Marks) → marker_deltas m m ≡ []
 nothing_marked m = (no_deltas m m).1 refl
 
-pub equal_marks : (a b : Marks) → same_marks a b ≡ true → marker_deltas a b ≡ []
-equal_marks a b h = (no_deltas a b).1 ((same_marks-Decides a b).0 h)
+pub equal_marks : (x y : Option Element) → not (has_markers x y) ≡ true → marker_deltas (marks_of x) (marks_of y) ≡ []
+equal_marks x y h = (no_deltas (marks_of x) (marks_of y)).1 ((same_marks-Decides (marks_of x) (marks_of y)).0 (by (same_marks (marks_of x) (marks_of y)) h))
+  where
+    by : (s : Bool) → not (not s) ≡ true → s ≡ true
+    by true h = refl
+    by false h = h
+
+-- what is attached to an element, nothing to one that isn't there; the same attached, the same bytes and markers
+abbrev attached_to : Option Element → Attachments
+attached_to x = option_map_or (λ e. e.attached) x nothing_attached
+
+pub same_syncs_kept : (x y : Option Element) → attached_to x ≡ attached_to y → false ≡ has_sync x y
+same_syncs_kept x y h = sym (ap not ((same_syncs-Decides (syncs_of x) (syncs_of y)).1 (by x ∙ ap (λ a. a.syncs) h ∙ sym (by y))))
+  where
+    by : (x : Option Element) → syncs_of x ≡ (attached_to x).syncs
+    by None = refl
+    by (Some e) = refl
+
+pub same_marks_kept : (x y : Option Element) → attached_to x ≡ attached_to y → false ≡ has_markers x y
+same_marks_kept x y h = sym (ap not ((same_marks-Decides (marks_of x) (marks_of y)).1 (by x ∙ ap (λ a. a.marks) h ∙ sym (by y))))
+  where
+    by : (x : Option Element) → marks_of x ≡ (attached_to x).marks
+    by None = refl
+    by (Some e) = refl
 
 pub untouched_is : (p : Names) → untouched p ≡ record { path = p; kind = 4; flags = 0; moved_from = None; moved_to = None; markers = [] }
 untouched_is p = λ i. record { path = p; kind = 4; flags = nothing_flagged i + 0; moved_from = None; moved_to = None; markers = nothing_marked empty i }

@@ -1,5 +1,5 @@
 //! The platform's kinds and flags of a change (`IResourceDelta`), and when each holds.
-ghost use Rattle.std.specs.Prelude.{◌≡◌, ◌≤◌, ◌<◌, ◌^◌, IfOk, unwrap_or};
+ghost use Rattle.std.specs.Prelude.{false, ◌≡◌, ◌≤◌, ◌<◌, ◌^◌, IfOk, unwrap_or};
 ghost use Rattle.std.specs.FinMap.{empty};
 ghost use Rattle.std.specs.Option.{option_copied, option_map_or};
 ghost use Rattle.ws_elem.specs.Attached.{nothing_attached};
@@ -82,9 +82,14 @@ fn has_type(before: Option<&Element>, after: Option<&Element>) -> bool
     }
 }
 
+/// Whether the synchronisation bytes differ.
+#[tactic(auto, using(crate::proofs::Moved::same_syncs_kept))]
 fn has_sync(before: Option<&Element>, after: Option<&Element>) -> bool
     ensures { result ≡ has_sync (option_copied before.entry) (option_copied after.entry) }
 {
+    if !has_attachments(before, after) {
+        return false;
+    }
     let none = SyncSet::empty();
     syncs_of(before, &none) != syncs_of(after, &none)
 }
@@ -99,9 +104,14 @@ fn syncs_of<'a>(element: Option<&'a Element>, none: &'a SyncSet) -> &'a SyncSet
     }
 }
 
+/// Whether the markers differ.
+#[tactic(auto, using(crate::proofs::Moved::same_marks_kept))]
 fn has_markers(before: Option<&Element>, after: Option<&Element>) -> bool
     ensures { result ≡ has_markers (option_copied before.entry) (option_copied after.entry) }
 {
+    if !has_attachments(before, after) {
+        return false;
+    }
     let none = MarkSet::empty();
     marks_of(before, &none) != marks_of(after, &none)
 }
@@ -144,6 +154,13 @@ fn stamp_of(element: &Element) -> u64
         Some(attachments) => attachments.desc_stamp,
         None => 0,
     }
+}
+
+/// Whether either keeps attachments; where neither does, the same is attached to both: nothing.
+fn has_attachments(before: Option<&Element>, after: Option<&Element>) -> bool
+    ensures { result ≡ false → option_map_or (λ e. e.attached) (option_copied before.entry) nothing_attached ≡ option_map_or (λ e. e.attached) (option_copied after.entry) nothing_attached }
+{
+    attachments_of(before).is_some() || attachments_of(after).is_some()
 }
 
 /// What is attached to the element, if there is one; none only where nothing is.
@@ -196,6 +213,7 @@ pub fn moved_flags(from: Option<&Path>, to: Option<&Path>) -> u32
 }
 
 /// What became of each marker of a path with these entries, by id. Where the markers are equal it takes no memory.
+#[tactic(auto, using(crate::proofs::Moved::equal_marks))]
 pub fn markers_of(
     alloc: Global,
     before: Option<&Element>,
@@ -203,18 +221,11 @@ pub fn markers_of(
 ) -> Result<MarkerDeltas, NoMemory>
     ensures { IfOk result (λ deltas. deltas ≡ marker_deltas (marks_of (option_copied before.entry)) (marks_of (option_copied after.entry))) }
 {
-    let none = MarkSet::empty();
-    marker_deltas(alloc, marks_of(before, &none), marks_of(after, &none))
-}
-
-#[tactic(auto, using(crate::proofs::Moved::equal_marks))]
-fn marker_deltas(alloc: Global, before: &MarkSet, after: &MarkSet) -> Result<MarkerDeltas, NoMemory>
-    ensures { IfOk result (λ deltas. deltas ≡ marker_deltas before.now after.now) }
-{
-    if before == after {
+    if !has_markers(before, after) {
         return Ok(MarkerDeltas::of(Vec::new(alloc)));
     }
-    let deltas = MarkSet::delta(alloc, before, after)?;
+    let none = MarkSet::empty();
+    let deltas = MarkSet::delta(alloc, marks_of(before, &none), marks_of(after, &none))?;
     Ok(MarkerDeltas::of(deltas))
 }
 
