@@ -31,7 +31,7 @@ get-tree_of [] q = get-empty path_cmp q
 get-tree_of (s ∷ slots) q =
     get-set_at (tree_of slots) s.0 s.1 q ∙ ap (cond (eq_by_cmp path_cmp q s.0) s.1) (get-tree_of slots q) ∙ joins (eq_by_cmp path_cmp q s.0) s.1 (slot_at slots q)
 
-symm : (p q : Names) → is_at (path_cmp p) q ≡ eq_by_cmp path_cmp q p
+pub symm : (p q : Names) → is_at (path_cmp p) q ≡ eq_by_cmp path_cmp q p
 symm p q = (eq_by_cmp_equiv path_cmp_total).symm p q
 
 flatten_cond : (b : Bool) (x y : Option (Option Element)) → option_flatten (cond b x y) ≡ cond b (option_flatten x) (option_flatten y)

@@ -4,3 +4,4 @@ pub mod Fresh
 pub mod Rooms
 pub mod Kept
 pub mod Filled
+pub mod Apart

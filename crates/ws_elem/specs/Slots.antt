@@ -58,6 +58,16 @@ emptied false = None
 abbrev pub SetsRoom : List Names → List Names → Names → Bool → Type 0
 SetsRoom old new p has = (q : Names) → is_among new q ≡ cond (is_at (path_cmp p) q) has (is_among old q)
 
+-- a path that is kept apart, if any, and the others
+abbrev pub one_and : Option Names → List Names → List Names
+one_and None ps = ps
+one_and (Some p) ps = p ∷ ps
+
+-- whether this path is kept apart
+abbrev pub is_kept_apart : Option Names → Names → Bool
+is_kept_apart None p = false
+is_kept_apart (Some q) p = is_at (path_cmp p) q
+
 -- the slot with room made in it
 abbrev pub opened : Option (Option Element) → Option (Option Element)
 opened None = Some None

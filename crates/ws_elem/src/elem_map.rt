@@ -8,14 +8,14 @@ ghost use Rattle.ws_elem.specs.Rooms.{no_room, has_room, with_room};
 ghost use Rattle.ws_elem.specs.Walks.{first_below, without_all};
 
 use crate::entries::Entries;
+use crate::room::RoomSet;
 use crate::slots::{
-    add_room, close_last, close_slot, element_in, fill_slot, one_more, open_slot, take_from,
-    undo_room,
+    close_last, close_slot, element_in, fill_slot, one_more, open_slot, take_from, undo_room,
 };
 use crate::{Element, Kind, NoMemory, TreeRep};
 use res_path::Path;
 use std::alloc::Global;
-use std::collections::{BTreeMap, BTreeSet};
+use std::collections::BTreeMap;
 use std::marker::Model;
 use std::ops::Bound;
 
@@ -27,7 +27,7 @@ use std::ops::Bound;
 pub struct ElemMap {
     // A slot for each path that has an element, and an empty one for each other path with room.
     slots: BTreeMap<Path, Option<Element>>,
-    room: BTreeSet<Path>,
+    room: RoomSet,
     // How many slots have an element.
     elements: usize,
 }
@@ -42,9 +42,9 @@ impl Model for ElemMap {
 
     ghost coded = { roomy_code element.the_row.coded };
 
-    ghost view = { λ m. record { map = tree_of m.slots.entries; room = set.from_list m.room.keys } };
+    ghost view = { λ m. record { map = tree_of m.slots.entries; room = set.from_list m.room } };
 
-    ghost invariant = { λ m. IsKept m.slots.entries m.room.keys m.elements };
+    ghost invariant = { λ m. IsKept m.slots.entries m.room m.elements };
 }
 
 impl ElemMap {
@@ -55,7 +55,7 @@ impl ElemMap {
     {
         ElemMap {
             slots: BTreeMap::new(alloc),
-            room: BTreeSet::new(alloc),
+            room: RoomSet::new(alloc),
             elements: 0,
         }
     }
@@ -143,7 +143,7 @@ impl ElemMap {
         ensures room { OnOk result (self.new.room ≡ with_room self.old.room path.now) }
         ensures no_room { OnErr result (self.new.room ≡ self.old.room) }
     {
-        let added = add_room(&mut self.room, path)?;
+        let added = self.room.add(path)?;
         let puts = match fill_slot(&mut self.slots, path, element) {
             Ok(puts) => puts,
             Err(wanted) => {
@@ -256,7 +256,7 @@ impl TreeRep for ElemMap {
             return Ok(());
         }
         open_slot(&mut self.slots, path)?;
-        if let Err(wanted) = add_room(&mut self.room, path) {
+        if let Err(wanted) = self.room.add(path) {
             close_slot(&mut self.slots, path);
             return Err(wanted);
         }
@@ -269,7 +269,7 @@ impl TreeRep for ElemMap {
             self.room.clear();
             return;
         }
-        while let Some(path) = self.room.pop_first() {
+        while let Some(path) = self.room.pop() {
             close_last(&mut self.slots, path);
         }
     }

@@ -14,6 +14,7 @@ mod elem_map;
 mod element;
 mod entries;
 mod kind;
+mod room;
 #[cfg(test)]
 mod room_tests;
 mod slots;

@@ -3,6 +3,8 @@ ghost use Rattle.std.specs.Prelude.{◌≡◌, true, OnOk, OnErr};
 ghost use Rattle.std.specs.FinMap as map;
 ghost use Rattle.ws_elem.specs.Rooms.{has_room, no_room};
 
+use crate::room::RoomSet;
+use crate::slots::undo_room;
 use crate::test_tools::{has, path};
 use crate::{ElemMap, Element, Kind, NoMemory, TreeRep};
 use res_path::Path;
@@ -243,6 +245,101 @@ fn an_element_moves_whole_or_not_at_all(rt: HostRuntime) -> Result<(), Fail> {
     ] {
         let shown = moved(rt.alloc(), from, to)?;
         assert_eq!(rt; shown.as_str(), wanted, "from {from}");
+    }
+    Ok(())
+}
+
+/// The paths of the tree once room at these paths, and a new file at the last of them, was made and the room dropped.
+fn dropped(alloc: Global, texts: &[&str], last: &str) -> Result<String, Fail> {
+    let mut tree = three(alloc)?;
+    for text in texts {
+        make_room(alloc, &mut tree, text)?;
+    }
+    new_files(alloc, &mut tree, &[last])?;
+    tree.drop_room();
+    walked(alloc, &tree)
+}
+
+#[test]
+fn room_at_several_paths_is_dropped(rt: HostRuntime) -> Result<(), Fail> {
+    let alloc = rt.alloc();
+    let two = dropped(alloc, &["/b", "/a/b"], "/a/b")?;
+    assert_eq!(rt; two.as_str(), "/a /a/b /a/f ");
+    let three = dropped(alloc, &["/a/b", "/a/f", "/b"], "/b")?;
+    assert_eq!(rt; three.as_str(), "/a /a/f /b ");
+    Ok(())
+}
+
+/// Room at these paths, one added after another.
+fn room_at(alloc: Global, texts: &[&str]) -> Result<RoomSet, Fail> {
+    let mut room = RoomSet::new(alloc);
+    for text in texts {
+        let at = path(alloc, text)?;
+        room.add(&at)?;
+    }
+    Ok(room)
+}
+
+/// Which of these paths have room, a blank after each.
+fn with_room(alloc: Global, room: &RoomSet, texts: &[&str]) -> Result<String, Fail> {
+    let mut told = String::new(alloc);
+    for text in texts {
+        let at = path(alloc, text)?;
+        if room.contains(&at) {
+            told.push_str(text)?;
+            told.push(' ')?;
+        }
+    }
+    Ok(told)
+}
+
+/// Takes up to four paths with room away, one after another, and gives them, a blank after each.
+fn popped(alloc: Global, mut room: RoomSet) -> Result<String, Fail> {
+    let mut told = String::new(alloc);
+    for _ in 0..4 {
+        let Some(at) = room.pop() else {
+            break;
+        };
+        told.push_str(at.as_str())?;
+        told.push(' ')?;
+    }
+    Ok(told)
+}
+
+#[test]
+fn a_path_that_has_room_gets_it_once(rt: HostRuntime) -> Result<(), Fail> {
+    let alloc = rt.alloc();
+    let two = room_at(alloc, &["/a", "/b", "/a", "/b"])?;
+    assert_eq!(rt; popped(alloc, two)?.as_str(), "/a /b ");
+    let three = room_at(alloc, &["/a", "/c", "/b", "/c"])?;
+    let copy = three.clone()?;
+    assert_eq!(rt; popped(alloc, three)?.as_str(), "/a /b /c ");
+    assert_eq!(rt;
+        with_room(alloc, &copy, &["/a", "/b", "/c", "/d"])?.as_str(),
+        "/a /b /c "
+    );
+    Ok(())
+}
+
+#[test]
+fn room_that_is_undone_leaves_the_rest(rt: HostRuntime) -> Result<(), Fail> {
+    let alloc = rt.alloc();
+    for (text, left) in [("/a", "/b /c "), ("/b", "/a /c "), ("/c", "/a /b ")] {
+        let mut room = room_at(alloc, &["/a", "/b", "/c"])?;
+        let at = path(alloc, text)?;
+        undo_room(&mut room, &at, false);
+        assert_eq!(rt;
+            with_room(alloc, &room, &["/a", "/b", "/c"])?.as_str(),
+            "/a /b /c "
+        );
+        undo_room(&mut room, &at, true);
+        assert_eq!(rt;
+            with_room(alloc, &room, &["/a", "/b", "/c"])?.as_str(),
+            left
+        );
+        assert!(rt; room.add(&at)?);
+        room.clear();
+        assert_eq!(rt; popped(alloc, room)?.as_str(), "");
     }
     Ok(())
 }

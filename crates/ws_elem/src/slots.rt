@@ -3,9 +3,10 @@ ghost use Rattle.std.specs.Prelude.{◌≡◌, ◌+◌, ◌<◌, ◌&&◌, true,
 ghost use Rattle.std.specs.Option.{option_copied, option_flatten};
 ghost use Rattle.ws_elem.specs.Slots.{slot_at, is_among, emptied, opened, filled_by, closed, is_empty_slot, SetsSlot, SetsRoom};
 
+use crate::room::RoomSet;
 use crate::{Element, NoMemory};
 use res_path::Path;
-use std::collections::{BTreeMap, BTreeSet};
+use std::collections::BTreeMap;
 
 /// The element in the slot, where there are both.
 pub(crate) fn element_in(slot: Option<&Option<Element>>) -> Option<&Element>
@@ -123,18 +124,9 @@ fn is_empty_slot(slot: Option<&Option<Element>>) -> bool
     }
 }
 
-/// Adds a copy of the path to those with room. Whether it had none.
-pub(crate) fn add_room(room: &mut BTreeSet<Path>, path: &Path) -> Result<bool, NoMemory>
-    ensures answer { IfOk result (λ added. added ≡ not (is_among room.old.keys path.now)) }
-    ensures ok { OnOk result (SetsRoom room.old.keys room.new.keys path.now true) }
-    ensures err { OnErr result (room.new.keys ≡ room.old.keys) }
-{
-    Ok(room.insert(path.copy()?)?)
-}
-
 /// Takes the path's room away again, where it was added.
-pub(crate) fn undo_room(room: &mut BTreeSet<Path>, path: &Path, added: bool)
-    ensures { SetsRoom room.old.keys room.new.keys path.now (not added && is_among room.old.keys path.now) }
+pub(crate) fn undo_room(room: &mut RoomSet, path: &Path, added: bool)
+    ensures { SetsRoom room.old room.new path.now (not added && is_among room.old path.now) }
 {
     if added {
         room.remove(path);

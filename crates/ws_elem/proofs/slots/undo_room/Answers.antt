@@ -8,6 +8,6 @@ use Rattle.ws_elem.proofs.slots.undo_room.Goals as goal
 
 pub returns-else-added : goal.returns-else-added
 returns-else-added c q =
-    let room = c.args.room.now.keys in
+    let room = c.args.room.now in
     let p = c.args.path.now in
     sets_no_room room p q ∙ ap (λ b. cond (is_at (path_cmp p) q) (not b && is_among room p) (is_among room q)) (sym c.if-added.false)

@@ -2,4 +2,4 @@ use Rattle.ws_elem.proofs.Kept.{kept_empty}
 use Rattle.ws_elem.proofs.elem_map.ElemMap.empty.Goals as goal
 
 pub invariant_of-result : goal.invariant_of-result
-invariant_of-result c = kept_empty c.new.result.entries c.new-2.result.keys c.new.ensures.empty c.new-2.ensures.empty
+invariant_of-result c = kept_empty c.new.result.entries c.new-2.result c.new.ensures.empty c.new-2.ensures
