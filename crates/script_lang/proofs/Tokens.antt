@@ -293,9 +293,9 @@ pub bare_none : (line part : List ℕ) (parts : List (List ℕ)) → starts_quot
 bare_none line part parts q e n = λ token more s. front_none line part parts q e n token.bare token.word more (front_of line token more s)
 
 pub bare_found : (line part rest : List ℕ) (goes_on : Bool) → MatchBool goes_on (slice_split (λ b. b == 32) line ≡ part ∷ slice_split (λ b. b == 32) rest) (slice_split (λ b. b == 32) line ≡ part ∷ [])
-    → MatchBool goes_on (length part + 1 + length rest ≡ length line) ((part ≡ line) × (rest ≡ [])) → is_bare part ≡ true → StartsWith line (record { bare = true; word = part }) (left_after goes_on rest)
-bare_found line part rest false e f h = bare_last line part f.0 h
-bare_found line part rest true e f h = bare_more line part rest e h
+    → is_bare part ≡ true → StartsWith line (record { bare = true; word = part }) (left_after goes_on rest)
+bare_found line part rest false e h = bare_last line part (sym (ap (join_with_byte 32) e) ∙ join_with_byte-slice_split 32 line) h
+bare_found line part rest true e h = bare_more line part rest e h
 
 pub bare_unfound : (line part rest : List ℕ) (goes_on : Bool) → MatchBool goes_on (slice_split (λ b. b == 32) line ≡ part ∷ slice_split (λ b. b == 32) rest) (slice_split (λ b. b == 32) line ≡ part ∷ [])
     → starts_quoted line ≡ false → is_bare part ≡ false → StartsWithNone line

@@ -1,5 +1,5 @@
 -- How a script is read, line by line.
-use Rattle.std.specs.Prelude.{◌≡◌, ℕ, ◌+◌, ◌≤◌, List, [], ◌∷◌, ◌++◌, map, length, true, Option, Some, None, codes}
+use Rattle.std.specs.Prelude.{◌≡◌, ℕ, ◌+◌, ◌≤◌, Bool, true, false, not, List, [], ◌∷◌, ◌++◌, map, length, Option, Some, None, codes}
 use Rattle.std.specs.List.{flat_map}
 use Rattle.sched_rules.specs.declared.ws_atom.WsAtom.{WsAtom}
 use Rattle.script_lang.specs.declared.verb.Verb.{Verb}
@@ -85,6 +85,24 @@ verb_word Show = codes "show"
 verb_word Cat = codes "cat"
 verb_word Tree = codes "tree"
 verb_word Digest = codes "digest"
+
+-- a line that begins with the verb has no other word
+abbrev pub stands_alone : Verb → Bool
+stands_alone Phase = true
+stands_alone EndPhase = true
+stands_alone EndJob = true
+stands_alone Batch = true
+stands_alone EndBatch = true
+stands_alone Checkpoint = true
+stands_alone verb = false
+
+-- a line that begins with the verb is one of an operation
+abbrev pub begins_operation : Verb → Bool
+begins_operation Job = false
+begins_operation Begin = false
+begins_operation TryBegin = false
+begins_operation End = false
+begins_operation verb = not (stands_alone verb)
 
 -- a line that begins with the verb and goes on with these tokens
 abbrev pub begun_with : Verb → List Token → List Token

@@ -1,8 +1,8 @@
 //! Which line of a script the words of a line are.
-ghost use Rattle.std.specs.Prelude.{◌≡◌, ◌≢◌, [], IfOk, MatchOption};
+ghost use Rattle.std.specs.Prelude.{◌≡◌, ◌≢◌, [], true, IfOk, MatchOption};
 ghost use Rattle.script_lang.specs.declared.line.Line.TheVariants.{InJob};
 ghost use Rattle.script_lang.specs.declared.script.Command.TheVariants.{Operation};
-ghost use Rattle.script_lang.specs.Reading.{IsLineOf, begun_with};
+ghost use Rattle.script_lang.specs.Reading.{IsLineOf, begun_with, stands_alone, begins_operation};
 
 use crate::NoMemory;
 use crate::line::Line;
@@ -33,20 +33,44 @@ fn line_with(alloc: Global, verb: Verb, rest: &mut [Token]) -> Result<Option<Lin
     ensures { IfOk result (IsLineOf (begun_with verb rest.old)) }
 {
     match verb {
+        Verb::Job => job_line(alloc, rest),
+        Verb::Begin => begin_line(alloc, rest),
+        Verb::TryBegin => try_begin_line(alloc, rest),
+        Verb::End => end_line(alloc, rest),
+        Verb::Phase
+        | Verb::EndPhase
+        | Verb::EndJob
+        | Verb::Batch
+        | Verb::EndBatch
+        | Verb::Checkpoint => lone_line(verb, rest),
+        _ => operation_line(alloc, verb, rest),
+    }
+}
+
+/// The line of an operation that begins with the verb and goes on with these tokens.
+fn operation_line(alloc: Global, verb: Verb, rest: &mut [Token]) -> Result<Option<Line>, NoMemory>
+    requires { begins_operation verb ≡ true }
+    ensures { IfOk result (IsLineOf (begun_with verb rest.old)) }
+{
+    match operation_with(alloc, verb, rest)? {
+        None => Ok(None),
+        Some(op) => Ok(Some(doing(op))),
+    }
+}
+
+/// The line that is its verb alone.
+fn lone_line(verb: Verb, rest: &[Token]) -> Result<Option<Line>, NoMemory>
+    requires { stands_alone verb ≡ true }
+    ensures { IfOk result (IsLineOf (begun_with verb rest.now)) }
+{
+    match verb {
         Verb::Phase => Ok(alone(rest, Line::BeginPhase)),
         Verb::EndPhase => Ok(alone(rest, Line::EndPhase)),
-        Verb::Job => job_line(alloc, rest),
         Verb::EndJob => Ok(alone(rest, Line::EndJob)),
         Verb::Batch => Ok(alone(rest, Line::InJob(Command::Batch))),
         Verb::EndBatch => Ok(alone(rest, Line::InJob(Command::EndBatch))),
         Verb::Checkpoint => Ok(alone(rest, Line::InJob(Command::Checkpoint))),
-        Verb::Begin => begin_line(alloc, rest),
-        Verb::TryBegin => try_begin_line(alloc, rest),
-        Verb::End => end_line(alloc, rest),
-        _ => match operation_with(alloc, verb, rest)? {
-            None => Ok(None),
-            Some(op) => Ok(Some(doing(op))),
-        },
+        _ => Ok(None),
     }
 }
 

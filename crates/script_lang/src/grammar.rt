@@ -20,8 +20,9 @@ use std::alloc::Global;
 /// The script that the text spells. Refused with the number of the first bad line where it spells none: the first
 /// one at which no continuation could make the lines so far the beginning of a script; one past the last where the
 /// text ends too early. Lines are counted from 1, also those that are skipped. The words share the text's bytes but
-/// for those with escapes, for a few common ones, which take no memory, and for the texts of markers, which are
-/// copied. Costs one pass over the text, and for each atom of a rule one over the rule of the atoms before it.
+/// for those with escapes, for a few common ones before a space, which take no memory, and for the texts of markers,
+/// which are copied. Costs one pass over the text, and for each atom of a rule one over the rule of the atoms
+/// before it.
 pub fn parse(alloc: Global, text: Bytes) -> Result<Script, ScriptError>
     ensures found { IfOk result (IsScript text) }
     ensures all { (script : Script) → IsScript text script → MatchResult result (λ found. found ≡ script) (λ e. e ≡ Memory) }
@@ -31,7 +32,7 @@ pub fn parse(alloc: Global, text: Bytes) -> Result<Script, ScriptError>
     let mut tokens = Vec::new(alloc);
     let mut progress = Progress::new(alloc);
     while !is_whole(&mut reader, &progress) {
-        progress = step(&mut reader, alloc, &mut tokens, progress)?;
+        step(&mut reader, alloc, &mut tokens, &mut progress)?;
     }
     Ok(Script {
         phases: progress.phases,
@@ -53,16 +54,17 @@ fn step(
     reader: &mut Reader,
     alloc: Global,
     tokens: &mut Vec<Token>,
-    progress: Progress,
-) -> Result<Progress, ScriptError>
-    ensures read { IfOk result (Steps (lines_of reader.old.rest) (lines_of reader.new.rest) progress) }
+    progress: &mut Progress,
+) -> Result<(), ScriptError>
+    ensures read { OnOk result (Steps (lines_of reader.old.rest) (lines_of reader.new.rest) progress.old progress.new) }
     ensures count { OnOk result (Advances reader.old reader.new) }
-    ensures bad { (number : ℕ) → result ≡ Err (BadLine number) → IsStuck reader.old.number (lines_of reader.old.rest) progress number }
+    ensures bad { (number : ℕ) → result ≡ Err (BadLine number) → IsStuck reader.old.number (lines_of reader.old.rest) progress.old number }
 {
     let line = next_line(reader, alloc, tokens)?;
-    match progress.advanced(alloc, line)? {
-        Some(next) => Ok(next),
-        None => Err(ScriptError::BadLine(reader.number)),
+    if progress.advance(alloc, line)? {
+        Ok(())
+    } else {
+        Err(ScriptError::BadLine(reader.number))
     }
 }
 

@@ -10,8 +10,8 @@ ghost use Rattle.ws_ops.specs.declared.op.Op.TheVariants.{Mark, Attr, ClearMarks
 
 use crate::NoMemory;
 use crate::part_text::{
-    any_word, depth_word, name_word, path_word, put_four, put_integer, put_next, put_number,
-    put_three, put_two, switch_word, text_word, truth_word, want_word,
+    any_word, depth_word, name_word, path_word, put_created, put_four, put_integer, put_next,
+    put_number, put_three, put_two, switch_word, text_word, truth_word, want_word,
 };
 use bytes::Bytes;
 use mark_set::{RawAttrs, RawText, RawValue};
@@ -26,10 +26,11 @@ pub fn put_doing(out: &mut Vec<u8>, op: &Op) -> Result<(), NoMemory>
     ensures parts { OnOk result (AreParts (operation_parts op.now)) }
 {
     match op {
-        Op::CreateProject(path) => put_three(out, b"create", b"project", path_word(path)),
-        Op::CreateFolder(path) => put_three(out, b"create", b"folder", path_word(path)),
+        Op::CreateProject(path) => put_created(out, b"project", path_word(path)),
+        Op::CreateFolder(path) => put_created(out, b"folder", path_word(path)),
         Op::CreateFile(path, bytes) => {
-            put_four(out, b"create", b"file", path_word(path), any_word(bytes))
+            put_created(out, b"file", path_word(path))?;
+            put_next(out, any_word(bytes))
         }
         Op::Delete(path) => put_two(out, b"delete", path_word(path)),
         Op::Write(path, bytes) => put_three(out, b"write", path_word(path), any_word(bytes)),

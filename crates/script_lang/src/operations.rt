@@ -1,5 +1,5 @@
 //! Which operation the words of a line are.
-ghost use Rattle.std.specs.Prelude.{◌∷◌, codes, IfOk};
+ghost use Rattle.std.specs.Prelude.{◌≢◌, ◌∷◌, codes, IfOk};
 ghost use Rattle.script_lang.specs.Commands.{keyword, FitsPart, operation_parts};
 ghost use Rattle.script_lang.specs.Reading.{IsFound, begun_with};
 
@@ -20,29 +20,41 @@ pub fn operation_with(alloc: Global, verb: Verb, rest: &mut [Token]) -> Result<O
     ensures { IfOk result (IsFound operation_parts (begun_with verb rest.old)) }
 {
     match verb {
-        Verb::Create => Ok(created(rest)),
-        Verb::Delete => Ok(deleted(rest)),
-        Verb::Write => Ok(written(rest)),
-        Verb::Touch => Ok(touched(rest)),
-        Verb::Derived => Ok(derived(rest)),
-        Verb::Move => Ok(moved(rest)),
-        Verb::Copy => Ok(copied(rest)),
-        Verb::Open => Ok(opened(rest)),
-        Verb::Close => Ok(closed(rest)),
-        Verb::Describe => Ok(described(rest)),
         Verb::Mark => marked(alloc, rest),
         Verb::Attr => set(alloc, rest),
-        Verb::Unmark => Ok(unmarked(rest)),
         Verb::ClearMarks => cleared(alloc, rest),
-        Verb::Partner => Ok(registered(rest)),
-        Verb::Sync => Ok(synchronised(rest)),
-        Verb::NoSync => Ok(unsynchronised(rest)),
-        Verb::Flush => Ok(flushed(rest)),
-        Verb::Show => Ok(shown(rest)),
-        Verb::Cat => Ok(told(rest)),
-        Verb::Tree => Ok(listed(rest)),
-        Verb::Digest => Ok(digested(rest)),
-        _ => Ok(None),
+        _ => Ok(plain_operation(verb, rest)),
+    }
+}
+
+/// The operation whose line begins so, where it is one of those whose texts aren't copied.
+fn plain_operation(verb: Verb, rest: &mut [Token]) -> Option<Op>
+    requires mark { verb ≢ Verb.Mark }
+    requires attr { verb ≢ Verb.Attr }
+    requires clear_marks { verb ≢ Verb.ClearMarks }
+    ensures { IsFound operation_parts (begun_with verb rest.old) result }
+{
+    match verb {
+        Verb::Create => created(rest),
+        Verb::Delete => deleted(rest),
+        Verb::Write => written(rest),
+        Verb::Touch => touched(rest),
+        Verb::Derived => derived(rest),
+        Verb::Move => moved(rest),
+        Verb::Copy => copied(rest),
+        Verb::Open => opened(rest),
+        Verb::Close => closed(rest),
+        Verb::Describe => described(rest),
+        Verb::Unmark => unmarked(rest),
+        Verb::Partner => registered(rest),
+        Verb::Sync => synchronised(rest),
+        Verb::NoSync => unsynchronised(rest),
+        Verb::Flush => flushed(rest),
+        Verb::Show => shown(rest),
+        Verb::Cat => told(rest),
+        Verb::Tree => listed(rest),
+        Verb::Digest => digested(rest),
+        _ => None,
     }
 }
 

@@ -1,9 +1,9 @@
 //! How the parts of a line are printed.
-ghost use Rattle.std.specs.Prelude.{◌≡◌, ◌++◌, ◌∷◌, decimal, OnOk, FitsSigned};
+ghost use Rattle.std.specs.Prelude.{◌≡◌, ◌++◌, ◌∷◌, true, codes, decimal, OnOk, FitsSigned};
 ghost use Rattle.std.specs.Fmt.{signed_decimal};
 ghost use Rattle.std.specs.Int.{w32};
 ghost use Rattle.res_path.specs.Paths.{path_text};
-ghost use Rattle.script_lang.specs.Words.{AreBytes, Grows, word_text};
+ghost use Rattle.script_lang.specs.Words.{AreBytes, Grows, is_bare, word_text};
 ghost use Rattle.script_lang.specs.Commands.{a_name, a_number, a_path, a_text, a_word, depth_word, priority_word, switch_word, truth_word, want_word};
 ghost use Rattle.script_lang.specs.Printed.{IsPart};
 
@@ -17,7 +17,18 @@ use res_path::{Name, Path};
 use ws_elem::Depth;
 use ws_ops::Want;
 
-/// Appends four words with one space between.
+/// Appends `create`, what is created, which can stand bare, and its path, with one space between.
+pub fn put_created(out: &mut Vec<u8>, kind: &[u8], path: &[u8]) -> Result<(), NoMemory>
+    requires { is_bare kind.now ≡ true }
+    ensures text { OnOk result (out.new.items ≡ out.old.items ++ (word_text (codes "create") ++ 32 ∷ (word_text kind.now ++ 32 ∷ word_text path.now))) }
+    ensures kept { Grows out.old.items out.new.items }
+{
+    put(out, b"create ")?;
+    put(out, kind)?;
+    put_next(out, path)
+}
+
+/// Appends four words with one space between. The first can stand bare.
 pub fn put_four(
     out: &mut Vec<u8>,
     first: &[u8],
@@ -25,6 +36,7 @@ pub fn put_four(
     third: &[u8],
     fourth: &[u8],
 ) -> Result<(), NoMemory>
+    requires { is_bare first.now ≡ true }
     ensures text { OnOk result (out.new.items
         ≡ out.old.items ++ (word_text first.now ++ 32 ∷ (word_text second.now ++ 32 ∷ (word_text third.now ++ 32 ∷ word_text fourth.now)))) }
     ensures kept { Grows out.old.items out.new.items }
@@ -33,13 +45,14 @@ pub fn put_four(
     put_next(out, fourth)
 }
 
-/// Appends three words with one space between.
+/// Appends three words with one space between. The first can stand bare.
 pub fn put_three(
     out: &mut Vec<u8>,
     first: &[u8],
     second: &[u8],
     third: &[u8],
 ) -> Result<(), NoMemory>
+    requires { is_bare first.now ≡ true }
     ensures text { OnOk result (out.new.items ≡ out.old.items ++ (word_text first.now ++ 32 ∷ (word_text second.now ++ 32 ∷ word_text third.now))) }
     ensures kept { Grows out.old.items out.new.items }
 {
@@ -47,12 +60,13 @@ pub fn put_three(
     put_next(out, third)
 }
 
-/// Appends two words with a space between.
+/// Appends two words with a space between. The first can stand bare.
 pub fn put_two(out: &mut Vec<u8>, first: &[u8], second: &[u8]) -> Result<(), NoMemory>
+    requires { is_bare first.now ≡ true }
     ensures text { OnOk result (out.new.items ≡ out.old.items ++ (word_text first.now ++ 32 ∷ word_text second.now)) }
     ensures kept { Grows out.old.items out.new.items }
 {
-    put_word(out, first)?;
+    put(out, first)?;
     put_next(out, second)
 }
 
@@ -157,7 +171,8 @@ pub fn depth_word(depth: Depth) -> &'static [u8]
 }
 
 pub fn want_word(want: Want) -> &'static [u8]
-    ensures { result.now ≡ want_word want }
+    ensures word { result.now ≡ want_word want }
+    ensures bare { is_bare result.now ≡ true }
 {
     match want {
         Want::Show => b"show",

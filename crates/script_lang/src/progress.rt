@@ -1,12 +1,14 @@
 //! How far a script is read.
-ghost use Rattle.std.specs.Prelude.{◌≡◌, IfOk, IsTrue, ◌↔◌, []};
+ghost use Rattle.std.specs.Prelude.{◌≡◌, IfOk, IsTrue, ◌↔◌, [], if◌then◌else◌, Some, None};
 ghost use Rattle.script_lang.specs.declared.progress.Place.TheVariants.{Outside, BeforeJob, WithinJob, AfterJob};
 ghost use Rattle.script_lang.specs.Reading.{goes};
+ghost use Rattle.script_lang.specs.declared.line.Line.TheVariants.{InJob};
 
 use crate::NoMemory;
 use crate::line::Line;
-use crate::script::{Commands, Job, Jobs, Phase, Phases};
+use crate::script::{Command, Commands, Job, Jobs, Phase, Phases};
 use std::alloc::Global;
+use std::mem;
 
 /// What may follow the lines read.
 #[derive(Drop)]
@@ -52,8 +54,45 @@ impl Progress {
         }
     }
 
+    /// Goes on by one more line. Whether the line may stand here; nothing is said of what was read where it may not.
+    pub fn advance(&mut self, alloc: Global, line: Line) -> Result<bool, NoMemory>
+        ensures { IfOk result (λ goes_on. goes self.old line ≡ (if goes_on then Some self.new else None)) }
+    {
+        match line {
+            Line::InJob(command) => self.put_command(command),
+            bound => self.pass_bound(alloc, bound),
+        }
+    }
+
+    /// Goes on by a command of a job.
+    fn put_command(&mut self, command: Command) -> Result<bool, NoMemory>
+        ensures { IfOk result (λ goes_on. goes self.old (InJob command) ≡ (if goes_on then Some self.new else None)) }
+    {
+        match &mut self.place {
+            Place::WithinJob(job) => {
+                job.commands.push(command)?;
+                Ok(true)
+            }
+            _ => Ok(false),
+        }
+    }
+
+    /// Goes on by the first or last line of a phase or a job.
+    fn pass_bound(&mut self, alloc: Global, line: Line) -> Result<bool, NoMemory>
+        ensures { IfOk result (λ goes_on. goes self.old line ≡ (if goes_on then Some self.new else None)) }
+    {
+        let so_far = mem::replace(self, Progress::new(alloc));
+        match so_far.advanced(alloc, line)? {
+            None => Ok(false),
+            Some(next) => {
+                *self = next;
+                Ok(true)
+            }
+        }
+    }
+
     /// After one more line, if the line may stand here.
-    pub fn advanced(self, alloc: Global, line: Line) -> Result<Option<Progress>, NoMemory>
+    fn advanced(self, alloc: Global, line: Line) -> Result<Option<Progress>, NoMemory>
         ensures { IfOk result (λ next. next ≡ goes self line) }
     {
         let Progress { phases, place } = self;

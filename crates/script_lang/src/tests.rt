@@ -195,6 +195,22 @@ fn a_change_of_resources_has_a_line(rt: HostRuntime) -> Result<(), Fail> {
 }
 
 #[test]
+fn a_word_that_lines_begin_with_may_stand_behind(rt: HostRuntime) -> Result<(), Fail> {
+    let lines: [&[u8]; 6] = [
+        b"create file /create file",
+        b"create file /file create",
+        b"write /P/a mark",
+        b"describe /P delete",
+        b"mark /P/a mark write int 1",
+        b"partner folder",
+    ];
+    for line in lines {
+        assert!(rt; is_read_back(rt.alloc(), line)?);
+    }
+    Ok(())
+}
+
+#[test]
 fn a_change_of_markers_has_a_line(rt: HostRuntime) -> Result<(), Fail> {
     let lines: [&[u8]; 9] = [
         b"mark /P/a t",
@@ -321,8 +337,10 @@ fn a_batch_begins_is_told_of_and_ends(rt: HostRuntime) -> Result<(), Fail> {
 
 #[test]
 fn a_line_of_no_form_is_bad(rt: HostRuntime) -> Result<(), Fail> {
-    let lines: [&[u8]; 18] = [
+    let lines: [&[u8]; 20] = [
         b"frob",
+        b"create",
+        b"mark",
         b"forget /P",
         b"delete",
         b"delete /P /Q",

@@ -28,7 +28,9 @@ fn is_one(tokens: &[Token], bare: bool, word: &[u8]) -> bool {
 
 #[test]
 fn a_bare_word_denotes_itself(rt: HostRuntime) -> Result<(), Fail> {
-    let words: [&[u8]; 7] = [b"a", b"!", b"~", b"\\n", b"a#", b"0x\\41", b"caf'e"];
+    let words: [&[u8]; 9] = [
+        b"a", b"!", b"~", b"\\n", b"a#", b"0x\\41", b"caf'e", b"create", b"file",
+    ];
     for word in words {
         match tokens(rt.alloc(), word)? {
             Some(tokens) => assert!(rt; is_one(tokens.as_slice(), true, word)),
@@ -85,12 +87,39 @@ fn words_have_one_space_between(rt: HostRuntime) -> Result<(), Fail> {
     Ok(())
 }
 
+/// Whether the line's tokens are two bare words.
+fn are_two(alloc: Global, line: &[u8], first: &[u8], second: &[u8]) -> Result<bool, Fail> {
+    let Some(tokens) = tokens(alloc, line)? else {
+        return Ok(false);
+    };
+    match tokens.as_slice() {
+        [one, other] => Ok(is(one, true, first) && is(other, true, second)),
+        _ => Ok(false),
+    }
+}
+
+#[test]
+fn a_common_word_denotes_itself_before_a_space_and_at_the_end(rt: HostRuntime) -> Result<(), Fail> {
+    let alloc = rt.alloc();
+    assert!(rt; are_two(alloc, b"create file", b"create", b"file")?);
+    assert!(rt; are_two(alloc, b"file folder", b"file", b"folder")?);
+    assert!(rt; are_two(alloc, b"folder write", b"folder", b"write")?);
+    assert!(rt; are_two(alloc, b"write delete", b"write", b"delete")?);
+    assert!(rt; are_two(alloc, b"delete mark", b"delete", b"mark")?);
+    assert!(rt; are_two(alloc, b"mark create", b"mark", b"create")?);
+    assert!(rt; are_two(alloc, b"creat marks", b"creat", b"marks")?);
+    Ok(())
+}
+
 #[test]
 fn no_other_line_spells_words(rt: HostRuntime) -> Result<(), Fail> {
-    let lines: [&[u8]; 35] = [
+    let lines: [&[u8]; 38] = [
         b"",
         b" ",
         b"a ",
+        b"create ",
+        b"create  file",
+        b"file\"",
         b" a",
         b"a  b",
         b"a\tb",

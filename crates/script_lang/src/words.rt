@@ -70,12 +70,76 @@ fn take_bare(tokens: &mut Vec<Token>, line: &mut Bytes) -> Result<Option<bool>, 
     ensures { IfOk result (λ found. MatchOption found (StartsWithNone line.old)
         (λ goes_on. TakesToken line.old line.new tokens.old.items tokens.new.items goes_on)) }
 {
-    let (word, goes_on) = cut(line, b' ')?;
-    if !is_bare(word.as_slice()) {
+    let Front {
+        word,
+        goes_on,
+        bare,
+    } = cut_word(line)?;
+    if !bare {
         return Ok(None);
     }
     tokens.push(Token { bare: true, word })?;
     Ok(Some(goes_on))
+}
+
+/// What stood in front of a line.
+#[derive(Drop)]
+struct Front {
+    /// What stood before the first space.
+    word: Bytes,
+    /// Whether there is a space.
+    goes_on: bool,
+    /// Whether it can stand bare.
+    bare: bool,
+}
+
+/// Takes what stands before the first space off a line, and the space too; where there is none, all of the line.
+/// Nothing is copied. A common word needs no share of the line's bytes, and isn't looked at again.
+fn cut_word(line: &mut Bytes) -> Result<Front, NoMemory>
+    ensures parts { IfOk result (λ front. MatchBool front.goes_on
+        (slice_split (λ b. b == 32) line.old ≡ front.word ∷ slice_split (λ b. b == 32) line.new)
+        (slice_split (λ b. b == 32) line.old ≡ front.word ∷ [])) }
+    ensures bare { IfOk result (λ front. front.bare ≡ is_bare front.word) }
+{
+    match place_of(line.as_slice(), b' ') {
+        None => {
+            let word = mem::replace(line, Bytes::new());
+            let bare = is_bare(word.as_slice());
+            Ok(Front {
+                word,
+                goes_on: false,
+                bare,
+            })
+        }
+        Some(at) => cut_at(line, at),
+    }
+}
+
+/// Takes what stands before the first space off a line, and the space too, where this is the space's place.
+fn cut_at(line: &mut Bytes, at: usize) -> Result<Front, NoMemory>
+    requires place { position (λ b. b == 32) line.old ≡ Some at }
+    requires bound { at < length line.old }
+    ensures parts { IfOk result (λ front. MatchBool front.goes_on
+        (slice_split (λ b. b == 32) line.old ≡ front.word ∷ slice_split (λ b. b == 32) line.new)
+        (slice_split (λ b. b == 32) line.old ≡ front.word ∷ [])) }
+    ensures bare { IfOk result (λ front. front.bare ≡ is_bare front.word) }
+{
+    if let Some(word) = common_word(&line.as_slice()[..at]) {
+        line.advance(at + 1);
+        return Ok(Front {
+            word,
+            goes_on: true,
+            bare: true,
+        });
+    }
+    let word = line.split_to(at)?;
+    line.advance(1);
+    let bare = is_bare(word.as_slice());
+    Ok(Front {
+        word,
+        goes_on: true,
+        bare,
+    })
 }
 
 fn take_quoted(
@@ -201,32 +265,17 @@ pub fn cut(text: &mut Bytes, mark: u8) -> Result<(Bytes, bool), NoMemory>
     match place_of(text.as_slice(), mark) {
         None => Ok((mem::replace(text, Bytes::new()), false)),
         Some(at) => {
-            let front = take_front(text, at)?;
+            let front = text.split_to(at)?;
             text.advance(1);
             Ok((front, true))
         }
     }
 }
 
-/// Takes so many bytes off a text. They share the text's bytes, but for a common word, which needs no share of them.
-fn take_front(text: &mut Bytes, at: usize) -> Result<Bytes, NoMemory>
-    requires { at ≤ length text.old }
-    ensures front { IfOk result (λ front. front ≡ take at text.old) }
-    ensures rest { OnOk result (text.new ≡ drop at text.old) }
-    ensures err { OnErr result (text.new ≡ text.old) }
-{
-    match common_word(&text.as_slice()[..at]) {
-        None => text.split_to(at),
-        Some(word) => {
-            text.advance(at);
-            Ok(word)
-        }
-    }
-}
-
 /// The word, where it is one of those that scripts repeat most.
 fn common_word(word: &[u8]) -> Option<Bytes>
-    ensures { IfSome result (λ common. common ≡ word.now) }
+    ensures same { IfSome result (λ common. common ≡ word.now) }
+    ensures bare { IfSome result (λ common. is_bare common ≡ true) }
 {
     match word {
         b"create" => Some(Bytes::from_static(b"create")),

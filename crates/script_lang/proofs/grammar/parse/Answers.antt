@@ -19,28 +19,28 @@ read_on : (lines : List (List ℕ)) (old new : Reader) (progress : Progress) →
     → HasRead lines (lines_of new.rest) new.number progress
 read_on lines old new progress h s a = read_skips lines old.rest new.rest old.number new.number progress h s a.same
 
-pub returns-in_err-progress-clause-all : goal.returns-in_err-progress-clause-all
-returns-in_err-progress-clause-all c = λ script s.
+pub returns-in_err-step-clause-all : goal.returns-in_err-step-clause-all
+returns-in_err-step-clause-all c = λ script s.
     let p = err_from_is_err_and c.from_residual.result c.from_residual.ensures.1 in
     let read = read_on (lines_of c.args.text) c.loop-alloc.reader c.is_whole.new.reader c.loop-alloc.progress c.loop-alloc.invariant c.is_whole.ensures.rest c.is_whole.ensures.count in
     refused c.from_residual.result p.0 p.1
     (λ number e. stuck_none (lines_of c.args.text) (lines_of c.is_whole.new.reader.rest) c.is_whole.new.reader.number number c.loop-alloc.progress read
-    (c.in_err-progress.ensures.bad number (ap Err (sym p.2 ∙ e))) (λ w. not_both c.is_whole.result c.loop-alloc-test.true (c.is_whole.ensures.whole.1 w)) script s)
+    (c.in_err-step.ensures.bad number (ap Err (sym p.2 ∙ e))) (λ w. not_both c.is_whole.result c.loop-alloc-test.true (c.is_whole.ensures.whole.1 w)) script s)
     script
 
-pub returns-in_err-progress-clause-bad : goal.returns-in_err-progress-clause-bad
-returns-in_err-progress-clause-bad c = λ number e.
+pub returns-in_err-step-clause-bad : goal.returns-in_err-step-clause-bad
+returns-in_err-step-clause-bad c = λ number e.
     let p = err_from_is_err_and c.from_residual.result c.from_residual.ensures.1 in
     let read = read_on (lines_of c.args.text) c.loop-alloc.reader c.is_whole.new.reader c.loop-alloc.progress c.loop-alloc.invariant c.is_whole.ensures.rest c.is_whole.ensures.count in
     first_bad c.args.text (lines_of c.is_whole.new.reader.rest) c.is_whole.new.reader.number number c.loop-alloc.progress read
-    (c.in_err-progress.ensures.bad number (ap Err (sym p.2 ∙ err_same p.0 (BadLine number) (sym p.1 ∙ e))))
+    (c.in_err-step.ensures.bad number (ap Err (sym p.2 ∙ err_same p.0 (BadLine number) (sym p.1 ∙ e))))
     (λ w. not_both c.is_whole.result c.loop-alloc-test.true (c.is_whole.ensures.whole.1 w))
 
 pub loop-alloc-preserved : goal.loop-alloc-preserved
 loop-alloc-preserved c =
     let read = read_on (lines_of c.args.text) c.loop-alloc.reader c.is_whole.new.reader c.loop-alloc.progress c.loop-alloc.invariant c.is_whole.ensures.rest c.is_whole.ensures.count in
     read_step (lines_of c.args.text) (lines_of c.is_whole.new.reader.rest) (lines_of c.step.new.reader.rest) c.is_whole.new.reader.number c.step.new.reader.number
-    c.loop-alloc.progress c.in_ok-progress.progress read c.in_ok-progress.ensures.read c.in_ok-progress.ensures.count.same
+    c.loop-alloc.progress c.step.new.progress read c.in_ok-step.ensures.read c.in_ok-step.ensures.count.same
 
 pub returns-clause-all : goal.returns-clause-all
 returns-clause-all c = λ script s.

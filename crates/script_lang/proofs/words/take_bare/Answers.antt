@@ -1,18 +1,17 @@
-use Rattle.std.proofs.Common.{true, sym, ◌∙◌, ap}
-use Rattle.script_lang.specs.Words.{is_bare}
+use Rattle.std.proofs.Common.{true, sym, ◌∙◌}
 use Rattle.script_lang.proofs.Tokens.{bare_found, bare_unfound}
 use Rattle.script_lang.proofs.words.take_bare.Goals as goal
 
-pub returns-then-not-is_bare : goal.returns-then-not-is_bare
-returns-then-not-is_bare c =
-    bare_unfound c.args.line.now c.in_ok-word.word c.cut.new.text c.in_ok-word.goes_on c.in_ok-word.ensures.parts c.requires
-    (ap is_bare (sym c.as_slice.ensures) ∙ sym c.is_bare.ensures ∙ c.if-not-is_bare.true)
+pub returns-then-not-bare : goal.returns-then-not-bare
+returns-then-not-bare c =
+    bare_unfound c.args.line.now c.in_ok-word.field-0.word c.cut_word.new.line c.in_ok-word.field-0.goes_on c.in_ok-word.ensures.parts c.requires
+    (sym c.in_ok-word.ensures.bare ∙ c.if-not-bare.true)
 
 pub returns : goal.returns
 returns c = record {
-  token = record { bare = true; word = c.in_ok-word.word };
+  token = record { bare = true; word = c.in_ok-word.field-0.word };
   all_are = c.in_ok-push.ensures.items;
   starts =
-      bare_found c.args.line.now c.in_ok-word.word c.cut.new.text c.in_ok-word.goes_on c.in_ok-word.ensures.parts c.in_ok-word.ensures.whole
-      (ap is_bare (sym c.as_slice.ensures) ∙ sym c.is_bare.ensures ∙ c.if-not-is_bare.false);
+      bare_found c.args.line.now c.in_ok-word.field-0.word c.cut_word.new.line c.in_ok-word.field-0.goes_on c.in_ok-word.ensures.parts
+      (sym c.in_ok-word.ensures.bare ∙ c.if-not-bare.false);
 }
