@@ -83,6 +83,7 @@ fn has_type(before: Option<&Element>, after: Option<&Element>) -> bool
 }
 
 /// Whether the synchronisation bytes differ.
+#[inline(always)]
 #[tactic(auto, using(crate::proofs::Moved::same_syncs_kept))]
 fn has_sync(before: Option<&Element>, after: Option<&Element>) -> bool
     ensures { result ≡ has_sync (option_copied before.entry) (option_copied after.entry) }
@@ -105,6 +106,7 @@ fn syncs_of<'a>(element: Option<&'a Element>, none: &'a SyncSet) -> &'a SyncSet
 }
 
 /// Whether the markers differ.
+#[inline(always)]
 #[tactic(auto, using(crate::proofs::Moved::same_marks_kept))]
 fn has_markers(before: Option<&Element>, after: Option<&Element>) -> bool
     ensures { result ≡ has_markers (option_copied before.entry) (option_copied after.entry) }
@@ -157,6 +159,7 @@ fn stamp_of(element: &Element) -> u64
 }
 
 /// Whether either keeps attachments; where neither does, the same is attached to both: nothing.
+#[inline(always)]
 fn has_attachments(before: Option<&Element>, after: Option<&Element>) -> bool
     ensures { result ≡ false → option_map_or (λ e. e.attached) (option_copied before.entry) nothing_attached ≡ option_map_or (λ e. e.attached) (option_copied after.entry) nothing_attached }
 {

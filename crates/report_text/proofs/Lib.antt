@@ -1,2 +1,3 @@
 pub mod Relative
 pub mod Branches
+pub mod Flags

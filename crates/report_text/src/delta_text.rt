@@ -64,7 +64,18 @@ fn put_sign(out: &mut Vec<u8>, kind: u8) -> Result<(), NoMemory>
 }
 
 /// Appends the names of the flags that are set, in the order of their numbers.
+#[tactic(auto, using(crate::proofs::Flags::unset_names))]
 fn put_flags(out: &mut Vec<u8>, node: &DeltaNode) -> Result<(), NoMemory>
+    ensures { OnOk result (out.new.items ≡ out.old.items ++ flag_names node.now) }
+{
+    if node.flags == 0 {
+        return put_moved(out, node);
+    }
+    put_set_flags(out, node)
+}
+
+/// The same, where each flag is asked for.
+fn put_set_flags(out: &mut Vec<u8>, node: &DeltaNode) -> Result<(), NoMemory>
     ensures { OnOk result (out.new.items ≡ out.old.items ++ flag_names node.now) }
 {
     put_where_set(out, node.flags, CONTENT, " CONTENT")?;

@@ -18,3 +18,4 @@ pub mod Spelling
 pub mod Whole
 pub mod Texts
 pub mod Spaced
+pub mod Places

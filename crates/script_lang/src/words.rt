@@ -10,6 +10,7 @@ ghost use Rattle.script_lang.specs.Tokens.{starts_quoted, after_token, left_afte
 use crate::NoMemory;
 use crate::quoted::{denoted, quote_place};
 use bytes::Bytes;
+use memchr::memchr;
 use std::alloc::Global;
 use std::mem;
 
@@ -289,9 +290,10 @@ fn common_word(word: &[u8]) -> Option<Bytes>
 }
 
 /// Where the first such byte stands.
+#[tactic(auto, using(crate::proofs::Places::first_place))]
 pub fn place_of(text: &[u8], mark: u8) -> Option<usize>
     ensures place { result ≡ position (λ b. b == mark) text.now }
     ensures bound { IfSome result (λ at. at < length text.now) }
 {
-    text.iter().position(|b| *b == mark)
+    memchr(mark, text)
 }
