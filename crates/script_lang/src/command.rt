@@ -42,7 +42,7 @@ fn line_with(alloc: Global, verb: Verb, rest: &mut [Token]) -> Result<Option<Lin
         | Verb::EndJob
         | Verb::Batch
         | Verb::EndBatch
-        | Verb::Checkpoint => lone_line(verb, rest),
+        | Verb::Checkpoint => Ok(lone_line(verb, rest)),
         _ => operation_line(alloc, verb, rest),
     }
 }
@@ -59,18 +59,18 @@ fn operation_line(alloc: Global, verb: Verb, rest: &mut [Token]) -> Result<Optio
 }
 
 /// The line that is its verb alone.
-fn lone_line(verb: Verb, rest: &[Token]) -> Result<Option<Line>, NoMemory>
+fn lone_line(verb: Verb, rest: &[Token]) -> Option<Line>
     requires { stands_alone verb ≡ true }
-    ensures { IfOk result (IsLineOf (begun_with verb rest.now)) }
+    ensures { IsLineOf (begun_with verb rest.now) result }
 {
     match verb {
-        Verb::Phase => Ok(alone(rest, Line::BeginPhase)),
-        Verb::EndPhase => Ok(alone(rest, Line::EndPhase)),
-        Verb::EndJob => Ok(alone(rest, Line::EndJob)),
-        Verb::Batch => Ok(alone(rest, Line::InJob(Command::Batch))),
-        Verb::EndBatch => Ok(alone(rest, Line::InJob(Command::EndBatch))),
-        Verb::Checkpoint => Ok(alone(rest, Line::InJob(Command::Checkpoint))),
-        _ => Ok(None),
+        Verb::Phase => alone(rest, Line::BeginPhase),
+        Verb::EndPhase => alone(rest, Line::EndPhase),
+        Verb::EndJob => alone(rest, Line::EndJob),
+        Verb::Batch => alone(rest, Line::InJob(Command::Batch)),
+        Verb::EndBatch => alone(rest, Line::InJob(Command::EndBatch)),
+        Verb::Checkpoint => alone(rest, Line::InJob(Command::Checkpoint)),
+        _ => None,
     }
 }
 
