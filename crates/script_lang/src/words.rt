@@ -101,6 +101,7 @@ fn cut_word(line: &mut Bytes) -> Result<Front, NoMemory>
         (slice_split (λ b. b == 32) line.old ≡ front.word ∷ slice_split (λ b. b == 32) line.new)
         (slice_split (λ b. b == 32) line.old ≡ front.word ∷ [])) }
     ensures bare { IfOk result (λ front. front.bare ≡ is_bare front.word) }
+    ensures err { OnErr result (line.new ≡ line.old) }
 {
     match place_of(line.as_slice(), b' ') {
         None => {
@@ -124,6 +125,7 @@ fn cut_at(line: &mut Bytes, at: usize) -> Result<Front, NoMemory>
         (slice_split (λ b. b == 32) line.old ≡ front.word ∷ slice_split (λ b. b == 32) line.new)
         (slice_split (λ b. b == 32) line.old ≡ front.word ∷ [])) }
     ensures bare { IfOk result (λ front. front.bare ≡ is_bare front.word) }
+    ensures err { OnErr result (line.new ≡ line.old) }
 {
     if let Some(word) = common_word(&line.as_slice()[..at]) {
         line.advance(at + 1);
