@@ -3,6 +3,7 @@ pub mod Kinds
 pub mod Depths
 pub mod Elements
 pub mod Trees
+pub mod Stamps
 pub mod Walks
 pub mod Rooms
 pub mod RoomyTrees
