@@ -13,7 +13,7 @@ use crate::script::Command;
 use crate::verb::{Verb, verb_of};
 use crate::words::Token;
 use std::alloc::Global;
-use ws_ops::Op;
+use op_kind::Op;
 
 /// What a line of these words says, where a script may have it.
 pub fn line_of(alloc: Global, tokens: &mut [Token]) -> Result<Option<Line>, NoMemory>

@@ -13,7 +13,7 @@ use crate::parts::is_key;
 use crate::verb::Verb;
 use crate::words::Token;
 use std::alloc::Global;
-use ws_ops::{Op, Want};
+use op_kind::{Op, Want};
 
 /// The operation whose line begins with the verb and goes on with these tokens.
 pub fn operation_with(alloc: Global, verb: Verb, rest: &mut [Token]) -> Result<Option<Op>, NoMemory>

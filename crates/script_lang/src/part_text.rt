@@ -15,7 +15,7 @@ use itoa::Buffer;
 use mark_set::RawText;
 use res_path::{Name, Path};
 use ws_elem::Depth;
-use ws_ops::Want;
+use op_kind::Want;
 
 /// Appends `create`, what is created, which can stand bare, and its path, with one space between.
 pub fn put_created(out: &mut Vec<u8>, kind: &[u8], path: &[u8]) -> Result<(), NoMemory>

@@ -6,7 +6,7 @@ use crate::{NoMemory, ScriptRule};
 use res_path::Name;
 use std::alloc::Global;
 use std::marker::Model;
-use ws_ops::Op;
+use op_kind::Op;
 
 /// One command of a job.
 #[derive(Debug, Drop)]

@@ -7,9 +7,9 @@ use Rattle.sched_rules.specs.declared.ws_atom.WsAtom.{WsAtom}
 use Rattle.rule_table.specs.Tables.{IsApart}
 use Rattle.rule_table.specs.declared.held.Held.{Held}
 use Rattle.ws_elem.proofs.Fresh.{whole-fresh_tree}
-use Rattle.ws_ops.specs.declared.op.Op.{Op}
-use Rattle.ws_ops.specs.declared.refusal.OpRefusal.{OpRefusal}
-use Rattle.ws_ops.specs.Refusals as ops
+use Rattle.op_kind.specs.declared.op.Op.{Op}
+use Rattle.op_kind.specs.declared.refusal.OpRefusal.{OpRefusal}
+use Rattle.op_kind.specs.Refusals as ops
 use Rattle.ws_ops.proofs.SoundFresh as fresh_resources
 use Rattle.ws_ops.proofs.SoundKept as kept
 use Rattle.ws_core.specs.declared.event.Event.{Event}

@@ -4,8 +4,8 @@ use Rattle.std.specs.Prelude.{None as nothing}
 use Rattle.sched_rules.specs.Atoms.{atom_conflicts}
 use Rattle.sched_rules.specs.declared.ws_atom.WsAtom.{WsAtom}
 use Rattle.rule_table.specs.Tables.{is_free, without_last, without}
-use Rattle.ws_ops.specs.declared.op.Op.{Op}
-use Rattle.ws_ops.specs.Effects as ops
+use Rattle.op_kind.specs.declared.op.Op.{Op}
+use Rattle.op_kind.specs.Effects as ops
 use Rattle.ws_core.specs.declared.event.Event.{Event}
 use Rattle.ws_core.specs.declared.event.Event.TheVariants.{Enter, Leave, Schedule, Take, Finish, Begin, TryBegin, End, Batch, EndBatch, Checkpoint, Operation}
 use Rattle.ws_core.specs.declared.reply.Answer.{Answer}

@@ -1,12 +1,12 @@
 -- What an operation is answered and does, refused or not.
 use Rattle.std.specs.Prelude.{Option, Some, None}
-use Rattle.ws_ops.specs.declared.answer.OpAnswer.{OpAnswer}
-use Rattle.ws_ops.specs.declared.answer.OpAnswer.TheVariants as op_answers
-use Rattle.ws_ops.specs.declared.op.Op.{Op}
-use Rattle.ws_ops.specs.declared.refusal.OpRefusal.{OpRefusal}
-use Rattle.ws_ops.specs.Resources.{Resources}
-use Rattle.ws_ops.specs.Refusals.{refusal}
-use Rattle.ws_ops.specs.Effects.{effect}
+use Rattle.op_kind.specs.declared.answer.OpAnswer.{OpAnswer}
+use Rattle.op_kind.specs.declared.answer.OpAnswer.TheVariants as op_answers
+use Rattle.op_kind.specs.declared.op.Op.{Op}
+use Rattle.op_kind.specs.declared.refusal.OpRefusal.{OpRefusal}
+use Rattle.op_kind.specs.Resources.{Resources}
+use Rattle.op_kind.specs.Refusals.{refusal}
+use Rattle.op_kind.specs.Effects.{effect}
 use Rattle.ws_core.specs.declared.reply.Answer.{Answer}
 use Rattle.ws_core.specs.declared.reply.Answer.TheVariants as answers
 use Rattle.ws_core.specs.declared.reply.Refusal.TheVariants as refusals

@@ -6,8 +6,8 @@ use Rattle.std.specs.Ordering.{eq_by_cmp}
 use Rattle.sched_rules.specs.Atoms.{atom_cmp}
 use Rattle.sched_rules.specs.declared.ws_atom.WsAtom.{WsAtom}
 use Rattle.rule_table.specs.Tables.{last_rule, rules_held}
-use Rattle.ws_ops.specs.Refusals.{is_spent}
-use Rattle.ws_ops.specs.Refusals as ops
+use Rattle.op_kind.specs.Refusals.{is_spent}
+use Rattle.op_kind.specs.Refusals as ops
 use Rattle.ws_core.specs.declared.event.Event.{Event}
 use Rattle.ws_core.specs.declared.event.Event.TheVariants.{Enter, Leave, Schedule, Take, Finish, Begin, TryBegin, End, Batch, EndBatch, Checkpoint, Operation}
 use Rattle.ws_core.specs.declared.reply.Refusal.{Refusal}

@@ -3,8 +3,8 @@ use Rattle.std.specs.Prelude.{◌≡◌, List}
 use Rattle.ws_elem.specs.Trees.{Whole}
 use Rattle.sched_rules.specs.Atoms.{atom_contains, atom_conflicts}
 use Rattle.rule_table.specs.Tables.{IsApart}
-use Rattle.ws_ops.specs.Sound as ops
-use Rattle.ws_ops.specs.Stamps.{IsKnown}
+use Rattle.op_kind.specs.Sound as ops
+use Rattle.op_kind.specs.Stamps.{IsKnown}
 use Rattle.ws_core.specs.declared.history.Entry.{Entry}
 use Rattle.ws_core.specs.declared.state.State.{State}
 use Rattle.ws_core.specs.Histories.{Legal, replay}

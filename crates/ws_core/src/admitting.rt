@@ -13,7 +13,7 @@ use crate::operation_rules::{contains_operation, operation_rule};
 use crate::{Answer, Event, NoMemory, Refusal, State, WsRule};
 use rule_table::{BeginError, EndError};
 use std::alloc::{AllocError, Global};
-use ws_ops::Op;
+use op_kind::Op;
 
 impl State {
     /// Why the event of the pass isn't admitted by its rule, if it isn't. Costs one pass over the held rules. It takes no

@@ -5,7 +5,7 @@ ghost use Rattle.ws_core.specs.Events.{change_of, is_read};
 
 use crate::WsRule;
 use res_path::{Name, NoMemory};
-use ws_ops::Op;
+use op_kind::Op;
 
 /// What a pass may ask of the core.
 #[derive(Clone, Debug, Drop)]

@@ -3,9 +3,9 @@ ghost use Rattle.std.specs.Prelude.{◌≡◌, IfOk, OnOk, OnErr};
 ghost use Rattle.delta_kind.specs.Deltas.{delta};
 ghost use Rattle.ws_ops.specs.Backs.{taken_back};
 ghost use Rattle.ws_ops.specs.Changes.{HasRooms};
-ghost use Rattle.ws_ops.specs.Refusals.{refusal};
-ghost use Rattle.ws_ops.specs.Resources.{resources};
-ghost use Rattle.ws_ops.specs.Sound.{IsSound};
+ghost use Rattle.op_kind.specs.Refusals.{refusal};
+ghost use Rattle.op_kind.specs.Resources.{resources};
+ghost use Rattle.op_kind.specs.Sound.{IsSound};
 ghost use Rattle.ws_core.specs.Operations.{answered, operated};
 ghost use Rattle.ws_core.specs.Steps.{some_nodes};
 
@@ -14,7 +14,8 @@ use crate::{Answer, NoMemory, Refusal, Reply};
 use std::alloc::{AllocError, Global};
 use tree_flat::FlatTree;
 use ws_elem::{ElemMap, TreeRep};
-use ws_ops::{Applied, Op, OpAnswer, OpError, OpRefusal, Side, apply, take_back};
+use op_kind::{Op, OpAnswer, OpError, OpRefusal, Side};
+use ws_ops::{Applied, apply, take_back};
 
 /// Why the operation is refused, if it is. It is tried, and taken back: nothing has changed.
 pub fn refusal_of(

@@ -6,7 +6,7 @@ ghost use Rattle.ws_core.specs.Operations.{answered};
 use crate::{Apart, NoMemory, Notice, WsRule};
 use res_path::Name;
 use std::alloc::Global;
-use ws_ops::{Entries, OpAnswer, OpRefusal, Partners};
+use op_kind::{Entries, OpAnswer, OpRefusal, Partners};
 
 /// Why an event is refused. A refused event changes nothing.
 #[derive(Clone, Debug, Drop)]

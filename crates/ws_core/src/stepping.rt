@@ -1,6 +1,6 @@
 //! One step of a state.
 ghost use Rattle.std.specs.Prelude.{◌≡◌, IfOk, IfSome, OnOk, OnErr, Some, true, false, None as nothing};
-ghost use Rattle.ws_ops.specs.Refusals as ops;
+ghost use Rattle.op_kind.specs.Refusals as ops;
 ghost use Rattle.ws_core.specs.declared.event.Event.TheVariants.{Operation};
 ghost use Rattle.ws_core.specs.declared.reply.Answer.TheVariants.{Refused};
 ghost use Rattle.ws_core.specs.Events.{change_of};
@@ -17,7 +17,7 @@ use crate::{Answer, Event, NoMemory, Notice, Refusal, Reply, State};
 use std::alloc::Global;
 use tree_flat::FlatTree;
 use ws_elem::ElemMap;
-use ws_ops::{Op, OpRefusal};
+use op_kind::{Op, OpRefusal};
 
 impl State {
     /// Does the event of the pass, or refuses it with the first cause in the order of its list, and tells what changed

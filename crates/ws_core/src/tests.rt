@@ -12,7 +12,7 @@ use std::alloc::Global;
 use std::process::Abort;
 use std::test::Fail;
 use ws_elem::Depth;
-use ws_ops::{Entries, Op, OpRefusal, Want};
+use op_kind::{Entries, Op, OpRefusal, Want};
 
 /// What is asked, and what it is to be answered and to tell.
 type Case = (&'static str, &'static str);

@@ -8,13 +8,13 @@ use Rattle.ws_elem.specs.declared.element.Element.{Element}
 use Rattle.proj_desc.specs.Words.{cause_words}
 use Rattle.proj_desc.specs.declared.cause.DescCause.{DescCause}
 use Rattle.proj_desc.specs.declared.cause.DescCause.TheVariants.{Member, Double}
-use Rattle.ws_ops.specs.Entries.{Entries}
-use Rattle.ws_ops.specs.Partners.{Partners}
-use Rattle.ws_ops.specs.declared.op.Op.TheVariants.{Read}
-use Rattle.ws_ops.specs.declared.op.Want.{Want}
-use Rattle.ws_ops.specs.declared.op.Want.TheVariants.{Show, Cat, Tree, Digest}
-use Rattle.ws_ops.specs.declared.refusal.OpRefusal.{OpRefusal}
-use Rattle.ws_ops.specs.declared.refusal.OpRefusal.TheVariants as ops
+use Rattle.op_kind.specs.Entries.{Entries}
+use Rattle.op_kind.specs.Partners.{Partners}
+use Rattle.op_kind.specs.declared.op.Op.TheVariants.{Read}
+use Rattle.op_kind.specs.declared.op.Want.{Want}
+use Rattle.op_kind.specs.declared.op.Want.TheVariants.{Show, Cat, Tree, Digest}
+use Rattle.op_kind.specs.declared.refusal.OpRefusal.{OpRefusal}
+use Rattle.op_kind.specs.declared.refusal.OpRefusal.TheVariants as ops
 use Rattle.script_lang.specs.Words.{word_text}
 use Rattle.report_text.specs.Words.{path_word}
 use Rattle.report_text.specs.Elements.{shown_text}

@@ -1,5 +1,5 @@
 use Rattle.std.proofs.Common.{◌≡◌, ap, sym, ◌∙◌, subst, OnOk, IfErr}
-use Rattle.ws_ops.specs.Resources.{resources}
+use Rattle.op_kind.specs.Resources.{resources}
 use Rattle.rule_table.specs.Tables.{last_rule}
 use Rattle.rule_table.specs.Refusals.{RefusesEnd}
 use Rattle.rule_table.specs.declared.error.EndError.TheVariants.{NotLast, HoldsNothing}
