@@ -7,7 +7,7 @@ use Rattle.mark_set.specs.declared.delta.Change.TheVariants.{Added, Removed, Cha
 use Rattle.mark_set.specs.declared.delta.MarkerDelta.{MarkerDelta}
 use Rattle.delta_kind.specs.declared.node.DeltaNode.{DeltaNode}
 use Rattle.delta_kind.specs.declared.flags.TheConstants.{ADDED, REMOVED, CONTENT, OPEN, TYPE, SYNC, MARKERS, REPLACED, DESCRIPTION, DERIVED_CHANGED}
-use Rattle.script_lang.specs.Words.{word_text}
+use Rattle.script_words.specs.Words.{word_text}
 use Rattle.report_text.specs.Words.{path_word}
 
 abbrev pub sign : ℕ → List ℕ

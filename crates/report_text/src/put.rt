@@ -1,7 +1,7 @@
 //! Texts are gathered.
 ghost use Rattle.std.specs.Prelude.{◌≡◌, ◌<◌, ◌++◌, decimal, OnOk};
 ghost use Rattle.std.specs.Char.{digit_char};
-ghost use Rattle.script_lang.specs.Words.{word_text};
+ghost use Rattle.script_words.specs.Words.{word_text};
 ghost use Rattle.report_text.specs.Words.{path_word, hexadecimal};
 
 use crate::NoMemory;

@@ -1,20 +1,21 @@
 //! The script that a text spells.
 ghost use Rattle.std.specs.Prelude.{◌≡◌, ℕ, Err, IfOk, OnOk, MatchResult, IsTrue, ◌↔◌};
-ghost use Rattle.script_lang.specs.declared.error.ScriptError.TheVariants.{BadLine, Memory};
+ghost use Rattle.script_words.specs.declared.error.ScriptError.TheVariants.{BadLine, Memory};
 ghost use Rattle.script_lang.specs.declared.script.Script.{Script};
 ghost use Rattle.script_lang.specs.declared.progress.Progress.{Progress};
-ghost use Rattle.script_lang.specs.Lines.{lines_of, next_number, Skips};
+ghost use Rattle.script_words.specs.Lines.{lines_of};
+ghost use Rattle.script_words.specs.inside.Passing.{next_number, Skips};
 ghost use Rattle.script_lang.specs.Scripts.{IsScript, IsFirstBad};
-ghost use Rattle.script_lang.specs.Reading.{Advances, SaysNext, Steps, IsStuck, IsWhole};
+ghost use Rattle.script_words.specs.inside.Counts.{Advances};
+ghost use Rattle.script_lang.specs.inside.Reading.{SaysNext, Steps, IsStuck, IsWhole};
 
 use crate::ScriptError;
 use crate::command::line_of;
 use crate::line::Line;
 use crate::progress::Progress;
-use crate::reader::Reader;
 use crate::script::Script;
-use crate::words::Token;
 use bytes::Bytes;
+use script_words::{Reader, Token};
 use std::alloc::Global;
 
 /// The script that the text spells. Refused with the number of the first bad line where it spells none: the first

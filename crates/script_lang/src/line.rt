@@ -1,7 +1,7 @@
 //! What one line of a script says.
-use crate::ScriptRule;
 use crate::script::{Command, Priority};
 use res_path::Name;
+use script_parts::ScriptRule;
 
 /// What one line of a script says.
 #[derive(Debug, Drop)]

@@ -3,8 +3,8 @@ use Rattle.std.proofs.Common.{◌≡◌, ◌≢◌, ◌⊎◌, inl, inr, ℕ, Li
 use Rattle.std.specs.Prelude.{Result, Ok, Err, OnOk, OnErr, MatchResult, unwrap_or}
 use Rattle.ws_outside.specs.Streams.{Takes, IsAtEnd}
 use Rattle.script_lang.specs.declared.script.Script.{Script}
-use Rattle.script_lang.specs.declared.error.ScriptError.{ScriptError}
-use Rattle.script_lang.specs.declared.error.ScriptError.TheVariants.{BadLine, Memory}
+use Rattle.script_words.specs.declared.error.ScriptError.{ScriptError}
+use Rattle.script_words.specs.declared.error.ScriptError.TheVariants.{BadLine, Memory}
 use Rattle.script_lang.specs.Scripts.{IsScript, IsFirstBad}
 use Rattle.ws_core.specs.declared.history.Entry.{Entry}
 use Rattle.ws_top.specs.Limits.{ReadsAll}

@@ -5,7 +5,7 @@ ghost use Rattle.proj_desc.specs.Words.{cause_words};
 ghost use Rattle.report_text.specs.Elements.{shown_text};
 ghost use Rattle.report_text.specs.Rules.{rule_words};
 ghost use Rattle.report_text.specs.Trees.{digest_text};
-ghost use Rattle.script_lang.specs.Words.{word_text};
+ghost use Rattle.script_words.specs.Words.{word_text};
 ghost use Rattle.ws_top.specs.Replies.{event_text, cause_text, value_words, operation_refusal_text, refusal_text, first_text, contents_word, place_text, elements_text, read_text, seen_text, answer_text, entry_line, is_shown};
 ghost use Rattle.ws_top.specs.Texts.{bad_line};
 

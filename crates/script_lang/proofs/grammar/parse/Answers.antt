@@ -1,10 +1,11 @@
 use Rattle.std.proofs.Common.{ℕ, List, Err, ap, sym, ◌∙◌, subst}
 use Rattle.std.proofs.lemmas.Result.{err_from_is_err_and}
-use Rattle.script_lang.specs.declared.error.ScriptError.TheVariants.{BadLine}
+use Rattle.script_words.specs.declared.error.ScriptError.TheVariants.{BadLine}
 use Rattle.script_lang.specs.declared.progress.Progress.{Progress}
-use Rattle.script_lang.specs.declared.reader.Reader.{Reader}
-use Rattle.script_lang.specs.Lines.{lines_of, Skips}
-use Rattle.script_lang.specs.Reading.{Advances}
+use Rattle.script_words.specs.declared.reader.Reader.{Reader}
+use Rattle.script_words.specs.Lines.{lines_of}
+use Rattle.script_words.specs.inside.Passing.{Skips}
+use Rattle.script_words.specs.inside.Counts.{Advances}
 use Rattle.script_lang.proofs.Whole.{HasRead, read_none, read_skips, read_step, whole_script, whole_alone, first_bad, stuck_none, refused, not_both, err_same}
 use Rattle.script_lang.proofs.grammar.parse.Goals as goal
 

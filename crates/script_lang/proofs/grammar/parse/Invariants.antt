@@ -1,5 +1,5 @@
 use Rattle.std.proofs.Common.{length}
-use Rattle.script_lang.specs.Lines.{lines_of}
+use Rattle.script_words.specs.Lines.{lines_of}
 use Rattle.script_lang.proofs.Whole.{HasRead}
 use Rattle.script_lang.proofs.grammar.parse.Given as goal
 

@@ -1,10 +1,11 @@
 use Rattle.std.proofs.Common.{ℕ, List, [], ◌∷◌, ◌++◌, ◌∙◌, ap, append_assoc}
 use Rattle.std.specs.Prelude.{codes}
 use Rattle.script_lang.specs.declared.line.Line.TheVariants.{BeginJob}
-use Rattle.script_lang.specs.Words.{word_text}
-use Rattle.script_lang.specs.Commands.{rule_parts, priority_word}
+use Rattle.script_words.specs.Words.{word_text}
+use Rattle.script_parts.specs.Parts.{rule_parts}
+use Rattle.script_lang.specs.Commands.{priority_word}
 use Rattle.script_lang.specs.Scripts.{line_text}
-use Rattle.script_lang.proofs.Spaced.{three_words}
+use Rattle.script_parts.proofs.Spaced.{three_words}
 use Rattle.script_lang.proofs.printing.put_head.Goals as goal
 
 pub returns-clause-text : goal.returns-clause-text

@@ -1,8 +1,9 @@
 use Rattle.std.proofs.Common.{take, subst}
 use Rattle.std.specs.List.{AllByRecursion}
 use Rattle.script_lang.specs.declared.line.Line.TheVariants.{InJob}
-use Rattle.script_lang.specs.Printed.{IsLine}
-use Rattle.script_lang.proofs.Texts.{whole_taken, job_built, job_parts}
+use Rattle.script_lang.specs.inside.Printed.{IsLine}
+use Rattle.script_parts.proofs.Spaced.{whole_taken}
+use Rattle.script_lang.proofs.Texts.{job_built, job_parts}
 use Rattle.script_lang.proofs.printing.put_job.Goals as goal
 
 pub returns-clause-text : goal.returns-clause-text

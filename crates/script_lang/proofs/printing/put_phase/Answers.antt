@@ -2,9 +2,10 @@ use Rattle.std.proofs.Common.{take, subst}
 use Rattle.std.specs.List.{AllByRecursion}
 use Rattle.script_lang.specs.declared.script.Job.{Job}
 use Rattle.script_lang.specs.Scripts.{job_lines}
-use Rattle.script_lang.specs.Printed.{ended, AreLines}
-use Rattle.script_lang.proofs.Texts.{whole_taken, phase_built, phase_parts}
-use Rattle.script_lang.proofs.Spaced.{text_more, all_more}
+use Rattle.script_lang.specs.inside.Printed.{ended, AreLines}
+use Rattle.script_parts.proofs.Spaced.{whole_taken}
+use Rattle.script_lang.proofs.Texts.{phase_built, phase_parts}
+use Rattle.script_parts.proofs.Spaced.{text_more, all_more}
 use Rattle.script_lang.proofs.printing.put_phase.Goals as goal
 
 pub loop-job-preserved : goal.loop-job-preserved

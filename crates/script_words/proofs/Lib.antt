@@ -1,0 +1,9 @@
+pub mod Items
+pub mod Tokens
+pub mod Lined
+pub mod Grown
+pub mod Quoting
+pub mod Printed
+pub mod Taking
+pub mod Places
+mod Worked
