@@ -2,6 +2,7 @@ pub mod Items
 pub mod Tokens
 pub mod Lined
 pub mod Grown
+pub mod Pieces
 pub mod Quoting
 pub mod Printed
 pub mod Taking

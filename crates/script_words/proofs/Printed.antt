@@ -1,7 +1,7 @@
 -- What is printed spells the word.
 use Rattle.std.proofs.Common.{◌≡◌, ◌≢◌, inl, inr, ℕ, zero, suc, ◌+◌, ◌*◌, ◌/◌, ◌%◌, ◌<◌, ◌≤◌, Bool, true, false, not, ◌||◌, ◌==◌, nat_le, nat_lt, List, [], ◌∷◌, ◌++◌, map, length, take, drop, get_or, IsUtf8, Fits, w8, refl, sym, ◌∙◌, ap, subst, append_assoc, append-nil, arith, length-drop}
 use Rattle.std.specs.Prelude.{IsTrue, slice_index, if◌then◌else◌}
-use Rattle.std.specs.List.{slice_split, onto_first, list_all, flat_map, join_with_byte, AllByRecursion}
+use Rattle.std.specs.List.{slice_split, onto_first, list_all, flat_map, enumerate_from, join_with_byte, AllByRecursion}
 use Rattle.std.specs.Char.{digit_char, digit_value}
 use Rattle.std.specs.Str.Lossy.{utf8_valid_len, valid_len_up_to}
 use Rattle.std.specs.Str.{is_utf8}
@@ -12,11 +12,12 @@ use Rattle.std.proofs.lemmas.Str.{encode_ascii, digit_value-digit_char, IsUtf8-n
 use Rattle.std.proofs.lemmas.List.{take-append-drop}
 use Rattle.std.proofs.lemmas.List.Splits.{slice_split-cons_no}
 use lib.Utf8.{scalar, scalars, encode, encodes, low_scalar}
-use Rattle.script_words.specs.Words.{Word, AreBytes, Item, character, escape, hexadecimal, IsItem, item_text, item_bytes, is_plain, is_letter, is_hex, is_bare_byte, is_bare, SpellsQuoted, Spells, SpellsTokens, SpellsLine, hex_text, byte_text, quoted_front, quoted_within, quoted_text, word_text, printed, ReadsBack}
+use Rattle.script_words.specs.Words.{Word, AreBytes, Item, character, escape, hexadecimal, IsItem, item_text, item_bytes, is_plain, is_letter, is_hex, is_bare_byte, is_bare, SpellsQuoted, Spells, SpellsTokens, SpellsLine, hex_text, byte_text, is_in_text, quoted_byte, quoted_text, word_text, printed, ReadsBack}
 use Rattle.script_words.proofs.Items.{is_high, high_char, high_plain, no_items}
 use Rattle.script_words.specs.Lines.{is_line_feed, lines_of, is_skipped}
 use Rattle.script_words.proofs.Lined.{first_line}
 use Rattle.script_words.proofs.Quoting.{quoted_last, quoted_more}
+use Rattle.script_words.proofs.Pieces.{valid_utf8}
 
 -- ---- items one after another
 
@@ -100,18 +101,6 @@ pub utf8_spells : (text : List ℕ) → IsUtf8 text → SpellsQuoted (flat_map b
 utf8_spells text u = subst (λ t. SpellsQuoted (flat_map byte_text t) t) u.1.1 (chars_spell u.0 u.1.0)
 
 -- ---- words
-
-valid_front : (word : Word) (n : ℕ) → IsUtf8 (take (valid_len_up_to word n) word)
-valid_front word zero = IsUtf8-nil
-valid_front word (suc n) = by (is_utf8 (take (suc n) word)) refl (valid_front word n)
-  where
-    by : (t : Bool) → is_utf8 (take (suc n) word) ≡ t → IsUtf8 (take (valid_len_up_to word n) word) → IsUtf8 (take (valid_len_up_to word (suc n)) word)
-    by true e h = rw e (IsUtf8-from_is_utf8 (take (suc n) word) e)
-    by false e h = rw e h
-
-valid_utf8 : (word : Word) → IsUtf8 (take (utf8_valid_len word) word)
-unfolding utf8_valid_len
-valid_utf8 word = valid_front word (length word)
 
 bytes_drop : (n : ℕ) (xs : List ℕ) → AreBytes xs → AreBytes (drop n xs)
 bytes_drop zero xs h = h
@@ -198,20 +187,13 @@ bytes_no_feed : (xs : List ℕ) → has_no_line_feed (flat_map byte_text xs) ≡
 bytes_no_feed [] = refl
 bytes_no_feed (x ∷ xs) = feeds_append (byte_text x) (flat_map byte_text xs) (byte_no_feed x) (bytes_no_feed xs)
 
-front_no_feed : (more : Word → List ℕ) → ((rest : Word) → has_no_line_feed (more rest) ≡ true) → (word : Word) → has_no_line_feed (quoted_front more word) ≡ true
-front_no_feed more h word =
-    feeds_append (flat_map byte_text (take (utf8_valid_len word) word)) (after (utf8_valid_len word == length word)) (bytes_no_feed (take (utf8_valid_len word) word)) (by (utf8_valid_len word == length word))
+quoted_no_feed : (word : Word) (places : List (ℕ × ℕ)) → has_no_line_feed (flat_map (quoted_byte word) places) ≡ true
+quoted_no_feed word [] = refl
+quoted_no_feed word (at ∷ places) = feeds_append (quoted_byte word at) (flat_map (quoted_byte word) places) (by (is_in_text word at.0)) (quoted_no_feed word places)
   where
-    after : Bool → List ℕ
-    after t = if t then [] else hex_text (slice_index word (utf8_valid_len word)) ++ more (drop (utf8_valid_len word + 1) word)
-
-    by : (t : Bool) → has_no_line_feed (if t then [] else hex_text (slice_index word (utf8_valid_len word)) ++ more (drop (utf8_valid_len word + 1) word)) ≡ true
-    by true = refl
-    by false = feeds_append (hex_text (slice_index word (utf8_valid_len word))) (more (drop (utf8_valid_len word + 1) word)) (hex_no_feed (slice_index word (utf8_valid_len word))) (h (drop (utf8_valid_len word + 1) word))
-
-within_no_feed : (k : ℕ) (word : Word) → has_no_line_feed (quoted_within k word) ≡ true
-within_no_feed zero word = bytes_no_feed word
-within_no_feed (suc k) word = front_no_feed (quoted_within k) (within_no_feed k) word
+    by : (t : Bool) → has_no_line_feed (if t then byte_text at.1 else hex_text at.1) ≡ true
+    by true = byte_no_feed at.1
+    by false = hex_no_feed at.1
 
 bare_no_feed : (word : Word) → list_all is_bare_byte word ≡ true → has_no_line_feed word ≡ true
 bare_no_feed [] h = refl
@@ -226,7 +208,7 @@ text_no_feed word = by (is_bare word) refl
   where
     by : (t : Bool) → is_bare word ≡ t → has_no_line_feed (if t then word else 34 ∷ (quoted_text word ++ 34 ∷ [])) ≡ true
     by true e = bare_no_feed word (and_parts (nat_le 1 (length word)) (list_all is_bare_byte word) e).1
-    by false e = feeds_append (quoted_text word) (34 ∷ []) (within_no_feed (length word) word) refl
+    by false e = feeds_append (quoted_text word) (34 ∷ []) (quoted_no_feed word (enumerate_from 0 word)) refl
 
 -- nor has a line of words
 pub line_no_feed : (words : List Word) → has_no_line_feed (join_with_byte 32 (map word_text words)) ≡ true

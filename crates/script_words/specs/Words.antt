@@ -1,6 +1,6 @@
 -- Words, how a line spells them, and how they are printed.
 use Rattle.std.specs.Prelude.{◌≡◌, ◌≢◌, ℕ, zero, suc, ◌+◌, ◌*◌, ◌/◌, ◌%◌, ◌<◌, Bool, true, false, not, ◌&&◌, ◌||◌, ◌==◌, nat_le, nat_lt, if◌then◌else◌, List, [], ◌∷◌, ◌++◌, length, take, drop, slice_index, IsTrue}
-use Rattle.std.specs.List.{list_all, flat_map, join_with_byte, AllByRecursion}
+use Rattle.std.specs.List.{list_all, list_any, flat_map, enumerate_from, range_with_len, join_with_byte, AllByRecursion}
 use Rattle.std.specs.Char.{encode_utf8, IsScalar, digit_value, digit_char}
 use Rattle.std.specs.Str.Lossy.{utf8_valid_len}
 -- a word as it stands in a line: whether it stands bare, and the bytes that it denotes
@@ -110,19 +110,17 @@ byte_text b = if b == 34 || b == 92 then 92 ∷ b ∷ []
     else (if b == 13 then 92 ∷ 114 ∷ []
     else (if nat_lt b 32 || b == 127 then hex_text b else b ∷ []))))
 
--- the longest front that is UTF-8, then the byte after it by its digits, and then more
-abbrev pub quoted_front : (Word → List ℕ) → Word → List ℕ
-quoted_front more word = let valid = utf8_valid_len word in
-    flat_map byte_text (take valid word) ++ (if valid == length word then [] else hex_text (slice_index word valid) ++ more (drop (valid + 1) word))
+-- the byte at this place is part of valid UTF-8: a text in UTF-8 that begins at the place, or before it, goes on past it
+abbrev pub is_in_text : Word → ℕ → Bool
+is_in_text word place = list_any (λ start. nat_lt place (start + utf8_valid_len (drop start word))) (range_with_len 0 (suc place))
 
--- bytes between quotes, of which at most so many are no part of UTF-8
-abbrev pub quoted_within : ℕ → Word → List ℕ
-quoted_within zero word = flat_map byte_text word
-quoted_within (suc k) word = quoted_front (quoted_within k) word
+-- a place and its byte between quotes: by its two digits where it is no part of valid UTF-8
+abbrev pub quoted_byte : Word → ℕ × ℕ → List ℕ
+quoted_byte word at = if is_in_text word at.0 then byte_text at.1 else hex_text at.1
 
 -- bytes between quotes
 abbrev pub quoted_text : Word → List ℕ
-quoted_text word = quoted_within (length word) word
+quoted_text word = flat_map (quoted_byte word) (enumerate_from 0 word)
 
 -- bare where it can be, and else quoted
 abbrev pub word_text : Word → List ℕ
