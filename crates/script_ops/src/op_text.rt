@@ -8,7 +8,11 @@ ghost use Rattle.op_kind.specs.declared.op.Op.TheVariants.{Mark, Attr, ClearMark
 use crate::NoMemory;
 use bytes::Bytes;
 use mark_set::{RawAttrs, RawText, RawValue};
+<<<<<<< HEAD:crates/script_ops/src/op_text.rt
 use op_kind::{Op, Want};
+=======
+use op_kind::Op;
+>>>>>>> origin/main:crates/script_lang/src/op_text.rt
 use res_path::{Name, Path};
 use script_parts::{
     any_word, depth_word, name_word, path_word, put_attributes, put_created, put_four, put_next,
