@@ -3,24 +3,21 @@ use Rattle.std.proofs.Common.{◌≡◌, ◌≢◌, ℕ, ◌-◌, ◌<◌, ◌�
 use Rattle.std.specs.Prelude.{MatchOption}
 use Rattle.std.proofs.Math.Seq.{take-length}
 use Rattle.sched_rules.specs.declared.ws_atom.WsAtom.{WsAtom}
-use Rattle.op_kind.specs.declared.op.Op.{Op}
-use Rattle.op_kind.specs.declared.op.Op.TheVariants as op
-use Rattle.op_kind.specs.declared.op.Want.TheVariants as want
 use Rattle.script_lang.specs.declared.script.Command.TheVariants as command
 use Rattle.script_lang.specs.declared.script.Priority.{Priority}
 use Rattle.script_lang.specs.declared.line.Line.{Line}
 use Rattle.script_lang.specs.declared.line.Line.TheVariants.{BeginPhase, BeginJob, InJob, EndJob, EndPhase}
 use Rattle.script_ops.specs.declared.verb.Verb.{Verb}
-use Rattle.script_ops.specs.declared.verb.Verb.TheVariants.{Phase, EndPhase as EndPhaseVerb, Job, EndJob as EndJobVerb, Batch, EndBatch, Checkpoint, Begin, TryBegin, End, Create, Delete, Write, Touch, Derived, Move, Copy, Open, Close, Describe, Mark, Attr, Unmark, ClearMarks, Partner, Sync, NoSync, Flush, Show, Cat, Tree, Digest}
+use Rattle.script_ops.specs.declared.verb.Verb.TheVariants.{Phase, EndPhase as EndPhaseVerb, Job, EndJob as EndJobVerb, Batch, EndBatch, Checkpoint, Begin, TryBegin, End}
 use Rattle.script_words.specs.Words.{Word, Token}
 use Rattle.script_parts.specs.Parts.{Part, keyword, a_name, FitsPart, FitsParts, rule_parts}
 use Rattle.script_lang.specs.Commands.{FitsLine, priority_word, line_parts, line_read}
-use Rattle.script_ops.specs.Operations.{operation_parts}
 use Rattle.script_lang.specs.inside.Reading.{IsLineOf}
 use Rattle.script_parts.specs.inside.Found.{IsRuleFound}
 use Rattle.script_ops.specs.inside.Verbs.{verb_word, begun_with}
 use Rattle.script_parts.proofs.Fitting.{fit_size}
 use Rattle.script_lang.proofs.Coded.{line_at, known}
+use Rattle.script_ops.proofs.Begun.{HasVerb, with_verb, op_verb}
 
 -- ---- each line begins with a verb
 

@@ -1,20 +1,16 @@
 -- Scripts, the texts that spell them, and the first bad line of a text that spells none.
-use Rattle.std.specs.Prelude.{◌≡◌, ℕ, ◌+◌, ◌-◌, ◌≤◌, List, [], ◌∷◌, ◌++◌, map, length, take, decimal}
-use Rattle.std.specs.Fmt.{signed_decimal}
-use Rattle.std.specs.List.{flat_map, join_with_byte, AllByRecursion}
-use Rattle.res_path.specs.Paths.{path_text}
-use Rattle.op_kind.specs.declared.op.Op.{Op}
+use Rattle.std.specs.Prelude.{◌≡◌, ℕ, ◌+◌, ◌-◌, ◌≤◌, List, [], ◌∷◌, ◌++◌, map, length, take}
+use Rattle.std.specs.List.{flat_map, AllByRecursion}
 use Rattle.script_lang.specs.declared.script.Command.{Command}
 use Rattle.script_lang.specs.declared.script.Job.{Job}
 use Rattle.script_lang.specs.declared.script.Phase.{Phase}
 use Rattle.script_lang.specs.declared.script.Script.{Script}
 use Rattle.script_lang.specs.declared.line.Line.{Line}
 use Rattle.script_lang.specs.declared.line.Line.TheVariants.{BeginPhase, BeginJob, InJob, EndJob, EndPhase}
-use Rattle.script_words.specs.Words.{Word, Token, word_text}
+use Rattle.script_words.specs.Words.{Token}
 use Rattle.script_words.specs.Lines.{lines_of, SpellsLines}
-use Rattle.script_parts.specs.Parts.{Part, keyword, a_number, an_integer, a_name, a_path, a_text, a_word}
 use Rattle.script_lang.specs.Commands.{FitsLine, line_parts, command_parts}
-use Rattle.script_ops.specs.Operations.{operation_parts}
+use Rattle.script_parts.specs.Parts.{parts_text}
 
 -- ---- the lines of a script
 

@@ -10,21 +10,11 @@ ghost use Rattle.script_ops.specs.inside.Verbs.{begun_with, stands_alone, begins
 
 use crate::NoMemory;
 use crate::line::Line;
-<<<<<<< HEAD
 use crate::script::{Command, Priority};
 use op_kind::Op;
 use script_ops::{Verb, operation_with, verb_of};
 use script_parts::{is_key, name_of, rule_of};
 use script_words::Token;
-=======
-use crate::operations::operation_with;
-use crate::parts::{name_of, priority_of};
-use crate::rules::rule_of;
-use crate::script::Command;
-use crate::verb::{Verb, verb_of};
-use crate::words::Token;
-use op_kind::Op;
->>>>>>> origin/main
 use std::alloc::Global;
 
 /// What a line of these words says, where a script may have it.

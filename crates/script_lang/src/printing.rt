@@ -10,13 +10,9 @@ ghost use Rattle.script_parts.specs.inside.Printed.{AreParts};
 
 use crate::script::{Command, Job, Phase, Priority, Script};
 use crate::{NoMemory, ScriptRule};
-<<<<<<< HEAD
 use script_ops::put_doing;
 use script_parts::{name_word, put_rule, put_three};
 use script_words::{put_bytes, put_word};
-=======
-use op_kind::Op;
->>>>>>> origin/main
 use std::alloc::Global;
 
 /// The script's text, each line ended by LF. `parse` reads it as this script.

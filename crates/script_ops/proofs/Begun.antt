@@ -1,19 +1,13 @@
 -- Operations by the verbs that their lines begin with.
-use Rattle.std.proofs.Common.{◌≡◌, ◌≢◌, ℕ, ◌-◌, ◌<◌, ◌≤◌, Option, Some, None, List, [], ◌∷◌, map, length, take, drop, get_or, refl, sym, ◌∙◌, ap, subst, arith}
-use Rattle.std.specs.Prelude.{MatchOption}
-use Rattle.std.proofs.Math.Seq.{take-length}
-use Rattle.sched_rules.specs.declared.ws_atom.WsAtom.{WsAtom}
+use Rattle.std.proofs.Common.{◌≡◌, Some, None, List, ◌∷◌, drop, refl}
 use Rattle.op_kind.specs.declared.op.Op.{Op}
 use Rattle.op_kind.specs.declared.op.Op.TheVariants as op
 use Rattle.op_kind.specs.declared.op.Want.TheVariants as want
 use Rattle.script_ops.specs.declared.verb.Verb.{Verb}
-use Rattle.script_ops.specs.declared.verb.Verb.TheVariants.{Phase, EndPhase as EndPhaseVerb, Job, EndJob as EndJobVerb, Batch, EndBatch, Checkpoint, Begin, TryBegin, End, Create, Delete, Write, Touch, Derived, Move, Copy, Open, Close, Describe, Mark, Attr, Unmark, ClearMarks, Partner, Sync, NoSync, Flush, Show, Cat, Tree, Digest}
-use Rattle.script_words.specs.Words.{Word, Token}
-use Rattle.script_parts.specs.Parts.{Part, keyword, a_name, FitsPart, FitsParts, rule_parts}
+use Rattle.script_ops.specs.declared.verb.Verb.TheVariants.{Create, Delete, Write, Touch, Derived, Move, Copy, Open, Close, Describe, Mark, Attr, Unmark, ClearMarks, Partner, Sync, NoSync, Flush, Show, Cat, Tree, Digest}
+use Rattle.script_parts.specs.Parts.{Part, keyword}
 use Rattle.script_ops.specs.Operations.{operation_parts}
-use Rattle.script_parts.specs.inside.Found.{IsRuleFound}
-use Rattle.script_ops.specs.inside.Verbs.{verb_word, begun_with}
-use Rattle.script_parts.proofs.Fitting.{fit_size}
+use Rattle.script_ops.specs.inside.Verbs.{verb_word}
 
 pub record HasVerb (parts : List Part) : Type 0 where
   pub verb : Verb

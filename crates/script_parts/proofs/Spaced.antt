@@ -1,5 +1,5 @@
 -- The words of parts, with a space in front of each.
-use Rattle.std.proofs.Common.{◌≡◌, ℕ, ◌+◌, ◌<◌, List, [], ◌∷◌, ◌++◌, map, length, take, get_or, refl, sym, ◌∙◌, ap, subst, append_assoc, append-nil}
+use Rattle.std.proofs.Common.{◌≤◌, arith, ◌≡◌, ℕ, ◌+◌, ◌<◌, List, [], ◌∷◌, ◌++◌, map, length, take, get_or, refl, sym, ◌∙◌, ap, subst, append_assoc, append-nil}
 use Rattle.std.specs.List.{flat_map, join_with_byte, AllByRecursion}
 use Rattle.std.proofs.lemmas.Grind.{flat_map-append}
 use Rattle.std.proofs.lemmas.List.{take_more}
@@ -7,6 +7,7 @@ use Rattle.script_words.specs.Words.{Word, word_text}
 use Rattle.script_parts.specs.Parts.{Part}
 use Rattle.script_parts.specs.Parts.{part_word}
 use Rattle.script_parts.specs.inside.Printed.{AreParts, spaced}
+use Rattle.std.proofs.Math.Seq.{take-length}
 
 -- a line's words: the first, and the others with a space in front of each
 pub spaced_behind : (word : Word) (parts : List Part) → join_with_byte 32 (word_text word ∷ map word_text (map part_word parts)) ≡ word_text word ++ spaced parts

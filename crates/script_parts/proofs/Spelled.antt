@@ -1,22 +1,16 @@
 -- Printed parts, and the tokens as which they are read.
-use Rattle.std.proofs.Common.{◌≡◌, ◌⊎◌, inl, inr, ℕ, ◌+◌, ◌<◌, nat_le, Bool, true, false, List, [], ◌∷◌, ◌++◌, map, length, refl, sym, ◌∙◌, ap, subst, arith}
-use Rattle.std.specs.Prelude.{◌≢◌, Some, None, codes}
+use Rattle.std.proofs.Common.{◌≡◌, ℕ, ◌<◌, nat_le, true, List, [], ◌∷◌, map, length, refl, arith}
 use Rattle.std.proofs.lemmas.Bool.Decides.{nat_tests}
 use Rattle.res_path.proofs.Spelled.{both}
 use Rattle.std.specs.List.{list_all, AllByRecursion}
 use Rattle.res_path.specs.Paths.{path_text}
 use Rattle.std.specs.Prelude.{decimal}
 use Rattle.std.specs.Fmt.{signed_decimal}
-use Rattle.op_kind.specs.declared.op.Op.TheVariants.{Delete, Sync, Read}
-use Rattle.op_kind.specs.declared.op.Want.TheVariants.{Show, Cat, Tree, Digest}
-use Rattle.script_words.specs.Words.{Token, AreBytes, ReadsBack, printed, is_bare_byte, is_bare}
-use Rattle.script_words.specs.Lines.{is_skipped, unskipped, SpellsEach, SpellsLines}
-use Rattle.script_words.specs.inside.Passing.{next_number}
-use Rattle.script_parts.specs.Parts.{Part, keyword, a_number, an_integer, a_name, a_path, a_text, a_word, FitsParts, rule_parts}
-use Rattle.script_parts.specs.Parts.{part_word, parts_text}
+use Rattle.script_words.specs.Words.{AreBytes, ReadsBack, printed, is_bare_byte, is_bare}
+use Rattle.script_parts.specs.Parts.{Part, keyword, a_number, an_integer, a_name, a_path, a_text, a_word, FitsParts}
+use Rattle.script_parts.specs.Parts.{part_word}
 use Rattle.script_parts.specs.inside.Printed.{AreParts}
-use Rattle.script_words.proofs.Lined.{keeps_line}
-use Rattle.script_words.proofs.Printed.{line_spells, line_kept, text_spells}
+use Rattle.script_words.proofs.Printed.{text_spells}
 use Rattle.script_parts.proofs.Numbers.{bare_decimal, bare_signed}
 
 pub fits_printed : (parts : List Part) → AreParts parts → FitsParts (map printed (map part_word parts)) parts

@@ -1,5 +1,5 @@
 -- Words, how a line spells them, and how they are printed.
-use Rattle.std.specs.Prelude.{◌≡◌, ◌≢◌, ℕ, zero, suc, ◌+◌, ◌*◌, ◌/◌, ◌%◌, ◌<◌, Bool, true, false, not, ◌&&◌, ◌||◌, ◌==◌, nat_le, nat_lt, if◌then◌else◌, List, [], ◌∷◌, ◌++◌, length, take, drop, slice_index, IsTrue}
+use Rattle.std.specs.Prelude.{◌≡◌, ◌≢◌, ℕ, suc, ◌+◌, ◌*◌, ◌/◌, ◌%◌, ◌<◌, Bool, true, false, not, ◌&&◌, ◌||◌, ◌==◌, nat_le, nat_lt, if◌then◌else◌, List, [], ◌∷◌, ◌++◌, length, drop, IsTrue}
 use Rattle.std.specs.List.{list_all, list_any, flat_map, enumerate_from, range_with_len, join_with_byte, AllByRecursion}
 use Rattle.std.specs.Char.{encode_utf8, IsScalar, digit_value, digit_char}
 use Rattle.std.specs.Str.Lossy.{utf8_valid_len}

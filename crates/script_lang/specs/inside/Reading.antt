@@ -1,19 +1,15 @@
 -- How a script is read, line by line.
-use Rattle.std.specs.Prelude.{◌≡◌, ℕ, ◌+◌, ◌≤◌, Bool, true, false, not, List, [], ◌∷◌, ◌++◌, map, length, Option, Some, None, codes}
+use Rattle.std.specs.Prelude.{◌≡◌, ℕ, List, [], ◌∷◌, ◌++◌, map, Option, Some, None}
 use Rattle.std.specs.List.{flat_map}
-use Rattle.sched_rules.specs.declared.ws_atom.WsAtom.{WsAtom}
-use Rattle.script_ops.specs.declared.verb.Verb.{Verb}
-use Rattle.script_ops.specs.declared.verb.Verb.TheVariants.{Phase, EndPhase, Job, EndJob, Batch, EndBatch, Checkpoint, Begin, TryBegin, End, Create, Delete, Write, Touch, Derived, Move, Copy, Open, Close, Describe, Mark, Attr, Unmark, ClearMarks, Partner, Sync, NoSync, Flush, Show, Cat, Tree, Digest}
+use Rattle.script_ops.specs.declared.verb.Verb.TheVariants.{EndPhase, EndJob}
 use Rattle.script_lang.specs.declared.line.Line.{Line}
 use Rattle.script_lang.specs.declared.line.Line.TheVariants.{BeginPhase, BeginJob, InJob, EndJob, EndPhase}
 use Rattle.script_lang.specs.declared.progress.Place.{Place}
 use Rattle.script_lang.specs.declared.progress.Place.TheVariants.{Outside, BeforeJob, WithinJob, AfterJob}
 use Rattle.script_lang.specs.declared.progress.Progress.{Progress}
-use Rattle.script_words.specs.declared.reader.Reader.{Reader}
 use Rattle.script_words.specs.Words.{Token, SpellsLine}
-use Rattle.script_words.specs.Lines.{lines_of, unskipped}
+use Rattle.script_words.specs.Lines.{unskipped}
 use Rattle.script_words.specs.inside.Passing.{next_number, TakesLine}
-use Rattle.script_parts.specs.Parts.{Part, FitsPart, FitsParts, rule_parts, rule_read}
 use Rattle.script_lang.specs.Commands.{FitsLine}
 use Rattle.script_lang.specs.Scripts.{job_lines, phase_lines}
 
