@@ -7,7 +7,7 @@ ghost use Rattle.report_text.specs.Words.{path_word, hexadecimal};
 use crate::NoMemory;
 use itoa::Buffer;
 use res_path::Path;
-use script_lang::put_word;
+use script_words::put_word;
 
 /// Appends the bytes.
 pub(crate) fn put(out: &mut Vec<u8>, bytes: &[u8]) -> Result<(), NoMemory>

@@ -2,17 +2,13 @@
 ghost use Rattle.std.specs.Prelude.{◌≡◌, ◌++◌, true, OnOk};
 ghost use Rattle.script_words.specs.Words.{Grows, is_bare};
 ghost use Rattle.script_ops.specs.Operations.{operation_parts, operation_text, want_word};
-ghost use Rattle.script_parts.specs.inside.Printed.{AreParts, spaced};
+ghost use Rattle.script_parts.specs.inside.Printed.{AreParts};
 ghost use Rattle.op_kind.specs.declared.op.Op.TheVariants.{Mark, Attr, ClearMarks, Sync};
 
 use crate::NoMemory;
 use bytes::Bytes;
 use mark_set::{RawAttrs, RawText, RawValue};
-<<<<<<< HEAD:crates/script_ops/src/op_text.rt
 use op_kind::{Op, Want};
-=======
-use op_kind::Op;
->>>>>>> origin/main:crates/script_lang/src/op_text.rt
 use res_path::{Name, Path};
 use script_parts::{
     any_word, depth_word, name_word, path_word, put_attributes, put_created, put_four, put_next,

@@ -13,14 +13,7 @@ use script_parts::{
     path_id_change, path_kind_attributes, path_kind_depth, path_name_bytes, path_name_depth,
     two_paths,
 };
-<<<<<<< HEAD:crates/script_ops/src/operations.rt
 use script_words::Token;
-=======
-use crate::parts::is_key;
-use crate::verb::Verb;
-use crate::words::Token;
-use op_kind::{Op, Want};
->>>>>>> origin/main:crates/script_lang/src/operations.rt
 use std::alloc::Global;
 
 /// The operation whose line begins with the verb and goes on with these tokens.

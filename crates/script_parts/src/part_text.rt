@@ -11,7 +11,6 @@ use crate::NoMemory;
 use bytes::Bytes;
 use itoa::Buffer;
 use mark_set::RawText;
-use op_kind::Want;
 use res_path::{Name, Path};
 use script_words::{put_bytes, put_word};
 use ws_elem::Depth;
