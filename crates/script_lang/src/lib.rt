@@ -1,6 +1,7 @@
 //! Scripts of jobs: what a script is, how a text is read as one, and how one is printed.
 //!
 //! - `script`: a `Script`: phases of jobs of commands.
+//! - `script_copy`: equal scripts.
 //! - `line`: what one line of a script says.
 //! - `command`: which line the words of a line are.
 //! - `progress`: how far a script is read.
@@ -14,8 +15,9 @@ mod line;
 mod printing;
 mod progress;
 mod script;
+mod script_copy;
 
-pub use grammar::parse;
+pub use grammar::{parse, parse_shared};
 pub use printing::{print, put_command};
 pub use script::{Command, Commands, Job, Jobs, Phase, Phases, Priority, Script};
 pub use script_ops::put_operation;

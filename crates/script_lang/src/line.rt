@@ -4,7 +4,7 @@ use res_path::Name;
 use script_parts::ScriptRule;
 
 /// What one line of a script says.
-#[derive(Debug, Drop)]
+#[derive(Drop)]
 pub enum Line {
     /// A phase begins.
     BeginPhase,

@@ -8,7 +8,7 @@ ghost use Rattle.script_ops.specs.inside.Verbs.{verb_word};
 use script_words::Token;
 
 /// The word that a line begins with.
-#[derive(Clone, Copy, Debug)]
+#[derive(Clone, Copy)]
 pub enum Verb {
     Phase,
     EndPhase,

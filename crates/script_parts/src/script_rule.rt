@@ -1,13 +1,14 @@
 //! Rules as scripts name them.
-ghost use Rattle.std.specs.Prelude.{◌≡◌, false, IsTrue, [], MatchOption};
+ghost use Rattle.std.specs.Prelude.{◌≡◌, false, IsTrue, [], IfOk, MatchOption};
 ghost use Rattle.script_parts.specs.RuleLines.{has_lines, can_be_named};
 
+use crate::NoMemory;
 use sched_rules::{Rule, WsAtom};
 use std::alloc::Global;
 use std::marker::Model;
 
 /// A rule that a script can name: each of its ranges of lines has a line. A contract sees the list of the atoms.
-#[derive(Debug, Drop)]
+#[derive(Drop)]
 pub struct ScriptRule {
     rule: Rule<WsAtom>,
 }
@@ -66,6 +67,13 @@ impl ScriptRule {
     {
         let ScriptRule { rule } = self;
         rule
+    }
+
+    /// An equal rule, which shares its texts.
+    pub fn copy(&self) -> Result<ScriptRule, NoMemory>
+        ensures { IfOk result (λ copy. copy ≡ self.now) }
+    {
+        Ok(ScriptRule::named(self.rule.copy()?))
     }
 }
 

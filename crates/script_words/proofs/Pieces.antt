@@ -50,10 +50,13 @@ joined word n i m within past whole front piece =
     let begins : IsCharBoundary (take (i + m) word) i = subst (IsCharBoundary (take (i + m) word)) size (IsCharBoundary-at_seam (take (i + m) word) (take i word) (take m (drop i word)) all piece) in
     let length_n : length (take n word) ≡ n = length-take-le n word (omega (arith, past, whole)) in
     let length_m : length (take (i + m) word) ≡ i + m = length-take-le (i + m) word whole in
-    let there : IsCharBoundary (take n word) i = (omega (arith, within, length_n), λ less high.
-      let at_n : get_or (take n word) i 0 ≡ get_or word i 0 = get_or-take n word i 0 (omega (arith, less, length_n)) in
-      let at_m : get_or (take (i + m) word) i 0 ≡ get_or word i 0 = get_or-take (i + m) word i 0 (omega (arith, less, length_n, past)) in
-      let lead = begins.1 (omega (arith, less, length_n, past, length_m)) (omega (arith, high, at_n, at_m)) in omega (arith, lead, at_n, at_m)) in
+    let there : IsCharBoundary (take n word) i = (
+      omega (arith, within, length_n),
+      λ less high.
+          let at_n : get_or (take n word) i 0 ≡ get_or word i 0 = get_or-take n word i 0 (omega (arith, less, length_n)) in
+          let at_m : get_or (take (i + m) word) i 0 ≡ get_or word i 0 = get_or-take (i + m) word i 0 (omega (arith, less, length_n, past)) in
+          let lead = begins.1 (omega (arith, less, length_n, past, length_m)) (omega (arith, high, at_n, at_m)) in omega (arith, lead, at_n, at_m),
+    ) in
     let before : IsUtf8 (take i word) = subst IsUtf8 (take-take i n word within) (IsUtf8-take (take n word) i front there) in
     subst IsUtf8 (sym all) (IsUtf8-append (take i word) (take m (drop i word)) before piece)
   where

@@ -69,7 +69,7 @@ quoted_more word b rest e =
     let all : word ≡ front ++ b ∷ rest = sym (take-append-drop n word) ∙ ap (λ left. front ++ left) e in
     let after : rest ≡ drop (n + 1) word = sym (ap (drop 1) e) ∙ drop-drop 1 n word in
     let places : enumerate_from 0 word ≡ enumerate_from 0 front ++ (n, b) ∷ enumerate_from (n + 1) rest =
-      ap (enumerate_from 0) all ∙ enumerate-append 0 front (b ∷ rest) ∙ ap (λ m. enumerate_from 0 front ++ enumerate_from m (b ∷ rest)) size in
+    ap (enumerate_from 0) all ∙ enumerate-append 0 front (b ∷ rest) ∙ ap (λ m. enumerate_from 0 front ++ enumerate_from m (b ∷ rest)) size in
     ap (flat_map (quoted_byte word)) places
     ∙ flat_map-append (quoted_byte word) (enumerate_from 0 front) ((n, b) ∷ enumerate_from (n + 1) rest)
     ∙ (λ i. front_text word i ++ (shown_out word n b (after_out word) i

@@ -97,9 +97,13 @@ pub record SpellsLine (line : List ℕ) (tokens : List Token) : Type 0 where
 
 -- ---- how a word is printed
 
+-- a byte's two hexadecimal digits, in lower case
+abbrev pub two_digits : ℕ → List ℕ
+two_digits b = digit_char (b / 16) ∷ digit_char (b % 16) ∷ []
+
 -- a byte by its two digits
 abbrev pub hex_text : ℕ → List ℕ
-hex_text b = 92 ∷ 120 ∷ digit_char (b / 16) ∷ digit_char (b % 16) ∷ []
+hex_text b = 92 ∷ 120 ∷ two_digits b
 
 -- a byte of UTF-8 between quotes: a quote and a backslash are escaped, LF, tab and CR have their letters, and any other
 -- control character of ASCII its digits

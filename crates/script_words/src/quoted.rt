@@ -13,7 +13,7 @@ use std::alloc::Global;
 use std::str::from_utf8;
 
 /// What may follow within a quoted word.
-#[derive(Clone, Copy, PartialEq, Eq, Debug)]
+#[derive(Clone, Copy)]
 pub enum State {
     /// An item, or the end.
     Between,

@@ -15,7 +15,7 @@ use std::alloc::Global;
 use std::mem;
 
 /// A word as it stands in a line.
-#[derive(Debug, Drop)]
+#[derive(Drop)]
 pub struct Token {
     /// Whether it stands bare.
     pub bare: bool,
@@ -95,7 +95,7 @@ struct Front {
 }
 
 /// Takes what stands before the first space off a line, and the space too; where there is none, all of the line.
-/// Nothing is copied. A common word needs no share of the line's bytes, and isn't looked at again.
+/// Nothing is copied. A common word needs no share of the line's bytes.
 fn cut_word(line: &mut Bytes) -> Result<Front, NoMemory>
     ensures parts { IfOk result (λ front. MatchBool front.goes_on
         (slice_split (λ b. b == 32) line.old ≡ front.word ∷ slice_split (λ b. b == 32) line.new)
@@ -127,15 +127,7 @@ fn cut_at(line: &mut Bytes, at: usize) -> Result<Front, NoMemory>
     ensures bare { IfOk result (λ front. front.bare ≡ is_bare front.word) }
     ensures err { OnErr result (line.new ≡ line.old) }
 {
-    if let Some(word) = common_word(&line.as_slice()[..at]) {
-        line.advance(at + 1);
-        return Ok(Front {
-            word,
-            goes_on: true,
-            bare: true,
-        });
-    }
-    let word = line.split_to(at)?;
+    let word = take_front(line, at)?;
     line.advance(1);
     let bare = is_bare(word.as_slice());
     Ok(Front {
@@ -143,6 +135,22 @@ fn cut_at(line: &mut Bytes, at: usize) -> Result<Front, NoMemory>
         goes_on: true,
         bare,
     })
+}
+
+/// Takes so many bytes off a line. A common word needs no share of the line's bytes.
+fn take_front(line: &mut Bytes, at: usize) -> Result<Bytes, NoMemory>
+    requires { at ≤ length line.old }
+    ensures front { IfOk result (λ word. word ≡ take at line.old) }
+    ensures rest { OnOk result (line.new ≡ drop at line.old) }
+    ensures err { OnErr result (line.new ≡ line.old) }
+{
+    match common_word(&line.as_slice()[..at]) {
+        None => Ok(line.split_to(at)?),
+        Some(word) => {
+            line.advance(at);
+            Ok(word)
+        }
+    }
 }
 
 fn take_quoted(
@@ -275,20 +283,19 @@ pub fn cut(text: &mut Bytes, mark: u8) -> Result<(Bytes, bool), NoMemory>
     }
 }
 
+/// The words that scripts repeat most.
+const COMMON_WORDS: [&[u8]; 6] = [b"create", b"file", b"folder", b"write", b"delete", b"mark"];
+
 /// The word, where it is one of those that scripts repeat most.
 fn common_word(word: &[u8]) -> Option<Bytes>
-    ensures same { IfSome result (λ common. common ≡ word.now) }
-    ensures bare { IfSome result (λ common. is_bare common ≡ true) }
+    ensures { IfSome result (λ common. common ≡ word.now) }
 {
-    match word {
-        b"create" => Some(Bytes::from_static(b"create")),
-        b"file" => Some(Bytes::from_static(b"file")),
-        b"folder" => Some(Bytes::from_static(b"folder")),
-        b"write" => Some(Bytes::from_static(b"write")),
-        b"delete" => Some(Bytes::from_static(b"delete")),
-        b"mark" => Some(Bytes::from_static(b"mark")),
-        _ => None,
+    for common in COMMON_WORDS {
+        if word == common {
+            return Some(Bytes::from_static(common));
+        }
     }
+    None
 }
 
 /// Where the first such byte stands.

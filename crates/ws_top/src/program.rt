@@ -18,7 +18,7 @@ use crate::reply_text::put_bad_line;
 use crate::words::{self, Form};
 use crate::writing::{Unwritten, write_all};
 use bytes::Bytes;
-use script_lang::{Script, ScriptError, parse};
+use script_lang::{Script, ScriptError, parse_shared};
 use std::alloc::Global;
 use ws_core::{Core, History};
 use ws_outside::{Sink, Source};
@@ -139,7 +139,7 @@ fn respond<K: Sink>(alloc: Global, sink: &mut K, bytes: Vec<u8>) -> Outcome
     let Ok(text) = Bytes::from_vec(bytes) else {
         return say(alloc, sink, 8, b"status 8\n");
     };
-    match parse(alloc, text) {
+    match parse_shared(alloc, text) {
         Ok(script) => perform(alloc, sink, script),
         Err(ScriptError::BadLine(line)) => say_bad_line(alloc, sink, line),
         Err(ScriptError::Memory) => say(alloc, sink, 8, b"status 8\n"),

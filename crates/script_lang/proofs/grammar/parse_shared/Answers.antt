@@ -7,7 +7,7 @@ use Rattle.script_words.specs.Lines.{lines_of}
 use Rattle.script_words.specs.inside.Passing.{Skips}
 use Rattle.script_words.specs.inside.Counts.{Advances}
 use Rattle.script_lang.proofs.Whole.{HasRead, read_none, read_skips, read_step, whole_script, whole_alone, first_bad, stuck_none, refused, not_both, err_same}
-use Rattle.script_lang.proofs.grammar.parse.Goals as goal
+use Rattle.script_lang.proofs.grammar.parse_shared.Goals as goal
 
 pub loop-alloc-init : goal.loop-alloc-init
 loop-alloc-init c =
