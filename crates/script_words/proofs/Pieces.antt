@@ -125,29 +125,24 @@ after_out word =
     none_in (λ start. nat_lt (utf8_valid_len word) (start + utf8_valid_len (drop start word))) 0 (suc (utf8_valid_len word))
     (λ start low high. past_front word (utf8_valid_len word) start (omega arith) (omega (arith, high)))
 
+abbrev reaches : Word → ℕ → ℕ → Bool
+reaches word place start = nat_lt place (start + utf8_valid_len (drop start word))
+
+shifted : (n k start m : ℕ) (t : Bool) → nat_lt k (start + m) ≡ t → nat_lt (n + 1 + k) (n + 1 + start + m) ≡ t
+shifted n k start m true e = grind (arith, nat_tests, e)
+shifted n k start m false e = grind (arith, nat_tests, e)
+
+moved : (word : Word) (n k start : ℕ) → reaches word (n + 1 + k) (n + 1 + start) ≡ reaches (drop (n + 1) word) k (0 + start)
+moved word n k start =
+    let at : start ≡ 0 + start = omega arith in
+    ap (λ left. nat_lt (n + 1 + k) (n + 1 + start + utf8_valid_len left)) (sym (drop-drop start (n + 1) word))
+    ∙ shifted n k start (utf8_valid_len (drop start (drop (n + 1) word))) (nat_lt k (start + utf8_valid_len (drop start (drop (n + 1) word)))) refl
+    ∙ ap (reaches (drop (n + 1) word) k) at
+
 -- and what follows that one stands for itself
 pub rest_in : (word : Word) (k : ℕ) → is_in_text word (utf8_valid_len word + 1 + k) ≡ is_in_text (drop (utf8_valid_len word + 1) word) k
 rest_in word k =
-    any_split reach 0 (n + 1) (n + 1) (suc k) (suc (n + 1 + k)) (omega arith) (omega arith) (none_in reach 0 (n + 1) (λ start low high. past_front word (n + 1 + k) start (omega arith) (omega (arith, high))))
-    ∙ any_shifted reach (λ start. nat_lt k (start + utf8_valid_len (drop start rest))) (n + 1) 0 (suc k) (λ start. moved start ∙ ap (λ s. nat_lt k (s + utf8_valid_len (drop s rest))) (at start))
-  where
-    n : ℕ
-    n = utf8_valid_len word
-
-    rest : Word
-    rest = drop (n + 1) word
-
-    reach : ℕ → Bool
-    reach start = nat_lt (n + 1 + k) (start + utf8_valid_len (drop start word))
-
-    at : (start : ℕ) → start ≡ 0 + start
-    at start = omega arith
-
-    both_on : (start m : ℕ) (t : Bool) → nat_lt k (start + m) ≡ t → nat_lt (n + 1 + k) (n + 1 + start + m) ≡ t
-    both_on start m true e = grind (arith, nat_tests, e)
-    both_on start m false e = grind (arith, nat_tests, e)
-
-    moved : (start : ℕ) → nat_lt (n + 1 + k) (n + 1 + start + utf8_valid_len (drop (n + 1 + start) word)) ≡ nat_lt k (start + utf8_valid_len (drop start rest))
-    moved start =
-        ap (λ left. nat_lt (n + 1 + k) (n + 1 + start + utf8_valid_len left)) (sym (drop-drop start (n + 1) word))
-        ∙ both_on start (utf8_valid_len (drop start rest)) (nat_lt k (start + utf8_valid_len (drop start rest))) refl
+    any_split (reaches word (utf8_valid_len word + 1 + k)) 0 (utf8_valid_len word + 1) (utf8_valid_len word + 1) (suc k) (suc (utf8_valid_len word + 1 + k)) (omega arith) (omega arith)
+    (none_in (reaches word (utf8_valid_len word + 1 + k)) 0 (utf8_valid_len word + 1)
+    (λ start low high. past_front word (utf8_valid_len word + 1 + k) start (omega arith) (omega (arith, high))))
+    ∙ any_shifted (reaches word (utf8_valid_len word + 1 + k)) (reaches (drop (utf8_valid_len word + 1) word) k) (utf8_valid_len word + 1) 0 (suc k) (moved word (utf8_valid_len word) k)
