@@ -9,7 +9,8 @@ use Rattle.script_lang.specs.declared.line.Line.{Line}
 use Rattle.script_lang.specs.declared.line.Line.TheVariants.{BeginPhase, BeginJob, InJob, EndJob, EndPhase}
 use Rattle.script_ops.specs.declared.verb.Verb.{Verb}
 use Rattle.script_ops.specs.declared.verb.Verb.TheVariants.{Phase, EndPhase as EndPhaseVerb, Job, EndJob as EndJobVerb, Batch, EndBatch, Checkpoint, Begin, TryBegin, End}
-use Rattle.script_words.specs.Words.{Word, Token}
+use Rattle.script_words.specs.declared.words.Token.{Token}
+use Rattle.script_words.specs.Words.{Word}
 use Rattle.script_parts.specs.Parts.{Part, keyword, a_name, FitsPart, FitsParts, rule_parts}
 use Rattle.script_lang.specs.Commands.{FitsLine, priority_word, line_parts, line_read}
 use Rattle.script_lang.specs.inside.Reading.{IsLineOf}

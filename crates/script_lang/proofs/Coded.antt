@@ -10,7 +10,8 @@ use Rattle.script_lang.specs.declared.script.Priority.{Priority}
 use Rattle.script_lang.specs.declared.script.Priority.TheVariants.{Interactive, Short, Long, Build, Decorate}
 use Rattle.script_lang.specs.declared.line.Line.{Line}
 use Rattle.script_lang.specs.declared.line.Line.TheVariants.{BeginPhase, BeginJob, InJob, EndJob, EndPhase}
-use Rattle.script_words.specs.Words.{Word, Token}
+use Rattle.script_words.specs.declared.words.Token.{Token}
+use Rattle.script_words.specs.Words.{Word}
 use Rattle.script_parts.specs.Parts.{FitsParts}
 use Rattle.script_lang.specs.Commands.{FitsLine, priority_word, line_parts, line_read}
 use Rattle.script_parts.proofs.Values.{chosen, nth, atoms_at, words_of, AreNamed, rule_back, fit_words, fit_all_named}

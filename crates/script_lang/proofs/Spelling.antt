@@ -6,7 +6,8 @@ use Rattle.op_kind.specs.declared.op.Want.TheVariants.{Show, Cat, Tree, Digest}
 use Rattle.script_lang.specs.declared.script.Command.TheVariants.{Operation, Batch, EndBatch, Checkpoint, Begin, TryBegin, End}
 use Rattle.script_lang.specs.declared.line.Line.{Line}
 use Rattle.script_lang.specs.declared.line.Line.TheVariants.{BeginPhase, BeginJob, InJob, EndJob, EndPhase}
-use Rattle.script_words.specs.Words.{Token, printed, is_bare}
+use Rattle.script_words.specs.declared.words.Token.{Token}
+use Rattle.script_words.specs.Words.{printed, is_bare}
 use Rattle.script_words.specs.Lines.{is_skipped, unskipped, SpellsEach, SpellsLines}
 use Rattle.script_words.specs.inside.Passing.{next_number}
 use Rattle.script_parts.specs.Parts.{Part, keyword, rule_parts}

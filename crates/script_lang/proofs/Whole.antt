@@ -13,7 +13,8 @@ use Rattle.script_lang.specs.declared.line.Line.{Line}
 use Rattle.script_lang.specs.declared.progress.Place.{Place}
 use Rattle.script_lang.specs.declared.progress.Place.TheVariants.{Outside, BeforeJob, WithinJob, AfterJob}
 use Rattle.script_lang.specs.declared.progress.Progress.{Progress}
-use Rattle.script_words.specs.Words.{Token, SpellsLine}
+use Rattle.script_words.specs.declared.words.Token.{Token}
+use Rattle.script_words.specs.Words.{SpellsLine}
 use Rattle.script_words.specs.Lines.{lines_of, unskipped, SpellsEach, SpellsLines}
 use Rattle.script_words.specs.inside.Passing.{TakesLine, next_number, Skips}
 use Rattle.script_lang.specs.Commands.{FitsLine}

@@ -13,7 +13,7 @@ use Rattle.script_lang.specs.declared.line.Line.TheVariants.{BeginPhase}
 use Rattle.script_parts.specs.Parts.{a_path, a_number, FitsPart, FitsParts, rule_read}
 use Rattle.script_lang.specs.Commands.{line_parts}
 use Rattle.script_lang.specs.Scripts.{script_text, IsScript}
-use Rattle.script_words.specs.Words.{Token}
+use Rattle.script_words.specs.declared.words.Token.{Token}
 
 -- ---- scripts
 

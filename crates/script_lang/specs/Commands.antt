@@ -6,7 +6,7 @@ use Rattle.script_lang.specs.declared.script.Priority.{Priority}
 use Rattle.script_lang.specs.declared.script.Priority.TheVariants.{Interactive, Short, Long, Build, Decorate}
 use Rattle.script_lang.specs.declared.line.Line.{Line}
 use Rattle.script_lang.specs.declared.line.Line.TheVariants.{BeginPhase, BeginJob, InJob, EndJob, EndPhase}
-use Rattle.script_words.specs.Words.{Token}
+use Rattle.script_words.specs.declared.words.Token.{Token}
 use Rattle.script_parts.specs.Parts.{Part, FitsParts, keyword, a_name, rule_parts, rule_read}
 use Rattle.script_ops.specs.Operations.{operation_parts}
 

@@ -7,7 +7,7 @@ use Rattle.script_lang.specs.declared.script.Phase.{Phase}
 use Rattle.script_lang.specs.declared.script.Script.{Script}
 use Rattle.script_lang.specs.declared.line.Line.{Line}
 use Rattle.script_lang.specs.declared.line.Line.TheVariants.{BeginPhase, BeginJob, InJob, EndJob, EndPhase}
-use Rattle.script_words.specs.Words.{Token}
+use Rattle.script_words.specs.declared.words.Token.{Token}
 use Rattle.script_words.specs.Lines.{lines_of, SpellsLines}
 use Rattle.script_lang.specs.Commands.{FitsLine, line_parts, command_parts}
 use Rattle.script_parts.specs.Parts.{parts_text}

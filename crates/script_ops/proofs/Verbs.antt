@@ -10,7 +10,8 @@ use Rattle.res_path.specs.Paths.{Names}
 use Rattle.op_kind.specs.declared.op.Op.{Op}
 use Rattle.op_kind.specs.declared.op.Op.TheVariants as op
 use Rattle.op_kind.specs.declared.op.Want.TheVariants as want
-use Rattle.script_words.specs.Words.{Word, Token}
+use Rattle.script_words.specs.declared.words.Token.{Token}
+use Rattle.script_words.specs.Words.{Word}
 use Rattle.script_parts.specs.Parts.{Part, keyword, a_number, a_name, a_path, a_text, a_word, attribute_parts, depth_word, set_parts, switch_word, FitsPart, FitsParts}
 use Rattle.script_parts.proofs.Paths.{path_at}
 use Rattle.script_parts.proofs.Values.{nth, depth_at, attributes_at, set_at, fit_words, fit_all_named}

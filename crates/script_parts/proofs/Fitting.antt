@@ -6,7 +6,7 @@ use Rattle.std.proofs.lemmas.Bool.Decides.{nat_tests}
 use Rattle.std.proofs.lemmas.Grind.{flat_map-append}
 use Rattle.mark_set.specs.declared.value.RawValue.{RawValue}
 use Rattle.mark_set.specs.declared.value.RawValue.TheVariants.{Int as IntValue, Bool as BoolValue, Text as TextValue}
-use Rattle.script_words.specs.Words.{Token}
+use Rattle.script_words.specs.declared.words.Token.{Token}
 use Rattle.script_parts.specs.Parts.{Part, FitsParts, set_parts}
 use Rattle.script_parts.specs.inside.Found.{FitsFront, FitsNoFront}
 

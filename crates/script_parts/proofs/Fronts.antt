@@ -11,7 +11,8 @@ use Rattle.sched_rules.specs.declared.ws_atom.WsAtom.{WsAtom}
 use Rattle.sched_rules.specs.declared.ws_atom.WsAtom.TheVariants.{Path, Mutex, Lines}
 use Rattle.mark_set.specs.declared.value.RawValue.{RawValue}
 use Rattle.mark_set.specs.declared.value.RawValue.TheVariants.{Int as IntValue, Bool as BoolValue, Text as TextValue}
-use Rattle.script_words.specs.Words.{Word, Token}
+use Rattle.script_words.specs.declared.words.Token.{Token}
+use Rattle.script_words.specs.Words.{Word}
 use Rattle.script_parts.specs.Parts.{keyword, a_number, FitsPart, FitsParts, atom_parts, rule_parts, attribute_parts, value_parts, truth_word}
 use Rattle.script_parts.specs.inside.Found.{FitsFront, FitsNoFront}
 use Rattle.script_parts.proofs.Numbers.{integer_back}

@@ -13,7 +13,8 @@ use Rattle.mark_set.specs.declared.value.RawValue.{RawValue}
 use Rattle.mark_set.specs.declared.value.RawValue.TheVariants.{Int as IntValue, Bool as BoolValue, Text as TextValue}
 use Rattle.ws_elem.specs.declared.depth.Depth.{Depth}
 use Rattle.ws_elem.specs.declared.depth.Depth.TheVariants.{Zero, One, Infinite}
-use Rattle.script_words.specs.Words.{Word, Token}
+use Rattle.script_words.specs.declared.words.Token.{Token}
+use Rattle.script_words.specs.Words.{Word}
 use Rattle.script_parts.specs.Parts.{Part, keyword, a_number, an_integer, a_name, a_path, a_text, a_word, IsNumber, FitsPart, FitsParts, atom_parts, rule_parts, value_parts, attribute_parts, set_parts, truth_word}
 use Rattle.script_parts.specs.Parts.{part_word}
 use Rattle.script_parts.proofs.Numbers.{number_back, integer_back}

@@ -13,7 +13,8 @@ use Rattle.mark_set.specs.declared.value.RawValue.{RawValue}
 use Rattle.mark_set.specs.declared.value.RawValue.TheVariants.{Int as IntValue, Bool as BoolValue, Text as TextValue}
 use Rattle.ws_elem.specs.declared.depth.Depth.{Depth}
 use Rattle.ws_elem.specs.declared.depth.Depth.TheVariants.{Zero, One, Infinite}
-use Rattle.script_words.specs.Words.{Word, Token, word_text}
+use Rattle.script_words.specs.declared.words.Token.{Token}
+use Rattle.script_words.specs.Words.{Word, word_text}
 
 -- what stands at one place of a line: a keyword, a number of so many bits that is no less than another, an integer, a
 -- name, a path, a text, or any word

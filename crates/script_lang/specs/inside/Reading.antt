@@ -7,7 +7,8 @@ use Rattle.script_lang.specs.declared.line.Line.TheVariants.{BeginPhase, BeginJo
 use Rattle.script_lang.specs.declared.progress.Place.{Place}
 use Rattle.script_lang.specs.declared.progress.Place.TheVariants.{Outside, BeforeJob, WithinJob, AfterJob}
 use Rattle.script_lang.specs.declared.progress.Progress.{Progress}
-use Rattle.script_words.specs.Words.{Token, SpellsLine}
+use Rattle.script_words.specs.declared.words.Token.{Token}
+use Rattle.script_words.specs.Words.{SpellsLine}
 use Rattle.script_words.specs.Lines.{unskipped}
 use Rattle.script_words.specs.inside.Passing.{next_number, TakesLine}
 use Rattle.script_lang.specs.Commands.{FitsLine}

@@ -2,7 +2,7 @@
 use Rattle.std.specs.Prelude.{ℕ, Bool, true, false, not, List, ◌∷◌, codes}
 use Rattle.script_ops.specs.declared.verb.Verb.{Verb}
 use Rattle.script_ops.specs.declared.verb.Verb.TheVariants.{Phase, EndPhase, Job, EndJob, Batch, EndBatch, Checkpoint, Begin, TryBegin, End, Create, Delete, Write, Touch, Derived, Move, Copy, Open, Close, Describe, Mark, Attr, Unmark, ClearMarks, Partner, Sync, NoSync, Flush, Show, Cat, Tree, Digest}
-use Rattle.script_words.specs.Words.{Token}
+use Rattle.script_words.specs.declared.words.Token.{Token}
 
 -- the word that a line begins with
 abbrev pub verb_word : Verb → List ℕ

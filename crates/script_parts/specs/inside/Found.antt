@@ -1,7 +1,7 @@
 -- Values that are found in the tokens of a line.
 use Rattle.std.specs.Prelude.{◌≡◌, List, [], ◌∷◌, Option, Some, None}
 use Rattle.sched_rules.specs.declared.ws_atom.WsAtom.{WsAtom}
-use Rattle.script_words.specs.Words.{Token}
+use Rattle.script_words.specs.declared.words.Token.{Token}
 use Rattle.script_parts.specs.Parts.{Part, FitsPart, FitsParts, rule_parts, rule_read}
 
 -- the value whose parts the tokens are, or none where there is none
