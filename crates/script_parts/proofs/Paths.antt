@@ -14,7 +14,7 @@ unfolding lib.Utf8.encode
 utf8_path [] h = (47 ∷ [], (refl, refl))
 utf8_path (name ∷ names) h = kept_utf8 (slashed (name ∷ names)) (kept_slashed (name ∷ names) h)
 
-abbrev path_at : Word → Names
+abbrev pub path_at : Word → Names
 path_at [] = []
 path_at (b ∷ []) = []
 path_at (b ∷ c ∷ bytes) = parts_of (b ∷ c ∷ bytes)
