@@ -13,4 +13,4 @@ returns-clause-text c =
     let job = c.args.job.now in
     let line = three_words c.args.out.now.items c.put_three.new.out.items c.put_rule.new.out.items (word_text (codes "job")) (word_text job.name) (priority_word job.priority) (rule_parts job.rule)
     (rw (← c.name_word.ensures.text, ← c.priority_word.ensures) c.in_ok-put_three.ensures.text) c.in_ok-put_rule.ensures.text in
-    c.in_ok-put.ensures.text ∙ ap (λ (text : List ℕ). text ++ 10 ∷ []) line ∙ append_assoc c.args.out.now.items (line_text (BeginJob job.name job.priority job.rule)) (10 ∷ [])
+    c.in_ok-put_bytes.ensures.text ∙ ap (λ (text : List ℕ). text ++ 10 ∷ []) line ∙ append_assoc c.args.out.now.items (line_text (BeginJob job.name job.priority job.rule)) (10 ∷ [])
