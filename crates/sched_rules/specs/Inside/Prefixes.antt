@@ -2,9 +2,8 @@
 use Rattle.std.proofs.Common.{◌≡◌, ℕ, Bool, true, false, ◌&&◌, ◌||◌, List, [], ◌∷◌, refl, sym, ap, ◌∙◌}
 use Rattle.std.specs.Str.{bytes_eq}
 use Rattle.std.specs.Cmp.Lexicographic.{bytes_decides}
-use Rattle.res_path.specs.Paths.{Names, is_prefix}
+use Rattle.res_path.specs.Paths.{Names, is_prefix, overlap}
 use Rattle.res_path.proofs.Spelled.{both}
-use Rattle.sched_rules.specs.Ranges.{overlap}
 
 pub name_itself : (n : List ℕ) → bytes_eq n n ≡ true
 name_itself n = (bytes_decides n n).1 refl

@@ -1,7 +1,7 @@
 -- The laws of ranges of lines.
 use Rattle.std.proofs.Common.{◌≡◌, ℕ, Bool, true, false, ◌||◌, refl, sym, ap, ◌∙◌, arith}
 use Rattle.std.proofs.lemmas.Bool.Decides.{nat_tests}
-use Rattle.sched_rules.specs.Prefixes.{or_right}
+use Rattle.sched_rules.specs.Inside.Prefixes.{or_right}
 use Rattle.sched_rules.specs.Ranges.{same_range, lies_within, share_a_line}
 
 abbrev pub range_contains : ℕ → ℕ → ℕ → ℕ → Bool
