@@ -3,9 +3,9 @@ use Rattle.std.proofs.Common.{◌≡◌, ◌≢◌, ℕ, ◌-◌, ◌<◌, ◌�
 use Rattle.std.specs.Prelude.{MatchOption}
 use Rattle.std.proofs.Math.Seq.{take-length}
 use Rattle.sched_rules.specs.declared.ws_atom.WsAtom.{WsAtom}
-use Rattle.ws_ops.specs.declared.op.Op.{Op}
-use Rattle.ws_ops.specs.declared.op.Op.TheVariants as op
-use Rattle.ws_ops.specs.declared.op.Want.TheVariants as want
+use Rattle.op_kind.specs.declared.op.Op.{Op}
+use Rattle.op_kind.specs.declared.op.Op.TheVariants as op
+use Rattle.op_kind.specs.declared.op.Want.TheVariants as want
 use Rattle.script_lang.specs.declared.script.Command.TheVariants as command
 use Rattle.script_lang.specs.declared.script.Priority.{Priority}
 use Rattle.script_lang.specs.declared.line.Line.{Line}

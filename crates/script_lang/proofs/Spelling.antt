@@ -7,8 +7,8 @@ use Rattle.std.specs.List.{list_all, AllByRecursion}
 use Rattle.res_path.specs.Paths.{path_text}
 use Rattle.std.specs.Prelude.{decimal}
 use Rattle.std.specs.Fmt.{signed_decimal}
-use Rattle.ws_ops.specs.declared.op.Op.TheVariants.{Delete, Sync, Read}
-use Rattle.ws_ops.specs.declared.op.Want.TheVariants.{Show, Cat, Tree, Digest}
+use Rattle.op_kind.specs.declared.op.Op.TheVariants.{Delete, Sync, Read}
+use Rattle.op_kind.specs.declared.op.Want.TheVariants.{Show, Cat, Tree, Digest}
 use Rattle.script_lang.specs.declared.script.Command.TheVariants.{Operation, Batch, EndBatch, Checkpoint, Begin, TryBegin, End}
 use Rattle.script_lang.specs.declared.line.Line.{Line}
 use Rattle.script_lang.specs.declared.line.Line.TheVariants.{BeginPhase, BeginJob, InJob, EndJob, EndPhase}

@@ -4,9 +4,9 @@ use Rattle.std.specs.Prelude.{codes}
 use Rattle.std.specs.Str.{bytes_eq}
 use Rattle.mark_set.specs.declared.value.RawValue.{RawValue}
 use Rattle.res_path.specs.Paths.{Names}
-use Rattle.ws_ops.specs.declared.op.Op.{Op}
-use Rattle.ws_ops.specs.declared.op.Op.TheVariants as op
-use Rattle.ws_ops.specs.declared.op.Want.TheVariants.{Show, Cat, Tree, Digest}
+use Rattle.op_kind.specs.declared.op.Op.{Op}
+use Rattle.op_kind.specs.declared.op.Op.TheVariants as op
+use Rattle.op_kind.specs.declared.op.Want.TheVariants.{Show, Cat, Tree, Digest}
 use Rattle.script_lang.specs.declared.verb.Verb.TheVariants.{Attr}
 use Rattle.script_lang.specs.Words.{Token}
 use Rattle.script_lang.specs.Commands.{a_path, a_number, a_text, FitsParts, set_parts, operation_parts}

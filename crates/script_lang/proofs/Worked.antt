@@ -7,8 +7,8 @@ use Rattle.std.specs.Str.{is_utf8, chars}
 use lib.Utf8.{encode}
 use Rattle.sched_rules.specs.declared.ws_atom.WsAtom.TheVariants.{Path, Mutex, Lines}
 use Rattle.mark_set.specs.declared.value.RawValue.TheVariants.{Int}
-use Rattle.ws_ops.specs.declared.op.Op.TheVariants.{CreateFile, CreateProject, Derived, Move, Describe, Mark, Read}
-use Rattle.ws_ops.specs.declared.op.Want.TheVariants.{Cat}
+use Rattle.op_kind.specs.declared.op.Op.TheVariants.{CreateFile, CreateProject, Derived, Move, Describe, Mark, Read}
+use Rattle.op_kind.specs.declared.op.Want.TheVariants.{Cat}
 use Rattle.script_lang.specs.declared.script.Command.TheVariants.{Operation, Batch, EndBatch, Checkpoint, Begin, TryBegin}
 use Rattle.script_lang.specs.declared.script.Job.{Job}
 use Rattle.script_lang.specs.declared.script.Priority.TheVariants.{Long}

@@ -6,7 +6,7 @@ ghost use Rattle.script_lang.specs.Commands.{attribute_parts, operation_parts, s
 ghost use Rattle.script_lang.specs.Scripts.{operation_text};
 ghost use Rattle.script_lang.specs.Printed.{AreParts, spaced};
 ghost use Rattle.mark_set.specs.declared.value.RawValue.TheVariants.{Int};
-ghost use Rattle.ws_ops.specs.declared.op.Op.TheVariants.{Mark, Attr, ClearMarks, Sync};
+ghost use Rattle.op_kind.specs.declared.op.Op.TheVariants.{Mark, Attr, ClearMarks, Sync};
 
 use crate::NoMemory;
 use crate::part_text::{
@@ -15,9 +15,9 @@ use crate::part_text::{
 };
 use bytes::Bytes;
 use mark_set::{RawAttrs, RawText, RawValue};
+use op_kind::Op;
 use res_path::{Name, Path};
 use ws_elem::Depth;
-use ws_ops::Op;
 
 /// Appends an operation's line, without its end.
 pub fn put_doing(out: &mut Vec<u8>, op: &Op) -> Result<(), NoMemory>

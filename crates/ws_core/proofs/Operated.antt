@@ -5,19 +5,19 @@ use Rattle.std.specs.Option.{option_map}
 use Rattle.sched_rules.specs.declared.ws_atom.WsAtom.{WsAtom}
 use Rattle.rule_table.specs.declared.held.Held.{Held}
 use Rattle.ws_elem.specs.Trees.{Tree}
-use Rattle.ws_ops.specs.declared.op.Op.{Op}
-use Rattle.ws_ops.specs.declared.op.Op.TheVariants.{CreateFile, CreateFolder, CreateProject, Delete, Write, Touch, Derived, Move, Copy, Open, Close, Describe, Mark, Attr, Unmark, ClearMarks, Partner, Sync, Flush, Read}
-use Rattle.ws_ops.specs.declared.refusal.OpRefusal.{OpRefusal}
-use Rattle.ws_ops.specs.Resources.{Resources}
-use Rattle.ws_ops.specs.Refusals as ops
-use Rattle.ws_core.specs.declared.event.Event.{Event}
-use Rattle.ws_core.specs.declared.event.Event.TheVariants.{Enter, Leave, Schedule, Take, Finish, Begin, TryBegin, End, Batch, EndBatch, Checkpoint, Operation}
-use Rattle.ws_core.specs.declared.reply.Refusal.{Refusal}
-use Rattle.ws_core.specs.declared.reply.Refusal.TheVariants as refusals
+use Rattle.op_kind.specs.declared.op.Op.{Op}
+use Rattle.op_kind.specs.declared.op.Op.TheVariants.{CreateFile, CreateFolder, CreateProject, Delete, Write, Touch, Derived, Move, Copy, Open, Close, Describe, Mark, Attr, Unmark, ClearMarks, Partner, Sync, Flush, Read}
+use Rattle.op_kind.specs.declared.refusal.OpRefusal.{OpRefusal}
+use Rattle.op_kind.specs.Resources.{Resources}
+use Rattle.op_kind.specs.Refusals as ops
+use Rattle.core_event.specs.declared.event.Event.{Event}
+use Rattle.core_event.specs.declared.event.Event.TheVariants.{Enter, Leave, Schedule, Take, Finish, Begin, TryBegin, End, Batch, EndBatch, Checkpoint, Operation}
+use Rattle.core_event.specs.declared.reply.Refusal.{Refusal}
+use Rattle.core_event.specs.declared.reply.Refusal.TheVariants as refusals
 use Rattle.ws_core.specs.declared.state.State.{State}
-use Rattle.ws_core.specs.declared.waiting.Waiting.{Waiting}
+use Rattle.core_event.specs.declared.waiting.Waiting.{Waiting}
 use Rattle.ws_core.proofs.Taken.{after_take}
-use Rattle.ws_core.specs.Events.{is_read, change_of}
+use Rattle.core_event.specs.Events.{is_read, change_of}
 use Rattle.ws_core.specs.States.{resources_of, with_resources, seen}
 use Rattle.ws_core.specs.Operations.{operated_by, operated, act_operation}
 use Rattle.ws_core.specs.Effects.{effect}

@@ -3,9 +3,9 @@ use Rattle.std.specs.Prelude.{◌≡◌, List}
 use Rattle.ws_elem.specs.Trees.{Whole}
 use Rattle.sched_rules.specs.Atoms.{atom_contains, atom_conflicts}
 use Rattle.rule_table.specs.Tables.{IsApart}
-use Rattle.ws_ops.specs.Sound as ops
-use Rattle.ws_ops.specs.Stamps.{IsKnown}
-use Rattle.ws_core.specs.declared.history.Entry.{Entry}
+use Rattle.op_kind.specs.Sound as ops
+use Rattle.op_kind.specs.Stamps.{IsKnown}
+use Rattle.core_event.specs.declared.entry.Entry.{Entry}
 use Rattle.ws_core.specs.declared.state.State.{State}
 use Rattle.ws_core.specs.Histories.{Legal, replay}
 use Rattle.ws_core.specs.States.{resources_of}

@@ -7,9 +7,9 @@ use Rattle.ws_elem.specs.RoomyTrees.{names_code}
 use Rattle.ws_elem.specs.Trees.{Tree}
 use Rattle.sched_rules.specs.declared.ws_atom.WsAtom.{WsAtom}
 use Rattle.rule_table.specs.declared.held.Held.{Held}
-use Rattle.ws_ops.specs.Partners.{Partners}
-use Rattle.ws_ops.specs.Resources.{Resources}
-use Rattle.ws_core.specs.declared.waiting.Waiting.{Waiting}
+use Rattle.op_kind.specs.Partners.{Partners}
+use Rattle.op_kind.specs.Resources.{Resources}
+use Rattle.core_event.specs.declared.waiting.Waiting.{Waiting}
 
 -- a workspace at one moment
 pub record Workspace : Type 0 where

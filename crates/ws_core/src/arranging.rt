@@ -1,6 +1,6 @@
 //! The events that concern passes, jobs and batches.
 ghost use Rattle.std.specs.Prelude.{◌≡◌, false, if◌then◌else◌, IfOk, OnOk, OnErr};
-ghost use Rattle.ws_ops.specs.Refusals.{is_spent};
+ghost use Rattle.op_kind.specs.Refusals.{is_spent};
 ghost use Rattle.ws_core.specs.Effects.{enter, leave, schedule, begin, may_run, take, finish};
 
 use crate::{Answer, Apart, NoMemory, State, Waiting, WsRule};

@@ -5,13 +5,13 @@ ghost use Rattle.ws_core.specs.Histories.{fresh};
 ghost use Rattle.ws_core.specs.Sessions.{IsSound};
 
 use crate::{NoMemory, Numbers, Waiting};
+use op_kind::{Partners, Side};
 use rule_table::RuleTable;
 use sched_rules::WsAtom;
 use std::alloc::Global;
 use std::marker::Model;
 use tree_flat::FlatTree;
 use ws_elem::ElemMap;
-use ws_ops::{Partners, Side};
 
 /// The state of a workspace. A contract sees the record of its tree, the members of closed projects, the tree as it
 /// was last told, the counters that new resources, contents, markers and passes are numbered from, the synchronisation partners,
@@ -38,7 +38,7 @@ pub struct State {
 impl Model for State {
     ghost use Rattle.ws_elem.specs.contracts.element.Element as element;
     ghost use Rattle.sched_rules.specs.contracts.ws_atom.WsAtom as atom;
-    ghost use Rattle.ws_ops.specs.Resources.{resources};
+    ghost use Rattle.op_kind.specs.Resources.{resources};
     ghost use Rattle.ws_core.specs.States.{Workspace, workspace_code, seen};
 
     ghost Value = { Workspace };

@@ -5,7 +5,7 @@ use Rattle.std.specs.Option.{option_map}
 use Rattle.mark_set.specs.declared.error.MarkError.{MarkError}
 use Rattle.mark_set.specs.declared.error.MarkError.TheVariants.{BadValue as Spoilt}
 use Rattle.mark_set.specs.declared.error.ValueCause.{ValueCause}
-use Rattle.ws_ops.specs.declared.refusal.OpRefusal.TheVariants.{BadValue}
+use Rattle.op_kind.specs.declared.refusal.OpRefusal.TheVariants.{BadValue}
 
 -- what is done had no cause against it
 pub unspoilt : {A : Type 0} (c d : Option ValueCause) (r : Result A MarkError) (a : A) → c ≡ d → r ≡ Ok a → ((x : ValueCause) → c ≡ Some x → r ≡ Err (Spoilt x)) → option_map BadValue d ≡ None

@@ -7,16 +7,16 @@ use Rattle.std.proofs.lemmas.List.Sums.{sum_by-cons}
 use Rattle.res_path.specs.Paths.{Names, is_prefix}
 use Rattle.ws_elem.specs.declared.element.Element.{Element}
 use Rattle.ws_elem.specs.Trees.{Tree, without}
-use Rattle.ws_ops.specs.declared.answer.OpAnswer.TheVariants.{Done}
-use Rattle.ws_ops.specs.declared.op.Op.TheVariants.{Move, Copy}
+use Rattle.op_kind.specs.declared.answer.OpAnswer.TheVariants.{Done}
+use Rattle.op_kind.specs.declared.op.Op.TheVariants.{Move, Copy}
 use Rattle.ws_ops.specs.declared.plan.Plan.{Plan}
-use Rattle.ws_ops.specs.Entries.{Entries}
-use Rattle.ws_ops.specs.Resources.{Resources}
-use Rattle.ws_ops.specs.Members.{branch, rebased, carried, put_all}
-use Rattle.ws_ops.specs.Numbers.{has_stamp, stamps_of, stamps_of_all}
-use Rattle.ws_ops.specs.Effects.{effect, copies}
+use Rattle.op_kind.specs.Entries.{Entries}
+use Rattle.op_kind.specs.Resources.{Resources}
+use Rattle.op_kind.specs.Members.{branch, rebased, carried, put_all}
+use Rattle.op_kind.specs.Numbers.{has_stamp, stamps_of, stamps_of_all}
+use Rattle.op_kind.specs.Effects.{effect, copies}
 use Rattle.ws_ops.specs.Changes.{changed, taken, put}
-use Rattle.ws_ops.specs.Partners.{with_partner}
+use Rattle.op_kind.specs.Partners.{with_partner}
 use Rattle.ws_ops.specs.Plans.{planned}
 use Rattle.ws_ops.proofs.Effected.{changed-append, changed_put, taken_branch, copies_carried}
 

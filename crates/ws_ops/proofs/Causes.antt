@@ -1,15 +1,15 @@
 -- Causes in their order.
 use Rattle.std.proofs.Common.{◌≡◌, List, [], ◌∷◌, ◌++◌, refl, ap, ◌∙◌}
 use Rattle.std.specs.Prelude.{Option, Some, None, Result, Ok, Err, IsErrAnd}
-use Rattle.ws_ops.specs.declared.refusal.OpRefusal.{OpRefusal}
-use Rattle.ws_ops.specs.declared.refusal.OpError.{OpError}
-use Rattle.ws_ops.specs.declared.refusal.OpError.TheVariants.{Refused, Memory}
-use Rattle.ws_ops.specs.declared.op.Op.{Op}
+use Rattle.op_kind.specs.declared.refusal.OpRefusal.{OpRefusal}
+use Rattle.op_kind.specs.declared.refusal.OpError.{OpError}
+use Rattle.op_kind.specs.declared.refusal.OpError.TheVariants.{Refused, Memory}
+use Rattle.op_kind.specs.declared.op.Op.{Op}
 use Rattle.ws_ops.specs.declared.plan.Plan.{Plan}
 use Rattle.ws_ops.specs.Plans.{Plans}
-use Rattle.ws_ops.specs.Resources.{Resources}
-use Rattle.ws_ops.specs.Judging.{IfRefused, Judges}
-use Rattle.ws_ops.specs.Refusals.{first_cause, refusal}
+use Rattle.op_kind.specs.Resources.{Resources}
+use Rattle.op_kind.specs.Judging.{IfRefused, Judges}
+use Rattle.op_kind.specs.Refusals.{first_cause, refusal}
 
 abbrev pub Causes : Type 0
 Causes = List (Option OpRefusal)

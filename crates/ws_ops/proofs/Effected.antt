@@ -11,10 +11,10 @@ use Rattle.res_path.proofs.Prefixes.{path_cmp_exact}
 use Rattle.ws_elem.specs.declared.element.Element.{Element}
 use Rattle.ws_elem.specs.Trees.{Tree, without}
 use Rattle.ws_elem.proofs.Cuts.{any_filter, same_at}
-use Rattle.ws_ops.specs.Entries.{Entries}
-use Rattle.ws_ops.specs.Members.{branch, members, without_members, is_below, put_all, carried, rebased}
-use Rattle.ws_ops.specs.Numbers.{stamps_of}
-use Rattle.ws_ops.specs.Effects.{change_at, put_some, copies, renumbered}
+use Rattle.op_kind.specs.Entries.{Entries}
+use Rattle.op_kind.specs.Members.{branch, members, without_members, is_below, put_all, carried, rebased}
+use Rattle.op_kind.specs.Numbers.{stamps_of}
+use Rattle.op_kind.specs.Effects.{change_at, put_some, copies, renumbered}
 use Rattle.ws_ops.specs.Changes.{Changes, set_entry, changed, undoing, taken, put}
 
 pub changed-append : (t : Tree) (cs ds : Changes) → changed t (cs ++ ds) ≡ changed (changed t cs) ds

@@ -18,17 +18,17 @@ use Rattle.ws_elem.specs.declared.element.Element.{Element}
 use Rattle.ws_elem.specs.Depths.{is_within}
 use Rattle.ws_elem.specs.Trees.{Tree}
 use Rattle.ws_elem.proofs.Cuts.{same_at}
-use Rattle.ws_ops.specs.declared.answer.OpAnswer.TheVariants.{Count}
-use Rattle.ws_ops.specs.declared.op.Op.TheVariants.{ClearMarks, Flush}
+use Rattle.op_kind.specs.declared.answer.OpAnswer.TheVariants.{Count}
+use Rattle.op_kind.specs.declared.op.Op.TheVariants.{ClearMarks, Flush}
 use Rattle.ws_ops.specs.declared.plan.Plan.{Plan}
 use Rattle.ws_ops.specs.Changes.{changed, put}
-use Rattle.ws_ops.specs.Effects.{effect}
-use Rattle.ws_ops.specs.Entries.{Entries}
-use Rattle.ws_ops.specs.Marking.{removed, unmarked, count_marks, unsynced, count_bytes, reached, change_all, change_within, count_all}
-use Rattle.ws_ops.specs.Members.{put_all}
-use Rattle.ws_ops.specs.Partners.{number_of, with_partner}
+use Rattle.op_kind.specs.Effects.{effect}
+use Rattle.op_kind.specs.Entries.{Entries}
+use Rattle.op_kind.specs.Marking.{removed, unmarked, count_marks, unsynced, count_bytes, reached, change_all, change_within, count_all}
+use Rattle.op_kind.specs.Members.{put_all}
+use Rattle.op_kind.specs.Partners.{number_of, with_partner}
 use Rattle.ws_ops.specs.Plans.{planned}
-use Rattle.ws_ops.specs.Resources.{Resources}
+use Rattle.op_kind.specs.Resources.{Resources}
 use Rattle.ws_ops.proofs.Effected.{changed_put}
 use Rattle.ws_ops.proofs.SoundLooks.{is_at, find_at, sorted, get-put_all, last_is, none_above}
 

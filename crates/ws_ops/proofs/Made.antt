@@ -9,7 +9,7 @@ use Rattle.ws_elem.specs.declared.element.Element.{Element}
 use Rattle.ws_elem.specs.Rooms.{Room, has_room, with_room}
 use Rattle.ws_elem.proofs.Rooms.{room_added, room_kept}
 use Rattle.ws_elem.specs.Trees.{Tree}
-use Rattle.ws_ops.specs.Partners.{Partners, with_partner}
+use Rattle.op_kind.specs.Partners.{Partners, with_partner}
 use Rattle.ws_ops.specs.Changes.{Changes, HasRooms, KeepsRoom, set_entry, undoing}
 
 pub rooms_kept : (r s : Room) (cs : Changes) → KeepsRoom r s → HasRooms r cs → HasRooms s cs

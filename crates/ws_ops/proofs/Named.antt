@@ -3,7 +3,7 @@ use Rattle.std.proofs.Common.{◌≡◌, ◌≤◌, ℕ, List, [], ◌∷◌, le
 use Rattle.std.specs.Prelude.{Some}
 use Rattle.res_path.specs.Names.{IsName}
 use Rattle.res_path.specs.Paths.{Names, IsPath, last_name}
-use Rattle.ws_ops.specs.Places.{project_of, project_name}
+use Rattle.op_kind.specs.Places.{project_of, project_name}
 
 pub last_is : (p q : Names) → 1 ≤ length p → q ≡ project_of p → last_name q ≡ Some (project_name p)
 last_is [] q h is = absurd (omega arith)

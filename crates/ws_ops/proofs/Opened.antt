@@ -6,15 +6,15 @@ use Rattle.res_path.specs.Paths.{Names}
 use Rattle.res_path.proofs.Prefixes.{path_cmp_exact}
 use Rattle.ws_elem.specs.declared.element.Element.{Element}
 use Rattle.ws_elem.specs.Trees.{Tree}
-use Rattle.ws_ops.specs.Members.{members, without_members, is_below, put_all}
-use Rattle.ws_ops.specs.declared.answer.OpAnswer.TheVariants.{Done}
-use Rattle.ws_ops.specs.declared.op.Op.TheVariants.{Open, Close}
+use Rattle.op_kind.specs.Members.{members, without_members, is_below, put_all}
+use Rattle.op_kind.specs.declared.answer.OpAnswer.TheVariants.{Done}
+use Rattle.op_kind.specs.declared.op.Op.TheVariants.{Open, Close}
 use Rattle.ws_ops.specs.declared.plan.Plan.{Plan}
-use Rattle.ws_ops.specs.Effects.{effect, set_open}
-use Rattle.ws_ops.specs.Places.{is_shut}
-use Rattle.ws_ops.specs.Partners.{with_partner}
+use Rattle.op_kind.specs.Effects.{effect, set_open}
+use Rattle.op_kind.specs.Places.{is_shut}
+use Rattle.op_kind.specs.Partners.{with_partner}
 use Rattle.ws_ops.specs.Plans.{planned}
-use Rattle.ws_ops.specs.Resources.{Resources}
+use Rattle.op_kind.specs.Resources.{Resources}
 use Rattle.ws_ops.specs.Changes.{changed, taken, put}
 use Rattle.ws_ops.proofs.Effected.{changed-append, changed_put, taken_members, change_there}
 use Rattle.ws_ops.proofs.Walked.{prefix_itself}

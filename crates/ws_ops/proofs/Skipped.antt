@@ -17,9 +17,9 @@ use Rattle.ws_elem.specs.Trees.{Tree}
 use Rattle.ws_elem.specs.declared.depth.Depth.{Depth}
 use Rattle.ws_elem.specs.declared.depth.Depth.TheVariants.{Zero, One, Infinite}
 use Rattle.ws_elem.specs.declared.element.Element.{Element}
-use Rattle.ws_ops.specs.Entries.{Entries}
-use Rattle.ws_ops.specs.Marking.{reached}
-use Rattle.ws_ops.specs.Members.{found_at, is_below, members}
+use Rattle.op_kind.specs.Entries.{Entries}
+use Rattle.op_kind.specs.Marking.{reached}
+use Rattle.op_kind.specs.Members.{found_at, is_below, members}
 use Rattle.ws_ops.specs.Walks.{members_after}
 use Rattle.ws_ops.proofs.Reached.{reached_split}
 use Rattle.ws_ops.proofs.Walked.{prefix_itself, under}

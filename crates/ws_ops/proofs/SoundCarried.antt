@@ -9,10 +9,10 @@ use Rattle.std.proofs.Math.Seq.{drop-append_seam}
 use Rattle.res_path.specs.Paths.{Names, path_cmp, is_prefix}
 use Rattle.ws_elem.specs.Trees.{Tree}
 use Rattle.ws_elem.proofs.Cuts.{same_at}
-use Rattle.ws_ops.specs.Entries.{Entries}
-use Rattle.ws_ops.specs.Members.{branch, put_all, rebased, carried}
-use Rattle.ws_ops.specs.Numbers.{stamps_of, stamps_of_all}
-use Rattle.ws_ops.specs.Effects.{renumbered, copies}
+use Rattle.op_kind.specs.Entries.{Entries}
+use Rattle.op_kind.specs.Members.{branch, put_all, rebased, carried}
+use Rattle.op_kind.specs.Numbers.{stamps_of, stamps_of_all}
+use Rattle.op_kind.specs.Effects.{renumbered, copies}
 use Rattle.ws_ops.proofs.SoundPaths.{never, not_true, prefix_is, prefix_front}
 use Rattle.ws_ops.proofs.SoundCases.{at_cond, or_none, if_map}
 use Rattle.ws_ops.proofs.SoundLooks.{is_at, at_same, at_other, find_at, last_at, last_is, sorted, get-put_all}

@@ -9,13 +9,13 @@ use Rattle.ws_elem.specs.declared.element.Element.{Element}
 use Rattle.ws_elem.specs.declared.kind.Kind.TheVariants.{File}
 use Rattle.proj_desc.specs.Canonical.{canonical_of}
 use Rattle.ws_elem.proofs.Cuts.{same_at}
-use Rattle.ws_ops.specs.declared.refusal.OpRefusal.TheVariants.{ProjectClosed, WrongKind}
-use Rattle.ws_ops.specs.Resources.{Resources}
-use Rattle.ws_ops.specs.Places.{project_of, is_project_path, is_in_shut}
-use Rattle.ws_ops.specs.Refusals.{first_cause, contents_causes, derived_causes, describe_causes}
-use Rattle.ws_ops.specs.Effects.{change_at, write, touch, derive, describe}
-use Rattle.ws_ops.specs.Sound.{opened, IsSound}
-use Rattle.ws_ops.specs.Stamps.{IsDrawn}
+use Rattle.op_kind.specs.declared.refusal.OpRefusal.TheVariants.{ProjectClosed, WrongKind}
+use Rattle.op_kind.specs.Resources.{Resources}
+use Rattle.op_kind.specs.Places.{project_of, is_project_path, is_in_shut}
+use Rattle.op_kind.specs.Refusals.{first_cause, contents_causes, derived_causes, describe_causes}
+use Rattle.op_kind.specs.Effects.{change_at, write, touch, derive, describe}
+use Rattle.op_kind.specs.Sound.{opened, IsSound}
+use Rattle.op_kind.specs.Stamps.{IsDrawn}
 use Rattle.ws_ops.proofs.SoundPaths.{one_short}
 use Rattle.ws_ops.proofs.SoundCases.{if_as, some_same, at_cond, if_there, at_some, map_if}
 use Rattle.ws_ops.proofs.SoundLooks.{is_at, get-change_at, changed_at}

@@ -8,14 +8,14 @@ use Rattle.ws_elem.specs.Kinds.{is_file, is_project}
 use Rattle.ws_elem.specs.Trees.{Tree}
 use Rattle.ws_elem.specs.declared.element.Element.{Element}
 use Rattle.ws_elem.specs.declared.kind.Kind.TheVariants.{File}
-use Rattle.ws_ops.specs.Resources.{Resources}
-use Rattle.ws_ops.specs.Entries.{Entries}
-use Rattle.ws_ops.specs.Members.{branch, put_all, rebased, carried}
-use Rattle.ws_ops.specs.Numbers.{stamps_of, stamps_of_all}
-use Rattle.ws_ops.specs.Refusals.{first_cause, copy_causes}
-use Rattle.ws_ops.specs.Effects.{renumbered, copies, copy}
-use Rattle.ws_ops.specs.Sound.{IsSound}
-use Rattle.ws_ops.specs.Stamps.{IsDrawn}
+use Rattle.op_kind.specs.Resources.{Resources}
+use Rattle.op_kind.specs.Entries.{Entries}
+use Rattle.op_kind.specs.Members.{branch, put_all, rebased, carried}
+use Rattle.op_kind.specs.Numbers.{stamps_of, stamps_of_all}
+use Rattle.op_kind.specs.Refusals.{first_cause, copy_causes}
+use Rattle.op_kind.specs.Effects.{renumbered, copies, copy}
+use Rattle.op_kind.specs.Sound.{IsSound}
+use Rattle.op_kind.specs.Stamps.{IsDrawn}
 use Rattle.ws_ops.proofs.SoundCases.{if_as, at_two, some_same, at_cond, cond_true, if_map, if_there, at_some, map_if}
 use Rattle.ws_ops.proofs.SoundLooks.{find_at, sorted-branch}
 use Rattle.ws_ops.proofs.SoundParts.{whole_of, whole_parts, whole_fits}

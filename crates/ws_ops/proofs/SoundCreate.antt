@@ -8,13 +8,13 @@ use Rattle.ws_elem.specs.Trees.{Tree, without}
 use Rattle.ws_elem.specs.declared.element.Element.{Element}
 use Rattle.ws_elem.specs.declared.kind.Kind.TheVariants.{File, Project, Root}
 use Rattle.ws_elem.proofs.Cuts.{same_at}
-use Rattle.ws_ops.specs.declared.refusal.OpRefusal.TheVariants.{ProjectClosed, WrongKind}
-use Rattle.ws_ops.specs.Resources.{Resources}
-use Rattle.ws_ops.specs.Places.{project_of, is_project_path, is_member_path, is_root_path, is_shut}
-use Rattle.ws_ops.specs.Refusals.{when, first_cause, creation_causes, deletion_causes}
-use Rattle.ws_ops.specs.Effects.{create, delete, new_file, new_folder, new_project}
-use Rattle.ws_ops.specs.Sound.{IsSound}
-use Rattle.ws_ops.specs.Stamps.{IsDrawn}
+use Rattle.op_kind.specs.declared.refusal.OpRefusal.TheVariants.{ProjectClosed, WrongKind}
+use Rattle.op_kind.specs.Resources.{Resources}
+use Rattle.op_kind.specs.Places.{project_of, is_project_path, is_member_path, is_root_path, is_shut}
+use Rattle.op_kind.specs.Refusals.{when, first_cause, creation_causes, deletion_causes}
+use Rattle.op_kind.specs.Effects.{create, delete, new_file, new_folder, new_project}
+use Rattle.op_kind.specs.Sound.{IsSound}
+use Rattle.op_kind.specs.Stamps.{IsDrawn}
 use Rattle.ws_ops.proofs.SoundPaths.{never, not_true, prefix_itself}
 use Rattle.ws_ops.proofs.SoundCases.{if_as, at_cond, if_map}
 use Rattle.ws_ops.proofs.SoundLooks.{Look, is_at, get-put, get-without, cut}

@@ -7,10 +7,10 @@ use Rattle.ws_elem.specs.Trees.{Tree, fresh_tree}
 use Rattle.ws_elem.specs.declared.element.Element.{Element}
 use Rattle.ws_elem.specs.declared.kind.Kind.TheVariants.{Root}
 use Rattle.ws_elem.proofs.Fresh.{get-fresh_tree, whole-fresh_tree}
-use Rattle.ws_ops.specs.Resources.{Resources}
-use Rattle.ws_ops.specs.Places.{has_closed, project_of}
-use Rattle.ws_ops.specs.Sound.{IsSound}
-use Rattle.ws_ops.specs.Stamps.{IsDrawn, IsKnown}
+use Rattle.op_kind.specs.Resources.{Resources}
+use Rattle.op_kind.specs.Places.{has_closed, project_of}
+use Rattle.op_kind.specs.Sound.{IsSound}
+use Rattle.op_kind.specs.Stamps.{IsDrawn, IsKnown}
 use Rattle.ws_ops.proofs.SoundCases.{if_there, none_if}
 use Rattle.ws_ops.proofs.SoundParts.{IsOpen, Fits, Parts, open_kept, open_split, is_kept, open_not_closed, parts_sound}
 use Rattle.ws_ops.proofs.SoundGrafts.{opened_all}

@@ -6,8 +6,8 @@ use Rattle.res_path.specs.Paths.{Names, parent, is_prefix}
 use Rattle.ws_elem.specs.declared.element.Element.{Element}
 use Rattle.ws_elem.specs.declared.kind.Kind.TheVariants.{File, Project, Root}
 use Rattle.ws_elem.proofs.Cuts.{same_at}
-use Rattle.ws_ops.specs.Places.{project_of, is_member_path, has_closed}
-use Rattle.ws_ops.specs.Sound.{opened}
+use Rattle.op_kind.specs.Places.{project_of, is_member_path, has_closed}
+use Rattle.op_kind.specs.Sound.{opened}
 use Rattle.ws_ops.proofs.SoundPaths.{never, root_above, not_true, prefix_parent, parent_below, parent_above, prefix_project, project_below}
 use Rattle.ws_ops.proofs.SoundCases.{at_cond, cond_false, if_map}
 use Rattle.ws_ops.proofs.SoundLooks.{Look, is_at, not_at, cut}

@@ -3,14 +3,14 @@ use Rattle.std.proofs.Common.{◌≡◌}
 use Rattle.std.specs.Prelude.{None}
 use Rattle.ws_elem.specs.Trees.{Tree}
 use Rattle.ws_elem.specs.declared.element.Element.{Element}
-use Rattle.ws_ops.specs.declared.op.Op.{Op}
-use Rattle.ws_ops.specs.declared.op.Op.TheVariants.{CreateFile, CreateFolder, CreateProject, Delete, Write, Touch, Derived, Move, Copy, Open, Close, Describe, Mark, Attr, Unmark, ClearMarks, Partner, Sync, Flush, Read}
-use Rattle.ws_ops.specs.Resources.{Resources}
-use Rattle.ws_ops.specs.Members.{branch}
-use Rattle.ws_ops.specs.Refusals.{refusal}
-use Rattle.ws_ops.specs.Effects.{effect, new_file, new_folder, new_project}
-use Rattle.ws_ops.specs.Sound.{IsSound}
-use Rattle.ws_ops.specs.Stamps.{IsKnown}
+use Rattle.op_kind.specs.declared.op.Op.{Op}
+use Rattle.op_kind.specs.declared.op.Op.TheVariants.{CreateFile, CreateFolder, CreateProject, Delete, Write, Touch, Derived, Move, Copy, Open, Close, Describe, Mark, Attr, Unmark, ClearMarks, Partner, Sync, Flush, Read}
+use Rattle.op_kind.specs.Resources.{Resources}
+use Rattle.op_kind.specs.Members.{branch}
+use Rattle.op_kind.specs.Refusals.{refusal}
+use Rattle.op_kind.specs.Effects.{effect, new_file, new_folder, new_project}
+use Rattle.op_kind.specs.Sound.{IsSound}
+use Rattle.op_kind.specs.Stamps.{IsKnown}
 use Rattle.ws_ops.proofs.SoundSteps.{Keeps, kept_sound, kept_known}
 use Rattle.ws_ops.proofs.SoundCreate.{file_keeps, folder_keeps, project_keeps, delete_keeps}
 use Rattle.ws_ops.proofs.SoundChange.{IsChanged, rewrite_with, write_keeps, touch_keeps, derive_keeps, describe_keeps}

@@ -13,9 +13,9 @@ use Rattle.res_path.proofs.Prefixes.{path_cmp_exact, path_itself}
 use Rattle.ws_elem.specs.Trees.{Tree, without}
 use Rattle.ws_elem.specs.declared.element.Element.{Element}
 use Rattle.ws_elem.proofs.Cuts.{same_at}
-use Rattle.ws_ops.specs.Entries.{Entries}
-use Rattle.ws_ops.specs.Members.{is_below, branch, members, without_members, put_all}
-use Rattle.ws_ops.specs.Effects.{put_some, change_at}
+use Rattle.op_kind.specs.Entries.{Entries}
+use Rattle.op_kind.specs.Members.{is_below, branch, members, without_members, put_all}
+use Rattle.op_kind.specs.Effects.{put_some, change_at}
 use Rattle.ws_ops.proofs.SoundPaths.{never, not_true}
 use Rattle.ws_ops.proofs.SoundCases.{at_cond, cond_true, cond_false}
 

@@ -12,14 +12,14 @@ use Rattle.ws_elem.specs.Kinds.{is_project}
 use Rattle.ws_elem.specs.Trees.{Tree, Whole, without}
 use Rattle.ws_elem.specs.declared.element.Element.{Element}
 use Rattle.ws_elem.specs.declared.kind.Kind.TheVariants.{File, Project, Root}
-use Rattle.ws_ops.specs.declared.refusal.OpRefusal.{OpRefusal}
-use Rattle.ws_ops.specs.declared.refusal.OpRefusal.TheVariants.{NotFound, WrongKind, ProjectClosed, IntoItself}
-use Rattle.ws_ops.specs.Resources.{Resources}
-use Rattle.ws_ops.specs.Places.{project_of, is_root_path, is_project_path, has_closed, is_shut}
-use Rattle.ws_ops.specs.Members.{branch, put_all, rebased, carried}
-use Rattle.ws_ops.specs.Refusals.{when, first_cause, kind_causes, closed, missing, place_causes, transfer_causes}
-use Rattle.ws_ops.specs.Effects.{move}
-use Rattle.ws_ops.specs.Sound.{opened, IsSound}
+use Rattle.op_kind.specs.declared.refusal.OpRefusal.{OpRefusal}
+use Rattle.op_kind.specs.declared.refusal.OpRefusal.TheVariants.{NotFound, WrongKind, ProjectClosed, IntoItself}
+use Rattle.op_kind.specs.Resources.{Resources}
+use Rattle.op_kind.specs.Places.{project_of, is_root_path, is_project_path, has_closed, is_shut}
+use Rattle.op_kind.specs.Members.{branch, put_all, rebased, carried}
+use Rattle.op_kind.specs.Refusals.{when, first_cause, kind_causes, closed, missing, place_causes, transfer_causes}
+use Rattle.op_kind.specs.Effects.{move}
+use Rattle.op_kind.specs.Sound.{opened, IsSound}
 use Rattle.ws_ops.proofs.SoundPaths.{one_short, never, not_true, prefix_is, prefix_front, prefix_parent, parent_append, project_below, project_itself}
 use Rattle.ws_ops.proofs.SoundCases.{if_as, at_cond, cond_true, cond_false, if_map, if_there, at_some, map_if, map_some, some_map}
 use Rattle.ws_ops.proofs.SoundLooks.{Look, cut, get-without, find_at, find-branch, sorted-branch}

@@ -19,15 +19,15 @@ use Rattle.ws_elem.specs.Kinds.{is_project}
 use Rattle.ws_elem.specs.Trees.{Tree}
 use Rattle.ws_elem.specs.declared.depth.Depth.{Depth}
 use Rattle.ws_elem.specs.declared.element.Element.{Element}
-use Rattle.ws_ops.specs.declared.refusal.OpRefusal.TheVariants.{WrongKind, ProjectClosed, NotFound, PartnerUnknown}
-use Rattle.ws_ops.specs.Resources.{Resources}
-use Rattle.ws_ops.specs.Partners.{Partners, is_partner, number_of}
-use Rattle.ws_ops.specs.Places.{project_of, is_root_path, is_shut}
-use Rattle.ws_ops.specs.Marking.{with_marker, put_marker, with_attribute_of}
-use Rattle.ws_ops.specs.Refusals.{first_cause, sync_causes}
-use Rattle.ws_ops.specs.Effects.{mark, set_attribute, unmark, clear_marks, register, sync, flush}
-use Rattle.ws_ops.specs.Sound.{opened, IsSound}
-use Rattle.ws_ops.specs.Stamps.{IsDrawn}
+use Rattle.op_kind.specs.declared.refusal.OpRefusal.TheVariants.{WrongKind, ProjectClosed, NotFound, PartnerUnknown}
+use Rattle.op_kind.specs.Resources.{Resources}
+use Rattle.op_kind.specs.Partners.{Partners, is_partner, number_of}
+use Rattle.op_kind.specs.Places.{project_of, is_root_path, is_shut}
+use Rattle.op_kind.specs.Marking.{with_marker, put_marker, with_attribute_of}
+use Rattle.op_kind.specs.Refusals.{first_cause, sync_causes}
+use Rattle.op_kind.specs.Effects.{mark, set_attribute, unmark, clear_marks, register, sync, flush}
+use Rattle.op_kind.specs.Sound.{opened, IsSound}
+use Rattle.op_kind.specs.Stamps.{IsDrawn}
 use Rattle.ws_ops.proofs.Lost.{change_where, get-change_where}
 use Rattle.ws_ops.proofs.SoundCases.{if_as, at_cond, if_there, at_some, map_if}
 use Rattle.ws_ops.proofs.SoundLooks.{is_at, get-change_at}

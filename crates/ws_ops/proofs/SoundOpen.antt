@@ -9,14 +9,14 @@ use Rattle.ws_elem.specs.Trees.{Tree}
 use Rattle.ws_elem.specs.declared.element.Element.{Element}
 use Rattle.ws_elem.specs.declared.kind.Kind.TheVariants.{Project}
 use Rattle.ws_elem.proofs.Cuts.{same_at}
-use Rattle.ws_ops.specs.declared.refusal.OpRefusal.TheVariants.{NotFound, WrongKind}
-use Rattle.ws_ops.specs.Partners.{Partners}
-use Rattle.ws_ops.specs.Resources.{Resources}
-use Rattle.ws_ops.specs.Places.{project_of, is_project_path, is_member_path, has_closed, is_shut}
-use Rattle.ws_ops.specs.Members.{is_below, members, without_members, put_all}
-use Rattle.ws_ops.specs.Refusals.{first_cause, project_causes}
-use Rattle.ws_ops.specs.Effects.{set_open, open_project, close_project}
-use Rattle.ws_ops.specs.Sound.{opened, IsSound}
+use Rattle.op_kind.specs.declared.refusal.OpRefusal.TheVariants.{NotFound, WrongKind}
+use Rattle.op_kind.specs.Partners.{Partners}
+use Rattle.op_kind.specs.Resources.{Resources}
+use Rattle.op_kind.specs.Places.{project_of, is_project_path, is_member_path, has_closed, is_shut}
+use Rattle.op_kind.specs.Members.{is_below, members, without_members, put_all}
+use Rattle.op_kind.specs.Refusals.{first_cause, project_causes}
+use Rattle.op_kind.specs.Effects.{set_open, open_project, close_project}
+use Rattle.op_kind.specs.Sound.{opened, IsSound}
 use Rattle.ws_ops.proofs.SoundPaths.{one_short, never, both, not_true, prefix_itself, prefix_turned, in_project, project_length, project_itself}
 use Rattle.ws_ops.proofs.SoundCases.{if_as, at_cond, cond_true, cond_false, if_map, if_there, map_if, or_none}
 use Rattle.ws_ops.proofs.SoundLooks.{Look, is_at, at_itself, at_other, get-change_at, changed_at, get-put_all, last_is, find-members, sorted-members, get-without_members}

@@ -10,10 +10,10 @@ use Rattle.ws_elem.specs.Trees.{Tree, Whole}
 use Rattle.ws_elem.specs.declared.element.Element.{Element}
 use Rattle.ws_elem.specs.declared.kind.Kind.{Kind}
 use Rattle.ws_elem.specs.declared.kind.Kind.TheVariants.{File, Folder, Project, Root}
-use Rattle.ws_ops.specs.Resources.{Resources}
-use Rattle.ws_ops.specs.Places.{project_of, is_member_path, has_closed, is_in_shut}
-use Rattle.ws_ops.specs.Sound.{opened, IsSound}
-use Rattle.ws_ops.specs.Stamps.{IsKnown}
+use Rattle.op_kind.specs.Resources.{Resources}
+use Rattle.op_kind.specs.Places.{project_of, is_member_path, has_closed, is_in_shut}
+use Rattle.op_kind.specs.Sound.{opened, IsSound}
+use Rattle.op_kind.specs.Stamps.{IsKnown}
 use Rattle.ws_ops.proofs.SoundPaths.{one_short, never, both, not_true, project_prefix, project_length, project_itself, project_below, parent_shorter}
 use Rattle.ws_ops.proofs.SoundCases.{at_cond, if_map, if_there, at_some, none_some, if_none, none_if, map_if, or_none, some_none}
 use Rattle.ws_ops.proofs.SoundLooks.{Look}

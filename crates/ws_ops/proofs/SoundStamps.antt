@@ -8,8 +8,8 @@ use Rattle.res_path.specs.Paths.{Names}
 use Rattle.ws_elem.specs.Trees.{Tree}
 use Rattle.ws_elem.specs.declared.element.Element.{Element}
 use Rattle.ws_elem.specs.declared.kind.Kind.TheVariants.{File}
-use Rattle.ws_ops.specs.Resources.{Resources}
-use Rattle.ws_ops.specs.Stamps.{SameContents, IsDrawn, IsKnown}
+use Rattle.op_kind.specs.Resources.{Resources}
+use Rattle.op_kind.specs.Stamps.{SameContents, IsDrawn, IsKnown}
 use Rattle.ws_ops.proofs.SoundCases.{if_map, if_there, at_some, absent_if}
 
 -- two files with equal stamps have equal contents

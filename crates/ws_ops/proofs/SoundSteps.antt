@@ -8,13 +8,13 @@ use Rattle.ws_elem.specs.Kinds.{is_file}
 use Rattle.ws_elem.specs.Trees.{Tree}
 use Rattle.ws_elem.specs.declared.element.Element.{Element}
 use Rattle.ws_elem.specs.declared.kind.Kind.TheVariants.{File}
-use Rattle.ws_ops.specs.declared.refusal.OpRefusal.{OpRefusal}
-use Rattle.ws_ops.specs.declared.refusal.OpRefusal.TheVariants.{NotFound, Exists, NotContainer}
-use Rattle.ws_ops.specs.Resources.{Resources}
-use Rattle.ws_ops.specs.Places.{project_of, is_root_path, has_file, has_closed}
-use Rattle.ws_ops.specs.Refusals.{when, first_cause}
-use Rattle.ws_ops.specs.Sound.{opened, IsSound}
-use Rattle.ws_ops.specs.Stamps.{IsKnown, IsDrawn, AllDrawn}
+use Rattle.op_kind.specs.declared.refusal.OpRefusal.{OpRefusal}
+use Rattle.op_kind.specs.declared.refusal.OpRefusal.TheVariants.{NotFound, Exists, NotContainer}
+use Rattle.op_kind.specs.Resources.{Resources}
+use Rattle.op_kind.specs.Places.{project_of, is_root_path, has_file, has_closed}
+use Rattle.op_kind.specs.Refusals.{when, first_cause}
+use Rattle.op_kind.specs.Sound.{opened, IsSound}
+use Rattle.op_kind.specs.Stamps.{IsKnown, IsDrawn, AllDrawn}
 use Rattle.ws_ops.proofs.SoundPaths.{never, root_above, parent_below, parent_shorter}
 use Rattle.ws_ops.proofs.SoundCases.{if_map, if_there, if_none, none_some, map_if, map_some, some_map, some_none}
 use Rattle.ws_ops.proofs.SoundLooks.{Look, is_at, not_at}

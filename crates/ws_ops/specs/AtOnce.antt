@@ -4,13 +4,13 @@ use Rattle.std.specs.FinMap.{contains_key, insert}
 use Rattle.res_path.specs.Paths.{Names}
 use Rattle.ws_elem.specs.declared.element.Element.{Element}
 use Rattle.ws_elem.specs.Rooms.{Room}
-use Rattle.ws_ops.specs.declared.answer.OpAnswer.TheVariants.{Done}
+use Rattle.op_kind.specs.declared.answer.OpAnswer.TheVariants.{Done}
 use Rattle.ws_ops.specs.declared.back.Applied.{Applied}
-use Rattle.ws_ops.specs.declared.op.Op.{Op}
+use Rattle.op_kind.specs.declared.op.Op.{Op}
 use Rattle.ws_ops.specs.Backs.{HasWay}
-use Rattle.ws_ops.specs.Effects.{effect}
-use Rattle.ws_ops.specs.Refusals.{refusal}
-use Rattle.ws_ops.specs.Resources.{Resources}
+use Rattle.op_kind.specs.Effects.{effect}
+use Rattle.op_kind.specs.Refusals.{refusal}
+use Rattle.op_kind.specs.Resources.{Resources}
 
 -- the operation wasn't refused, and is done: the resources now, the answer, and the way back to those before
 pub record IsDone (before : Resources) (op : Op) (room shelf_room : Room) (now : Resources) (done : Applied) : Type 0 where

@@ -2,9 +2,9 @@
 use Rattle.std.specs.Prelude.{◌≡◌, ℕ, take, refl}
 use Rattle.std.specs.Coded.{Coded, code_by, coded×, coded_ℕ}
 use Rattle.ws_elem.specs.Rooms.{Room}
-use Rattle.ws_ops.specs.declared.side.Side.{Side}
+use Rattle.op_kind.specs.declared.side.Side.{Side}
 use Rattle.ws_ops.specs.Changes.{Changes, changed, HasRooms}
-use Rattle.ws_ops.specs.Resources.{Resources}
+use Rattle.op_kind.specs.Resources.{Resources}
 
 -- what stood at the paths that changed, the last one first, the earlier counters, and how many partners there were
 pub record Way : Type 0 where

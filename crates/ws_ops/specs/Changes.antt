@@ -4,7 +4,7 @@ use Rattle.std.specs.FinMap.{insert, remove, get}
 use Rattle.res_path.specs.Paths.{Names}
 use Rattle.ws_elem.specs.declared.element.Element.{Element}
 use Rattle.ws_elem.specs.Trees.{Tree}
-use Rattle.ws_ops.specs.Entries.{Entries}
+use Rattle.op_kind.specs.Entries.{Entries}
 use Rattle.ws_elem.specs.Rooms.{Room, has_room}
 
 -- what is to stand at some paths, nothing where it is None

@@ -1,17 +1,5 @@
-pub mod Entries
-pub mod Partners
-pub mod Resources
-pub mod Places
-pub mod Members
-pub mod Numbers
-pub mod Marking
-pub mod Refusals
-pub mod Effects
 pub mod Changes
-pub mod Stamps
-pub mod Sound
 pub mod Walks
-pub mod Judging
 pub mod Plans
 pub mod Backs
 pub mod AtOnce

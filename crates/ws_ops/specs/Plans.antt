@@ -1,16 +1,16 @@
 -- What an operation is going to change.
 use Rattle.std.specs.Prelude.{◌≡◌, ℕ, ◌+◌, ◌<◌, ◌^◌, Some, None, Result, MatchResult}
-use Rattle.ws_ops.specs.declared.answer.OpAnswer.{OpAnswer}
-use Rattle.ws_ops.specs.declared.op.Op.{Op}
+use Rattle.op_kind.specs.declared.answer.OpAnswer.{OpAnswer}
+use Rattle.op_kind.specs.declared.op.Op.{Op}
 use Rattle.ws_ops.specs.declared.plan.Plan.{Plan}
-use Rattle.ws_ops.specs.declared.refusal.OpError.{OpError}
-use Rattle.ws_ops.specs.declared.side.Side.{Side}
+use Rattle.op_kind.specs.declared.refusal.OpError.{OpError}
+use Rattle.op_kind.specs.declared.side.Side.{Side}
 use Rattle.ws_ops.specs.Changes.{changed}
-use Rattle.ws_ops.specs.Effects.{effect}
-use Rattle.ws_ops.specs.Judging.{IfRefused}
-use Rattle.ws_ops.specs.Partners.{with_partner}
-use Rattle.ws_ops.specs.Refusals.{refusal}
-use Rattle.ws_ops.specs.Resources.{Resources}
+use Rattle.op_kind.specs.Effects.{effect}
+use Rattle.op_kind.specs.Judging.{IfRefused}
+use Rattle.op_kind.specs.Partners.{with_partner}
+use Rattle.op_kind.specs.Refusals.{refusal}
+use Rattle.op_kind.specs.Resources.{Resources}
 
 -- the resources after a plan, and its answer
 abbrev pub planned : Resources → Plan → Resources × OpAnswer

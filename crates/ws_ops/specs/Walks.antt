@@ -5,8 +5,8 @@ use Rattle.std.specs.FinMap.{entries}
 use Rattle.res_path.specs.Paths.{Names, path_cmp, is_prefix}
 use Rattle.ws_elem.specs.declared.element.Element.{Element}
 use Rattle.ws_elem.specs.Trees.{Tree}
-use Rattle.ws_ops.specs.Entries.{Entries}
-use Rattle.ws_ops.specs.Members.{is_below}
+use Rattle.op_kind.specs.Entries.{Entries}
+use Rattle.op_kind.specs.Members.{is_below}
 
 -- the entries above p in path order
 abbrev pub entries_after : Tree → Names → Entries

@@ -2,10 +2,10 @@
 ghost use Rattle.std.specs.Prelude.{◌≡◌, ◌&&◌, true, is_none, None, IfOk, IfSome, OnErr};
 ghost use Rattle.ws_ops.specs.AtOnce.{IsDone, IsPut};
 ghost use Rattle.ws_ops.specs.Changes.{KeepsRoom};
-ghost use Rattle.ws_ops.specs.Places.{is_member_path};
+ghost use Rattle.op_kind.specs.Places.{is_member_path};
 ghost use Rattle.ws_ops.specs.Plans.{CanDraw};
-ghost use Rattle.ws_ops.specs.Refusals.{first_cause, around_causes};
-ghost use Rattle.ws_ops.specs.Resources.{resources};
+ghost use Rattle.op_kind.specs.Refusals.{first_cause, around_causes};
+ghost use Rattle.op_kind.specs.Resources.{resources};
 
 use crate::back::{Applied, Back};
 use crate::changes::Earlier;

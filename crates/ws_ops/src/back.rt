@@ -2,7 +2,7 @@
 ghost use Rattle.std.specs.Prelude.{◌≡◌};
 ghost use Rattle.ws_ops.specs.Backs.{taken_back, way_to};
 ghost use Rattle.ws_ops.specs.Changes.{HasRooms};
-ghost use Rattle.ws_ops.specs.Resources.{resources};
+ghost use Rattle.op_kind.specs.Resources.{resources};
 
 use crate::changes::Earlier;
 use crate::{OpAnswer, Side};

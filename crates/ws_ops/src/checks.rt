@@ -4,11 +4,11 @@ ghost use Rattle.std.specs.FinMap.{get, contains_key};
 ghost use Rattle.std.specs.Option.{option_copied};
 ghost use Rattle.res_path.specs.Paths.{parent};
 ghost use Rattle.ws_elem.specs.Kinds.{is_file};
-ghost use Rattle.ws_ops.specs.Judging.{Judges, IfRefused};
-ghost use Rattle.ws_ops.specs.Places.{project_of, project_name, is_project_path, is_member_path, is_root_path, has_file, has_closed, is_shut};
-ghost use Rattle.ws_ops.specs.Refusals.{when, first_cause, closed, member_closed, missing, container_causes, above_causes, around_causes, place_causes, number_causes, creation_causes, contents_causes, is_spent, max_elements, project_causes};
+ghost use Rattle.op_kind.specs.Judging.{Judges, IfRefused};
+ghost use Rattle.op_kind.specs.Places.{project_of, project_name, is_project_path, is_member_path, is_root_path, has_file, has_closed, is_shut};
+ghost use Rattle.op_kind.specs.Refusals.{when, first_cause, closed, member_closed, missing, container_causes, above_causes, around_causes, place_causes, number_causes, creation_causes, contents_causes, is_spent, max_elements, project_causes};
 ghost use Rattle.ws_ops.specs.Plans.{CanDraw};
-ghost use Rattle.ws_ops.specs.Resources.{resources};
+ghost use Rattle.op_kind.specs.Resources.{resources};
 
 use crate::{NoMemory, OpError, OpRefusal, Side};
 use res_path::{Name, Path, PathError};

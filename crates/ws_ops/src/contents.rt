@@ -1,6 +1,6 @@
 //! The plans of what changes a resource where it is.
 ghost use Rattle.ws_ops.specs.Plans.{Plans};
-ghost use Rattle.ws_ops.specs.Resources.{resources};
+ghost use Rattle.op_kind.specs.Resources.{resources};
 
 use crate::checks::{check_member_open, check_member_path, file_at, there};
 use crate::plan::Plan;

@@ -1,8 +1,8 @@
 //! The plans of creations.
 ghost use Rattle.std.specs.Prelude.{◌≡◌, ◌+◌, [], ◌∷◌, None, Some, IfOk};
-ghost use Rattle.ws_ops.specs.Effects.{new_file, new_project};
+ghost use Rattle.op_kind.specs.Effects.{new_file, new_project};
 ghost use Rattle.ws_ops.specs.Plans.{CanDraw, Plans};
-ghost use Rattle.ws_ops.specs.Resources.{resources};
+ghost use Rattle.op_kind.specs.Resources.{resources};
 
 use crate::checks::{check_creation, check_member_path, check_project_path};
 use crate::plan::Plan;

@@ -1,6 +1,6 @@
 //! The plan of a deletion.
 ghost use Rattle.ws_ops.specs.Plans.{Plans};
-ghost use Rattle.ws_ops.specs.Resources.{resources};
+ghost use Rattle.op_kind.specs.Resources.{resources};
 
 use crate::checks::{check_member_open, check_not_root, there};
 use crate::plan::Plan;

@@ -1,7 +1,7 @@
 //! A workspace with as many elements as it may have.
 ghost use Rattle.std.specs.Prelude.{IfOk};
-ghost use Rattle.ws_ops.specs.Resources.{resources};
-ghost use Rattle.ws_ops.specs.Sound.{IsSound};
+ghost use Rattle.op_kind.specs.Resources.{resources};
+ghost use Rattle.op_kind.specs.Sound.{IsSound};
 
 use crate::test_workspace::{Case, Workspace};
 use std::alloc::Global;

@@ -1,11 +1,6 @@
 //! The operations that change a workspace's resources, over any tree.
 //!
-//! - `op`: an `Op`, what can be done to resources, and a `Want`, what can be read of them.
-//! - `refusal`: an `OpRefusal`, why an operation is refused, and an `OpError`.
-//! - `answer`: an `OpAnswer`, what an operation is answered.
-//! - `entries`: `Entries`, elements with their paths.
-//! - `partners`: `Partners`, the synchronisation partners by their numbers.
-//! - `side`: a `Side`, what stands beside the tree: the shelf, the counters and the partners.
+//! What an operation is, why it is refused and what it does stands in op_kind.
 //! - `applying`: `apply`, which does an operation or refuses it, and `take_back`.
 //! - `back`: a `Back`, the way back before an operation.
 //! - `at_once`: creations that are done with one search.
@@ -18,7 +13,6 @@
 //! - `losing`: resources that lose markers or synchronisation bytes.
 #![tactic(auto)]
 
-mod answer;
 mod applying;
 mod at_once;
 mod back;
@@ -29,7 +23,6 @@ mod creation;
 mod deletion;
 #[cfg(test)]
 mod effect_tests;
-mod entries;
 #[cfg(test)]
 mod full_tests;
 mod losing;
@@ -38,13 +31,9 @@ mod marking;
 mod note_tests;
 #[cfg(test)]
 mod note_words;
-mod op;
-mod partners;
 mod plan;
 mod projects;
 mod reading;
-mod refusal;
-mod side;
 mod syncing;
 #[cfg(test)]
 mod test_workspace;
@@ -55,12 +44,6 @@ mod transfer;
 mod transfer_tests;
 mod walk;
 
-pub use answer::OpAnswer;
 pub use applying::{apply, take_back};
 pub use back::{Applied, Back};
-pub use entries::Entries;
-pub use op::{Op, Want};
-pub use partners::Partners;
-pub use refusal::{OpError, OpRefusal};
-pub use res_path::NoMemory;
-pub use side::Side;
+pub use op_kind::{Entries, NoMemory, Op, OpAnswer, OpError, OpRefusal, Partners, Side, Want};

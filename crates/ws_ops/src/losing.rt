@@ -2,7 +2,7 @@
 ghost use Rattle.std.specs.Prelude.{◌≡◌, ◌++◌, ◌+◌, ◌==◌, [], ◌∷◌, filter, not, if◌then◌else◌, IfOk, OnOk};
 ghost use Rattle.std.specs.FinMap as map;
 ghost use Rattle.ws_ops.specs.Changes.{put};
-ghost use Rattle.ws_ops.specs.Marking.{change_all, count_all, unmarked, count_marks, removed, unsynced, count_bytes};
+ghost use Rattle.op_kind.specs.Marking.{change_all, count_all, unmarked, count_marks, removed, unsynced, count_bytes};
 
 use crate::changes::Changes;
 use crate::{Entries, NoMemory};

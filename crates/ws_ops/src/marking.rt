@@ -3,11 +3,11 @@ ghost use Rattle.std.specs.Prelude.{◌≡◌, not, true, Some, IsSome, IfOk};
 ghost use Rattle.std.specs.Option.{option_map};
 ghost use Rattle.std.specs.FinMap.{get};
 ghost use Rattle.mark_set.specs.Causes.{marker_cause, change_cause};
-ghost use Rattle.ws_ops.specs.Judging.{Judges};
-ghost use Rattle.ws_ops.specs.Marking.{has_marker, with_marker, with_attribute_of};
+ghost use Rattle.op_kind.specs.Judging.{Judges};
+ghost use Rattle.op_kind.specs.Marking.{has_marker, with_marker, with_attribute_of};
 ghost use Rattle.ws_ops.specs.Plans.{Plans};
-ghost use Rattle.ws_ops.specs.Refusals.{first_cause, when, marking_causes};
-ghost use Rattle.ws_ops.specs.Resources.{resources};
+ghost use Rattle.op_kind.specs.Refusals.{first_cause, when, marking_causes};
+ghost use Rattle.op_kind.specs.Resources.{resources};
 
 use crate::checks::{check_marker_number, check_open, there};
 use crate::plan::Plan;

@@ -3,10 +3,10 @@ ghost use Rattle.std.specs.Prelude.{◌≡◌, [], length, unwrap_or, IfOk};
 ghost use Rattle.std.specs.Option.{option_map};
 ghost use Rattle.proj_desc.specs.Causes.{desc_cause};
 ghost use Rattle.proj_desc.specs.Canonical.{canonical_of};
-ghost use Rattle.ws_ops.specs.Judging.{Judges};
-ghost use Rattle.ws_ops.specs.Places.{project_name};
+ghost use Rattle.op_kind.specs.Judging.{Judges};
+ghost use Rattle.op_kind.specs.Places.{project_name};
 ghost use Rattle.ws_ops.specs.Plans.{Plans};
-ghost use Rattle.ws_ops.specs.Resources.{resources};
+ghost use Rattle.op_kind.specs.Resources.{resources};
 
 use crate::checks::{check_open, check_stamp, is_shut, name_of, project_at};
 use crate::plan::Plan;

@@ -1,9 +1,9 @@
 //! The plan of what only reads.
 ghost use Rattle.std.specs.Prelude.{◌≡◌, not, Some, IfOk};
-ghost use Rattle.ws_ops.specs.Effects.{read};
+ghost use Rattle.op_kind.specs.Effects.{read};
 ghost use Rattle.ws_ops.specs.Plans.{Plans};
-ghost use Rattle.ws_ops.specs.Refusals.{cannot_be_read};
-ghost use Rattle.ws_ops.specs.Resources.{resources};
+ghost use Rattle.op_kind.specs.Refusals.{cannot_be_read};
+ghost use Rattle.op_kind.specs.Resources.{resources};
 
 use crate::checks::{check_member_open, there, wrong_kind};
 use crate::plan::Plan;

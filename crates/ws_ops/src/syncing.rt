@@ -1,10 +1,10 @@
 //! The plans of what changes synchronisation partners and their bytes.
 ghost use Rattle.std.specs.Prelude.{◌≡◌, not, IfOk};
-ghost use Rattle.ws_ops.specs.Judging.{Judges};
-ghost use Rattle.ws_ops.specs.Partners.{is_partner, number_of};
+ghost use Rattle.op_kind.specs.Judging.{Judges};
+ghost use Rattle.op_kind.specs.Partners.{is_partner, number_of};
 ghost use Rattle.ws_ops.specs.Plans.{Plans};
-ghost use Rattle.ws_ops.specs.Refusals.{when};
-ghost use Rattle.ws_ops.specs.Resources.{resources};
+ghost use Rattle.op_kind.specs.Refusals.{when};
+ghost use Rattle.op_kind.specs.Resources.{resources};
 
 use crate::checks::check_not_root;
 use crate::marking::there_open;

@@ -1,8 +1,8 @@
 //! A workspace for tests, in which operations, answers and resources are texts.
 ghost use Rattle.std.specs.Prelude.{◌≡◌, ◌≤◌, IfOk, IsOkAnd};
 ghost use Rattle.ws_ops.specs.Backs.{HasWay};
-ghost use Rattle.ws_ops.specs.Resources.{resources};
-ghost use Rattle.ws_ops.specs.Sound.{IsSound};
+ghost use Rattle.op_kind.specs.Resources.{resources};
+ghost use Rattle.op_kind.specs.Sound.{IsSound};
 
 use crate::note_words::{cause_text, cut, on_notes, put_notes};
 use crate::{Applied, Back, Op, OpAnswer, OpError, OpRefusal, Side, Want, apply, take_back};

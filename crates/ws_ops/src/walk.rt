@@ -5,8 +5,8 @@ ghost use Rattle.std.specs.Map.Iter.{deref_pair};
 ghost use Rattle.std.specs.Option.{option_map};
 ghost use Rattle.res_path.specs.Paths.{is_prefix};
 ghost use Rattle.ws_elem.specs.Depths.{is_within};
-ghost use Rattle.ws_ops.specs.Marking.{reached};
-ghost use Rattle.ws_ops.specs.Members.{found_at, members, branch};
+ghost use Rattle.op_kind.specs.Marking.{reached};
+ghost use Rattle.op_kind.specs.Members.{found_at, members, branch};
 ghost use Rattle.ws_ops.specs.Walks.{members_after, IsFirst};
 
 use crate::{Entries, NoMemory};

@@ -3,12 +3,12 @@ use Rattle.std.specs.Prelude.{Result, Ok, Err, IfOk, IfSome, OnErr}
 use Rattle.ws_elem.specs.Rooms.{Room}
 use Rattle.ws_elem.specs.Trees.{Tree}
 use Rattle.ws_ops.specs.declared.back.Applied.{Applied}
-use Rattle.ws_ops.specs.declared.op.Op.{Op}
-use Rattle.ws_ops.specs.declared.refusal.OpError.{OpError}
+use Rattle.op_kind.specs.declared.op.Op.{Op}
+use Rattle.op_kind.specs.declared.refusal.OpError.{OpError}
 use Rattle.ws_ops.specs.AtOnce.{IsDone}
-use Rattle.ws_ops.specs.Resources.{Resources, resources}
-use Rattle.ws_ops.specs.Sound.{IsSound}
-use Rattle.ws_ops.specs.Stamps.{IsKnown}
+use Rattle.op_kind.specs.Resources.{Resources, resources}
+use Rattle.op_kind.specs.Sound.{IsSound}
+use Rattle.op_kind.specs.Stamps.{IsKnown}
 use Rattle.ws_ops.proofs.SoundKept.{effect_sound, effect_known}
 use Rattle.ws_ops.proofs.applying.apply.Goals as goal
 

@@ -1,5 +1,5 @@
-use Rattle.ws_ops.specs.Refusals.{first_cause, above_causes, number_causes}
-use Rattle.ws_ops.specs.Resources.{resources}
+use Rattle.op_kind.specs.Refusals.{first_cause, above_causes, number_causes}
+use Rattle.op_kind.specs.Resources.{resources}
 use Rattle.ws_ops.proofs.Causes.{stops, handed_on}
 use Rattle.ws_ops.proofs.checks.check_around.Goals as goal
 

@@ -1,8 +1,8 @@
 use Rattle.std.proofs.Common.{◌∷◌, ◌∙◌}
 use Rattle.std.specs.FinMap.{contains_key}
-use Rattle.ws_ops.specs.declared.refusal.OpRefusal.TheVariants.{Exists}
-use Rattle.ws_ops.specs.Refusals.{when, first_cause, above_causes, number_causes}
-use Rattle.ws_ops.specs.Resources.{resources}
+use Rattle.op_kind.specs.declared.refusal.OpRefusal.TheVariants.{Exists}
+use Rattle.op_kind.specs.Refusals.{when, first_cause, above_causes, number_causes}
+use Rattle.op_kind.specs.Resources.{resources}
 use Rattle.ws_ops.proofs.Causes.{stops, goes_on, stops_first, handed_on}
 use Rattle.ws_ops.proofs.checks.check_creation.Goals as goal
 

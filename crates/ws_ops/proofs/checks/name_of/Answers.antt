@@ -1,6 +1,6 @@
 use Rattle.std.proofs.Common.{◌≡◌, ◌∙◌}
 use Rattle.std.specs.Prelude.{Some, None}
-use Rattle.ws_ops.specs.Places.{project_name}
+use Rattle.op_kind.specs.Places.{project_name}
 use Rattle.ws_ops.proofs.Named.{last_is, is_named}
 use Rattle.ws_ops.proofs.checks.name_of.Goals as goal
 

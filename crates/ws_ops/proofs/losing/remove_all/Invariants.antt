@@ -1,5 +1,5 @@
 use Rattle.std.proofs.Common.{◌≡◌, length}
-use Rattle.ws_ops.specs.Marking.{removed}
+use Rattle.op_kind.specs.Marking.{removed}
 use Rattle.ws_ops.proofs.losing.remove_all.Given as goal
 
 abbrev pub invariant-loop-id : goal.invariant-loop-id

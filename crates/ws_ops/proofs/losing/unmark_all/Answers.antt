@@ -2,8 +2,8 @@ use Rattle.std.proofs.Common.{rules, ◌≡◌, ◌==◌, ◌++◌, length, not,
 use Rattle.std.specs.Prelude.{filter}
 use Rattle.std.proofs.lemmas.List.{append-nil}
 use Rattle.ws_ops.specs.Changes.{Changes, put}
-use Rattle.ws_ops.specs.Entries.{Entries}
-use Rattle.ws_ops.specs.Marking.{change_all, unmarked, count_marks}
+use Rattle.op_kind.specs.Entries.{Entries}
+use Rattle.op_kind.specs.Marking.{change_all, unmarked, count_marks}
 use Rattle.ws_ops.proofs.Lost.{none_left}
 use Rattle.ws_ops.proofs.losing.unmark_all.Goals as goal
 

@@ -1,7 +1,7 @@
 use Rattle.std.proofs.Common.{◌≡◌, ◌+◌, ◌==◌, ◌++◌, not, length}
 use Rattle.std.specs.Prelude.{filter}
 use Rattle.ws_ops.specs.Changes.{put}
-use Rattle.ws_ops.specs.Marking.{change_all, count_all, unsynced, count_bytes}
+use Rattle.op_kind.specs.Marking.{change_all, count_all, unsynced, count_bytes}
 use Rattle.ws_ops.proofs.losing.unsync_all.Given as goal
 
 abbrev pub invariant-loop-entry : goal.invariant-loop-entry

@@ -1,10 +1,10 @@
 use Rattle.std.proofs.Common.{◌==◌, ◌++◌, not, ap, ◌∙◌}
 use Rattle.std.specs.Prelude.{filter}
-use Rattle.ws_ops.specs.declared.answer.OpAnswer.TheVariants.{Count}
+use Rattle.op_kind.specs.declared.answer.OpAnswer.TheVariants.{Count}
 use Rattle.ws_ops.specs.declared.plan.Plan.{Plan}
 use Rattle.ws_ops.specs.Changes.{put}
-use Rattle.ws_ops.specs.Marking.{change_all, count_all, unmarked, count_marks}
-use Rattle.ws_ops.specs.Resources.{Resources, resources}
+use Rattle.op_kind.specs.Marking.{change_all, count_all, unmarked, count_marks}
+use Rattle.op_kind.specs.Resources.{Resources, resources}
 use Rattle.ws_ops.proofs.Lost.{clear_planned}
 use Rattle.ws_ops.proofs.marking.clear_marks.Goals as goal
 

@@ -2,7 +2,7 @@ use Rattle.std.proofs.Common.{sym, ◌∙◌, ◌++◌, ◌∷◌, [], false}
 use Rattle.std.specs.Prelude.{Some}
 use Rattle.ws_ops.specs.declared.plan.Plan.{Plan}
 use Rattle.ws_ops.specs.Changes.{taken, put}
-use Rattle.ws_ops.specs.Resources.{Resources, resources}
+use Rattle.op_kind.specs.Resources.{Resources, resources}
 use Rattle.ws_ops.proofs.Opened.{close_planned}
 use Rattle.ws_ops.proofs.projects.close.Goals as goal
 

@@ -2,8 +2,8 @@ use Rattle.std.proofs.Common.{sym, ◌∙◌, ◌++◌, ◌∷◌, []}
 use Rattle.std.specs.Prelude.{Some}
 use Rattle.ws_ops.specs.declared.plan.Plan.{Plan}
 use Rattle.ws_ops.specs.Changes.{taken, put}
-use Rattle.ws_ops.specs.Members.{members}
-use Rattle.ws_ops.specs.Resources.{Resources, resources}
+use Rattle.op_kind.specs.Members.{members}
+use Rattle.op_kind.specs.Resources.{Resources, resources}
 use Rattle.ws_ops.proofs.Opened.{open_planned}
 use Rattle.ws_ops.proofs.projects.open.Goals as goal
 

@@ -1,11 +1,11 @@
 use Rattle.std.proofs.Common.{◌==◌, [], ◌∷◌, ◌++◌, not, ap, ◌∙◌}
 use Rattle.std.specs.Prelude.{filter}
-use Rattle.ws_ops.specs.declared.answer.OpAnswer.TheVariants.{Count}
+use Rattle.op_kind.specs.declared.answer.OpAnswer.TheVariants.{Count}
 use Rattle.ws_ops.specs.declared.plan.Plan.{Plan}
 use Rattle.ws_ops.specs.Changes.{put}
-use Rattle.ws_ops.specs.Marking.{change_all, count_all, unsynced, count_bytes}
-use Rattle.ws_ops.specs.Refusals.{marking_causes, partner_missing}
-use Rattle.ws_ops.specs.Resources.{Resources, resources}
+use Rattle.op_kind.specs.Marking.{change_all, count_all, unsynced, count_bytes}
+use Rattle.op_kind.specs.Refusals.{marking_causes, partner_missing}
+use Rattle.op_kind.specs.Resources.{Resources, resources}
 use Rattle.ws_ops.proofs.Causes.{goes_on, passes}
 use Rattle.ws_ops.proofs.Lost.{flush_planned}
 use Rattle.ws_ops.proofs.syncing.flush.Goals as goal

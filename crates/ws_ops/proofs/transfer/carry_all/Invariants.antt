@@ -1,8 +1,8 @@
 use Rattle.std.proofs.Common.{◌≡◌, ◌++◌, true, false, length}
 use Rattle.std.specs.List.{list_all}
 use Rattle.res_path.specs.Paths.{is_prefix}
-use Rattle.ws_ops.specs.Members.{carried}
-use Rattle.ws_ops.specs.Refusals.{goes_too_deep, gets_too_long}
+use Rattle.op_kind.specs.Members.{carried}
+use Rattle.op_kind.specs.Refusals.{goes_too_deep, gets_too_long}
 use Rattle.ws_ops.proofs.transfer.carry_all.Given as goal
 
 abbrev pub invariant-loop-entry : goal.invariant-loop-entry

@@ -1,6 +1,6 @@
 use Rattle.std.proofs.Common.{◌≡◌, ◌+◌, ◌<◌, ◌^◌, ◌++◌, length}
-use Rattle.ws_ops.specs.Effects.{copies}
-use Rattle.ws_ops.specs.Numbers.{stamps_of_all}
+use Rattle.op_kind.specs.Effects.{copies}
+use Rattle.op_kind.specs.Numbers.{stamps_of_all}
 use Rattle.ws_ops.proofs.transfer.copies.Given as goal
 
 abbrev pub invariant-loop-entry : goal.invariant-loop-entry

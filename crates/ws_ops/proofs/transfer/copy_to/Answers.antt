@@ -1,12 +1,12 @@
 use Rattle.std.proofs.Common.{◌≡◌, ◌+◌, ◌<◌, ◌^◌, ◌++◌, length, sym, ap, ◌∙◌, subst}
-use Rattle.ws_ops.specs.declared.op.Op.TheVariants.{Copy}
+use Rattle.op_kind.specs.declared.op.Op.TheVariants.{Copy}
 use Rattle.ws_ops.specs.declared.plan.Plan.{Plan}
 use Rattle.ws_ops.specs.Changes.{put}
-use Rattle.ws_ops.specs.Effects.{copies}
-use Rattle.ws_ops.specs.Members.{branch, carried}
-use Rattle.ws_ops.specs.Numbers.{stamps_of_all}
-use Rattle.ws_ops.specs.Refusals.{first_cause, transfer_causes, number_causes}
-use Rattle.ws_ops.specs.Resources.{Resources, resources}
+use Rattle.op_kind.specs.Effects.{copies}
+use Rattle.op_kind.specs.Members.{branch, carried}
+use Rattle.op_kind.specs.Numbers.{stamps_of_all}
+use Rattle.op_kind.specs.Refusals.{first_cause, transfer_causes, number_causes}
+use Rattle.op_kind.specs.Resources.{Resources, resources}
 use Rattle.ws_ops.proofs.Carried.{copy_planned, carried_stamps}
 use Rattle.ws_ops.proofs.Causes.{stops, goes_on, handed_plan}
 use Rattle.ws_ops.proofs.transfer.copy_to.Goals as goal

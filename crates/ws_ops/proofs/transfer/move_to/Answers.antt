@@ -1,8 +1,8 @@
 use Rattle.std.proofs.Common.{◌∙◌, ◌++◌}
 use Rattle.ws_ops.specs.declared.plan.Plan.{Plan}
 use Rattle.ws_ops.specs.Changes.{taken, put}
-use Rattle.ws_ops.specs.Members.{branch, carried}
-use Rattle.ws_ops.specs.Resources.{Resources, resources}
+use Rattle.op_kind.specs.Members.{branch, carried}
+use Rattle.op_kind.specs.Resources.{Resources, resources}
 use Rattle.ws_ops.proofs.Carried.{move_planned}
 use Rattle.ws_ops.proofs.transfer.move_to.Goals as goal
 

@@ -1,6 +1,6 @@
 use Rattle.std.proofs.Common.{sym, subst}
-use Rattle.ws_ops.specs.Judging.{Judges}
-use Rattle.ws_ops.specs.Refusals.{first_cause, standing_causes, fit_causes}
+use Rattle.op_kind.specs.Judging.{Judges}
+use Rattle.op_kind.specs.Refusals.{first_cause, standing_causes, fit_causes}
 use Rattle.ws_ops.proofs.Causes.{stops, goes_on, handed_on}
 use Rattle.ws_ops.proofs.transfer.transfer.Goals as goal
 

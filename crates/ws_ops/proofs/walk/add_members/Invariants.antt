@@ -1,6 +1,6 @@
 use Rattle.std.proofs.Common.{◌≡◌, ◌++◌, true, length}
 use Rattle.res_path.specs.Paths.{is_prefix}
-use Rattle.ws_ops.specs.Members.{members}
+use Rattle.op_kind.specs.Members.{members}
 use Rattle.ws_ops.specs.Walks.{members_after}
 use Rattle.ws_ops.proofs.walk.add_members.Given as goal
 

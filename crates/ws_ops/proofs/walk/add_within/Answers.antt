@@ -3,7 +3,7 @@ use Rattle.std.specs.Prelude.{filter, if◌then◌else◌}
 use Rattle.res_path.specs.Paths.{Names, is_prefix}
 use Rattle.ws_elem.specs.declared.element.Element.{Element}
 use Rattle.ws_elem.specs.Depths.{is_within}
-use Rattle.ws_ops.specs.Members.{is_below}
+use Rattle.op_kind.specs.Members.{is_below}
 use Rattle.ws_ops.specs.Walks.{entries_after, members_after}
 use Rattle.ws_ops.proofs.Reached.{reached_step}
 use Rattle.ws_ops.proofs.Skipped.{begins_through, first_kept, none_more, same_reach}

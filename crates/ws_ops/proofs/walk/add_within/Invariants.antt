@@ -2,7 +2,7 @@ use Rattle.std.proofs.Common.{◌≡◌, ◌++◌, true, length}
 use Rattle.std.specs.Prelude.{filter}
 use Rattle.res_path.specs.Paths.{is_prefix}
 use Rattle.ws_elem.specs.Depths.{is_within}
-use Rattle.ws_ops.specs.Members.{members}
+use Rattle.op_kind.specs.Members.{members}
 use Rattle.ws_ops.specs.Walks.{members_after}
 use Rattle.ws_ops.proofs.walk.add_within.Given as goal
 

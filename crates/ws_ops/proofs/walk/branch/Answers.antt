@@ -1,6 +1,6 @@
 use Rattle.std.proofs.Common.{sym, ap, ◌∙◌, ◌++◌}
 use Rattle.std.specs.FinMap.{get}
-use Rattle.ws_ops.specs.Members.{found_at, members}
+use Rattle.op_kind.specs.Members.{found_at, members}
 use Rattle.ws_ops.proofs.Walked.{branch_split}
 use Rattle.ws_ops.proofs.walk.branch.Goals as goal
 

@@ -2,7 +2,7 @@ use Rattle.std.proofs.Common.{sym, ap, ◌∙◌, ◌++◌}
 use Rattle.std.specs.Prelude.{filter}
 use Rattle.std.specs.FinMap.{get}
 use Rattle.ws_elem.specs.Depths.{is_within}
-use Rattle.ws_ops.specs.Members.{found_at, members}
+use Rattle.op_kind.specs.Members.{found_at, members}
 use Rattle.ws_ops.proofs.Reached.{reached_split}
 use Rattle.ws_ops.proofs.walk.reached_below.Goals as goal
 

@@ -1,5 +1,5 @@
-use Rattle.ws_ops.specs.Resources.{resources}
-use Rattle.ws_ops.specs.Sound.{IsSound}
+use Rattle.op_kind.specs.Resources.{resources}
+use Rattle.op_kind.specs.Sound.{IsSound}
 use Rattle.ws_ops.proofs.test_workspace.Workspace.answers.Given as goal
 
 abbrev pub invariant-loop-case : goal.invariant-loop-case

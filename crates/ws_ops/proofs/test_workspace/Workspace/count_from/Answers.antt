@@ -2,9 +2,9 @@
 use Rattle.std.proofs.Common.{ℕ, ◌≤◌, arith}
 use Rattle.std.specs.FinMap.{get}
 use Rattle.ws_elem.specs.Trees.{Tree}
-use Rattle.ws_ops.specs.Resources.{Resources, resources}
-use Rattle.ws_ops.specs.Sound.{IsSound}
-use Rattle.ws_ops.specs.Stamps.{IsDrawn, IsKnown}
+use Rattle.op_kind.specs.Resources.{Resources, resources}
+use Rattle.op_kind.specs.Sound.{IsSound}
+use Rattle.op_kind.specs.Stamps.{IsDrawn, IsKnown}
 use Rattle.ws_ops.proofs.SoundCases.{if_map}
 use Rattle.ws_ops.proofs.SoundStamps.{drawn_later}
 use Rattle.ws_ops.proofs.test_workspace.Workspace.count_from.Goals as goal

@@ -1,7 +1,7 @@
 -- The fresh workspace is sound.
 use Rattle.std.proofs.Common.{◌≡◌, sym, subst}
-use Rattle.ws_ops.specs.Resources.{resources}
-use Rattle.ws_ops.specs.Sound.{IsSound}
+use Rattle.op_kind.specs.Resources.{resources}
+use Rattle.op_kind.specs.Sound.{IsSound}
 use Rattle.ws_ops.proofs.SoundFresh.{fresh_resources, fresh_sound}
 use Rattle.ws_ops.proofs.test_workspace.Workspace.fresh.Goals as goal
 

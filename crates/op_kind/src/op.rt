@@ -1,9 +1,8 @@
 //! What can be done to resources.
-ghost use Rattle.std.specs.Prelude.{◌≡◌, IfOk};
 
 use bytes::Bytes;
 use mark_set::{RawAttrs, RawText, RawValue};
-use res_path::{Name, NoMemory, Path};
+use res_path::{Name, Path};
 use ws_elem::Depth;
 
 /// What is to be read of resources.
@@ -20,7 +19,7 @@ pub enum Want {
 }
 
 /// What can be done to resources. An operation that is refused changes nothing.
-#[derive(Clone, Debug, Drop)]
+#[derive(Debug, Drop)]
 pub enum Op {
     /// A file with these contents is made (`IFile.create`).
     CreateFile(Path, Bytes),
@@ -62,13 +61,4 @@ pub enum Op {
     Flush(Path, Name, Depth),
     /// What stands at a path is read.
     Read(Path, Want),
-}
-
-impl Op {
-    /// An equal operation, which shares its texts.
-    pub fn copy(&self) -> Result<Op, NoMemory>
-        ensures { IfOk result (λ copy. copy ≡ self.now) }
-    {
-        self.clone()
-    }
 }

@@ -1,11 +1,11 @@
 //! What a pass may ask.
 ghost use Rattle.std.specs.Prelude.{◌≡◌, IfOk};
 ghost use Rattle.std.specs.Option.{option_copied};
-ghost use Rattle.ws_core.specs.Events.{change_of, is_read};
+ghost use Rattle.core_event.specs.Events.{change_of, is_read};
 
 use crate::WsRule;
+use op_kind::Op;
 use res_path::{Name, NoMemory};
-use ws_ops::Op;
 
 /// What a pass may ask of the core.
 #[derive(Clone, Debug, Drop)]

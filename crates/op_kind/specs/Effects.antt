@@ -15,19 +15,19 @@ use Rattle.mark_set.specs.Markers.{Marks}
 use Rattle.sync_set.specs.Syncs.{with_bytes}
 use Rattle.ws_elem.specs.declared.depth.Depth.{Depth}
 use Rattle.proj_desc.specs.Canonical.{canonical_of}
-use Rattle.ws_ops.specs.declared.answer.OpAnswer.{OpAnswer}
-use Rattle.ws_ops.specs.declared.answer.OpAnswer.TheVariants.{Done, Id, Count, Seen}
-use Rattle.ws_ops.specs.declared.op.Op.{Op}
-use Rattle.ws_ops.specs.declared.op.Op.TheVariants.{CreateFile, CreateFolder, CreateProject, Delete, Write, Touch, Derived, Move, Copy, Open, Close, Describe, Mark, Attr, Unmark, ClearMarks, Partner, Sync, Flush, Read}
-use Rattle.ws_ops.specs.declared.op.Want.{Want}
-use Rattle.ws_ops.specs.declared.op.Want.TheVariants.{Show, Cat, Tree as AsTree, Digest}
-use Rattle.ws_ops.specs.Marking.{with_marker, with_attribute_of, unmarked, count_marks, unsynced, count_bytes, reached, change_within, count_all}
-use Rattle.ws_ops.specs.Partners.{is_partner, number_of}
-use Rattle.ws_ops.specs.Resources.{Resources}
-use Rattle.ws_ops.specs.Places.{is_shut}
-use Rattle.ws_ops.specs.Entries.{Entries}
-use Rattle.ws_ops.specs.Members.{found_at, branch, members, without_members, put_all, carried}
-use Rattle.ws_ops.specs.Numbers.{stamps_of, stamps_of_all}
+use Rattle.op_kind.specs.declared.answer.OpAnswer.{OpAnswer}
+use Rattle.op_kind.specs.declared.answer.OpAnswer.TheVariants.{Done, Id, Count, Seen}
+use Rattle.op_kind.specs.declared.op.Op.{Op}
+use Rattle.op_kind.specs.declared.op.Op.TheVariants.{CreateFile, CreateFolder, CreateProject, Delete, Write, Touch, Derived, Move, Copy, Open, Close, Describe, Mark, Attr, Unmark, ClearMarks, Partner, Sync, Flush, Read}
+use Rattle.op_kind.specs.declared.op.Want.{Want}
+use Rattle.op_kind.specs.declared.op.Want.TheVariants.{Show, Cat, Tree as AsTree, Digest}
+use Rattle.op_kind.specs.Marking.{with_marker, with_attribute_of, unmarked, count_marks, unsynced, count_bytes, reached, change_within, count_all}
+use Rattle.op_kind.specs.Partners.{is_partner, number_of}
+use Rattle.op_kind.specs.Resources.{Resources}
+use Rattle.op_kind.specs.Places.{is_shut}
+use Rattle.op_kind.specs.Entries.{Entries}
+use Rattle.op_kind.specs.Members.{found_at, branch, members, without_members, put_all, carried}
+use Rattle.op_kind.specs.Numbers.{stamps_of, stamps_of_all}
 
 -- the description of a project that nobody described
 abbrev pub empty_description : List ℕ

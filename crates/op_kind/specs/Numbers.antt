@@ -2,7 +2,7 @@
 use Rattle.std.specs.Prelude.{ℕ, ◌+◌, Bool, ◌||◌, if◌then◌else◌, [], ◌∷◌}
 use Rattle.ws_elem.specs.declared.element.Element.{Element}
 use Rattle.ws_elem.specs.Kinds.{is_file, is_project}
-use Rattle.ws_ops.specs.Entries.{Entries}
+use Rattle.op_kind.specs.Entries.{Entries}
 
 -- a file's contents have a stamp, and a project's description
 abbrev pub has_stamp : Element → Bool

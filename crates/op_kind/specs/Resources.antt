@@ -1,8 +1,8 @@
 -- What operations see and change.
 use Rattle.std.specs.Prelude.{ℕ}
 use Rattle.ws_elem.specs.Trees.{Tree}
-use Rattle.ws_ops.specs.declared.side.Side.{Side}
-use Rattle.ws_ops.specs.Partners.{Partners}
+use Rattle.op_kind.specs.declared.side.Side.{Side}
+use Rattle.op_kind.specs.Partners.{Partners}
 
 -- the resources of a workspace: those that are there, the members of closed projects, the counters, and the names of the
 -- synchronisation partners

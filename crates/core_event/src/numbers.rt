@@ -1,7 +1,7 @@
 //! Passes by their numbers.
 ghost use Rattle.std.specs.Prelude.{◌≡◌, ◌<◌, ◌==◌, [], ◌∷◌, ◌++◌, length, IfOk, IfSome, OnOk, OnErr};
 ghost use Rattle.std.specs.List.{list_all, position};
-ghost use Rattle.ws_core.specs.Numbers.{has_number, without_number, without_newest, without_oldest, without_place};
+ghost use Rattle.core_event.specs.Numbers.{has_number, without_number, without_newest, without_oldest, without_place};
 
 use res_path::NoMemory;
 use std::alloc::Global;

@@ -4,7 +4,7 @@ use Rattle.std.specs.FinMap.{insert, entries, retain_keys}
 use Rattle.res_path.specs.Paths.{Names, is_prefix}
 use Rattle.ws_elem.specs.declared.element.Element.{Element}
 use Rattle.ws_elem.specs.Trees.{Tree}
-use Rattle.ws_ops.specs.Entries.{Entries}
+use Rattle.op_kind.specs.Entries.{Entries}
 
 -- q is p followed by one name or more
 abbrev pub is_below : Names → Names → Bool

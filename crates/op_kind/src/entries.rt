@@ -13,7 +13,7 @@ pub struct Entries {
 }
 
 impl Model for Entries {
-    ghost use Rattle.ws_ops.specs.Entries.{Entries};
+    ghost use Rattle.op_kind.specs.Entries.{Entries};
     ghost use Rattle.std.specs.Coded.{coded×, coded_list, coded_ℕ};
     ghost use Rattle.ws_elem.specs.contracts.element.Element as element;
 

@@ -11,19 +11,19 @@ use Rattle.ws_elem.specs.Trees.{Tree}
 use Rattle.mark_set.specs.Causes.{marker_cause, change_cause}
 use Rattle.mark_set.specs.declared.value.RawValue.{RawValue}
 use Rattle.proj_desc.specs.Causes.{desc_cause}
-use Rattle.ws_ops.specs.declared.op.Op.{Op}
-use Rattle.ws_ops.specs.declared.op.Op.TheVariants.{CreateFile, CreateFolder, CreateProject, Delete, Write, Touch, Derived, Move, Copy, Open, Close, Describe, Mark, Attr, Unmark, ClearMarks, Partner, Sync, Flush, Read}
-use Rattle.ws_ops.specs.declared.op.Want.{Want}
-use Rattle.ws_ops.specs.declared.op.Want.TheVariants.{Show, Cat, Tree as AsTree, Digest}
-use Rattle.ws_ops.specs.declared.refusal.OpRefusal.{OpRefusal}
-use Rattle.ws_ops.specs.declared.refusal.OpRefusal.TheVariants.{TooDeep, TooLong, NotFound, Exists, NotContainer, WrongKind, ProjectClosed, TreeFull, NumbersUsed, PartnerUnknown, MarkerUnknown, BadValue, IntoItself, BadDescription}
-use Rattle.ws_ops.specs.Resources.{Resources}
-use Rattle.ws_ops.specs.Places.{project_of, project_name, is_root_path, is_project_path, is_member_path, has_file, is_shut, is_in_shut}
-use Rattle.ws_ops.specs.Members.{branch, rebased}
-use Rattle.ws_ops.specs.Entries.{Entries}
-use Rattle.ws_ops.specs.Numbers.{stamps_of_all}
-use Rattle.ws_ops.specs.Marking.{has_marker}
-use Rattle.ws_ops.specs.Partners.{is_partner}
+use Rattle.op_kind.specs.declared.op.Op.{Op}
+use Rattle.op_kind.specs.declared.op.Op.TheVariants.{CreateFile, CreateFolder, CreateProject, Delete, Write, Touch, Derived, Move, Copy, Open, Close, Describe, Mark, Attr, Unmark, ClearMarks, Partner, Sync, Flush, Read}
+use Rattle.op_kind.specs.declared.op.Want.{Want}
+use Rattle.op_kind.specs.declared.op.Want.TheVariants.{Show, Cat, Tree as AsTree, Digest}
+use Rattle.op_kind.specs.declared.refusal.OpRefusal.{OpRefusal}
+use Rattle.op_kind.specs.declared.refusal.OpRefusal.TheVariants.{TooDeep, TooLong, NotFound, Exists, NotContainer, WrongKind, ProjectClosed, TreeFull, NumbersUsed, PartnerUnknown, MarkerUnknown, BadValue, IntoItself, BadDescription}
+use Rattle.op_kind.specs.Resources.{Resources}
+use Rattle.op_kind.specs.Places.{project_of, project_name, is_root_path, is_project_path, is_member_path, has_file, is_shut, is_in_shut}
+use Rattle.op_kind.specs.Members.{branch, rebased}
+use Rattle.op_kind.specs.Entries.{Entries}
+use Rattle.op_kind.specs.Numbers.{stamps_of_all}
+use Rattle.op_kind.specs.Marking.{has_marker}
+use Rattle.op_kind.specs.Partners.{is_partner}
 
 -- the platform's number of a refusal
 abbrev pub refusal_number : OpRefusal → ℕ

@@ -6,9 +6,9 @@ use Rattle.res_path.specs.Paths.{Names}
 use Rattle.ws_elem.specs.declared.element.Element.{Element}
 use Rattle.ws_elem.specs.Kinds.{is_project}
 use Rattle.ws_elem.specs.Trees.{Tree, Whole}
-use Rattle.ws_ops.specs.Resources.{Resources}
-use Rattle.ws_ops.specs.Places.{is_in_shut}
-use Rattle.ws_ops.specs.Stamps.{IsKnown}
+use Rattle.op_kind.specs.Resources.{Resources}
+use Rattle.op_kind.specs.Places.{is_in_shut}
+use Rattle.op_kind.specs.Stamps.{IsKnown}
 
 -- the element, open where it is a project
 abbrev pub opened : Element → Element

@@ -11,8 +11,8 @@ use Rattle.ws_elem.specs.declared.depth.Depth.{Depth}
 use Rattle.ws_elem.specs.declared.element.Element.{Element}
 use Rattle.ws_elem.specs.Depths.{is_within}
 use Rattle.ws_elem.specs.Trees.{Tree}
-use Rattle.ws_ops.specs.Entries.{Entries}
-use Rattle.ws_ops.specs.Members.{put_all}
+use Rattle.op_kind.specs.Entries.{Entries}
+use Rattle.op_kind.specs.Members.{put_all}
 
 -- ---- one resource
 

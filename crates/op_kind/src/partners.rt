@@ -1,6 +1,6 @@
 //! Synchronisation partners by their numbers.
 ghost use Rattle.std.specs.Prelude.{◌≡◌, [], ◌∷◌, ◌++◌, take, length, IfOk, OnOk, OnErr};
-ghost use Rattle.ws_ops.specs.Partners.{place_of};
+ghost use Rattle.op_kind.specs.Partners.{place_of};
 
 use res_path::{Name, NoMemory};
 use std::alloc::Global;
@@ -55,7 +55,7 @@ impl Partners {
     }
 
     /// Adds a partner as the last.
-    pub(crate) fn push(&mut self, name: Name) -> Result<(), NoMemory>
+    pub fn push(&mut self, name: Name) -> Result<(), NoMemory>
         ensures ok { OnOk result (self.new ≡ self.old ++ name ∷ []) }
         ensures err { OnErr result (self.new ≡ self.old) }
     {
@@ -64,7 +64,7 @@ impl Partners {
     }
 
     /// Takes all but the first so many away. It takes no memory.
-    pub(crate) fn cut(&mut self, count: usize)
+    pub fn cut(&mut self, count: usize)
         ensures { self.new ≡ take count self.old }
     {
         self.names.truncate(count);

@@ -1,12 +1,11 @@
 //! What an event is answered.
 ghost use Rattle.std.specs.Prelude.{◌≡◌, IfOk};
-ghost use Rattle.ws_core.specs.Refusals.{refusal_number};
-ghost use Rattle.ws_core.specs.Operations.{answered};
+ghost use Rattle.core_event.specs.Replies.{refusal_number, answered};
 
 use crate::{Apart, NoMemory, Notice, WsRule};
+use op_kind::{Entries, OpAnswer, OpRefusal, Partners};
 use res_path::Name;
 use std::alloc::Global;
-use ws_ops::{Entries, OpAnswer, OpRefusal, Partners};
 
 /// Why an event is refused. A refused event changes nothing.
 #[derive(Clone, Debug, Drop)]
@@ -65,7 +64,7 @@ pub enum Answer {
 
 impl Answer {
     /// The answer to an operation that is done. Only what was read takes memory.
-    pub(crate) fn of(alloc: Global, answer: OpAnswer) -> Result<Answer, NoMemory>
+    pub fn of(alloc: Global, answer: OpAnswer) -> Result<Answer, NoMemory>
         ensures { IfOk result (λ a. a ≡ answered answer) }
     {
         match answer {
@@ -85,7 +84,7 @@ impl Answer {
     }
 
     /// The answer to an event that is refused.
-    pub(crate) fn refused(alloc: Global, refusal: Refusal) -> Result<Answer, NoMemory>
+    pub fn refused(alloc: Global, refusal: Refusal) -> Result<Answer, NoMemory>
         ensures { IfOk result (λ a. a ≡ Answer.Refused refusal) }
     {
         let refusal = Apart::of(alloc, refusal)?;

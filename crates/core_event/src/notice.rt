@@ -1,7 +1,7 @@
 //! What an event tells.
 ghost use Rattle.std.specs.Prelude.{◌≡◌, IfOk, None as nothing};
 ghost use Rattle.std.specs.Option.{option_copied};
-ghost use Rattle.ws_core.specs.Steps.{some_nodes};
+ghost use Rattle.core_event.specs.Replies.{some_nodes};
 
 use crate::NoMemory;
 use delta_kind::Delta;

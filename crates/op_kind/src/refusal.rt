@@ -1,6 +1,6 @@
 //! Why an operation is refused.
 ghost use Rattle.std.specs.Prelude.{◌≡◌, IfOk};
-ghost use Rattle.ws_ops.specs.Refusals.{refusal_number};
+ghost use Rattle.op_kind.specs.Refusals.{refusal_number};
 
 use mark_set::ValueCause;
 use proj_desc::DescCause;
@@ -81,7 +81,7 @@ pub enum OpError {
 
 impl From<AllocError> for OpError {
     ghost use Rattle.std.specs.Prelude.{◌≡◌};
-    ghost use Rattle.ws_ops.specs.declared.refusal.OpError.TheVariants.{Memory};
+    ghost use Rattle.op_kind.specs.declared.refusal.OpError.TheVariants.{Memory};
 
     ghost from_gives = { λ _ e. e ≡ Memory };
 
@@ -92,7 +92,7 @@ impl From<AllocError> for OpError {
 
 impl<T: Drop> From<AllocFailed<T>> for OpError {
     ghost use Rattle.std.specs.Prelude.{◌≡◌};
-    ghost use Rattle.ws_ops.specs.declared.refusal.OpError.TheVariants.{Memory};
+    ghost use Rattle.op_kind.specs.declared.refusal.OpError.TheVariants.{Memory};
 
     ghost from_gives = { λ _ e. e ≡ Memory };
 

@@ -5,7 +5,7 @@ use Rattle.res_path.specs.Paths.{Names}
 use Rattle.ws_elem.specs.Trees.{Tree}
 use Rattle.ws_elem.specs.declared.element.Element.{Element}
 use Rattle.ws_elem.specs.declared.kind.Kind.TheVariants.{File}
-use Rattle.ws_ops.specs.Resources.{Resources}
+use Rattle.op_kind.specs.Resources.{Resources}
 
 -- files of a and b with equal stamps have equal contents
 abbrev pub SameContents : Tree → Tree → Type 0

@@ -1,8 +1,8 @@
 -- What is answered where an operation may be refused.
 use Rattle.std.specs.Prelude.{◌≡◌, Option, Some, None, Result, MatchResult}
-use Rattle.ws_ops.specs.declared.refusal.OpRefusal.{OpRefusal}
-use Rattle.ws_ops.specs.declared.refusal.OpError.{OpError}
-use Rattle.ws_ops.specs.declared.refusal.OpError.TheVariants.{Refused, Memory}
+use Rattle.op_kind.specs.declared.refusal.OpRefusal.{OpRefusal}
+use Rattle.op_kind.specs.declared.refusal.OpError.{OpError}
+use Rattle.op_kind.specs.declared.refusal.OpError.TheVariants.{Refused, Memory}
 
 -- a refusal with this fact, or want of memory
 abbrev pub IfRefused : (OpRefusal → Type 0) → OpError → Type 0

@@ -1,0 +1,12 @@
+pub mod Entries
+pub mod Partners
+pub mod Resources
+pub mod Places
+pub mod Members
+pub mod Numbers
+pub mod Marking
+pub mod Refusals
+pub mod Effects
+pub mod Stamps
+pub mod Sound
+pub mod Judging
