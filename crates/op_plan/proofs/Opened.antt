@@ -1,6 +1,6 @@
 -- A project that is opened or closed.
 use Rattle.std.proofs.Common.{◌≡◌, true, false, cond, not, ◌&&◌, ◌∷◌, [], ◌++◌, sym, ap, ◌∙◌}
-use Rattle.std.specs.Prelude.{Some}
+use Rattle.std.specs.Prelude.{Some, None}
 use Rattle.std.specs.FinMap.{get, insert, get-retain_keys}
 use Rattle.res_path.specs.Paths.{Names}
 use Rattle.res_path.proofs.Prefixes.{path_cmp_exact}

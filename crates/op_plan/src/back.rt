@@ -11,7 +11,7 @@ use ws_elem::TreeRep;
 
 /// The way back before an operation: what stood at the paths that it changed, the earlier counters, and
 /// how many partners there were.
-#[derive(Debug, Drop)]
+#[derive(Drop)]
 pub struct Back {
     tree: Earlier,
     shelf: Earlier,
@@ -75,7 +75,7 @@ impl Back {
 }
 
 /// What a done operation is answered, and the way back before it.
-#[derive(Debug, Drop)]
+#[derive(Drop)]
 pub struct Applied {
     pub answer: OpAnswer,
     pub back: Back,

@@ -13,7 +13,7 @@ use std::marker::Model;
 use ws_elem::{Element, TreeRep};
 
 /// What is to stand at a path: an element, or nothing.
-#[derive(Debug, Drop)]
+#[derive(Drop)]
 pub struct Change {
     path: Path,
     // the same path again, so that one can be kept when the other is given away
@@ -63,7 +63,7 @@ impl Change {
 }
 
 /// What is to stand at some paths, one after another. A contract sees the list of paths, each with its entry.
-#[derive(Debug, Drop)]
+#[derive(Drop)]
 pub struct Changes {
     changes: Vec<Change>,
 }
@@ -165,7 +165,7 @@ impl Changes {
 
 /// What stood at some paths before they were changed. A contract sees the list of paths, each with what stood there,
 /// the path that was changed last first.
-#[derive(Debug, Drop)]
+#[derive(Drop)]
 pub struct Earlier {
     entries: Vec<(Path, Option<Element>)>,
 }

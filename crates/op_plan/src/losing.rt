@@ -144,7 +144,6 @@ fn unsync(
 }
 
 /// The markers lose the problems of commands at or above this count. Looks at each marker.
-#[tactic(auto, using(crate::proofs::Lost::problems_removed))]
 pub fn unmark_problems(alloc: Global, marks: &mut MarkSet, count: usize) -> Result<(), NoMemory>
     ensures { OnOk result (marks.new ≡ without_problems_from count marks.old) }
 {
@@ -193,7 +192,13 @@ fn is_problem_from(count: usize, command: &MarkText, marker: Option<&Marker>) ->
 fn is_problem(marker: &Marker) -> bool
     ensures { result ≡ has_type (codes "org.eclipse.core.resources.problemmarker") (Some marker.now) }
 {
-    marker.mark_type.text() == "org.eclipse.core.resources.problemmarker"
+    has_type(marker, "org.eclipse.core.resources.problemmarker")
+}
+
+fn has_type(marker: &Marker, mark_type: &str) -> bool
+    ensures { result ≡ has_type mark_type.now (Some marker.now) }
+{
+    marker.mark_type.text() == mark_type
 }
 
 /// Whether the value is an integer at or above the count.

@@ -9,7 +9,7 @@ use std::alloc::Global;
 use ws_elem::Element;
 
 /// What an operation is going to change, made before anything changes.
-#[derive(Debug, Drop)]
+#[derive(Drop)]
 pub struct Plan {
     pub tree: Changes,
     pub shelf: Changes,
