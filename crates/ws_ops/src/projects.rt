@@ -152,7 +152,7 @@ fn plan_description(
     let mut attachments = project.attached.to_attachments()?;
     attachments.desc = Bytes::from_vec(desc.text(alloc)?)?;
     attachments.desc_stamp = side.next_stamp;
-    losing::unmark_problems(alloc, &mut attachments.marks, desc.commands.len())?;
+    losing::unmark_problems(alloc, &mut attachments.marks, desc.commands.as_slice().len())?;
     let element = project.with_attachments(alloc, attachments)?;
     Plan::stamp(alloc, side, path, element)
 }

@@ -10,8 +10,8 @@ pub returns : goal.returns
 returns g c =
     let tree = g.T.TreeRep.tree c.args.tree.now in
     let side = c.args.side.now in (
-      c.in_ok-match.ensures.judged,
+      c.in_ok-element.ensures.judged,
       put_planned tree side c.args.path.now (λ e. record e { attached = record e.attached { syncs = with_bytes e.attached.syncs (number_of side.partners c.args.name.now) c.args.bytes.now } })
-          c.in_ok-match.element.now c.in_ok-plan_sync.field-0 c.in_ok-match.ensures.element
-          (c.in_ok-plan_sync.ensures ∙ ap (λ n. let e : Element = c.in_ok-match.element.now in put_at side c.args.path.now (record e { attached = record e.attached { syncs = with_bytes e.attached.syncs n c.args.bytes.now } })) c.in_ok-match.ensures.number),
+          c.in_ok-element.element.now c.in_ok-plan_sync.field-0 c.in_ok-element.ensures.element
+          (c.in_ok-plan_sync.ensures ∙ ap (λ n. let e : Element = c.in_ok-element.element.now in put_at side c.args.path.now (record e { attached = record e.attached { syncs = with_bytes e.attached.syncs n c.args.bytes.now } })) c.in_ok-element.ensures.number),
     )
