@@ -1,17 +1,13 @@
-use Rattle.std.proofs.Common.{◌≡◌, Bool, true, false, not, refl, sym, ◌∙◌}
+use Rattle.std.proofs.Common.{sym, ◌∙◌}
 use Rattle.op_plan.proofs.Opened.{open_planned, open_already}
 use Rattle.ws_ops.proofs.projects.open.Goals as goal
-
-away : (b : Bool) → not b ≡ true → b ≡ false
-away true h = sym h
-away false h = refl
 
 pub returns-then-not-branch : goal.returns-then-not-branch
 returns-then-not-branch g c =
     let tree = g.T.TreeRep.tree c.args.tree.now in
     let side = c.args.side.now in (
       c.in_ok-project.ensures.judged,
-      open_already tree side c.args.path.now c.nothing.result (sym c.in_ok-is_shut.ensures ∙ away c.in_ok-is_shut.field-0 c.if-not-branch.true) c.nothing.ensures,
+      open_already tree side c.args.path.now c.nothing.result (sym c.in_ok-is_shut.ensures ∙ c.if-not-branch.true) c.nothing.ensures,
     )
 
 pub returns : goal.returns
