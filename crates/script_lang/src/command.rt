@@ -12,8 +12,8 @@ use crate::rules::rule_of;
 use crate::script::Command;
 use crate::verb::{Verb, verb_of};
 use crate::words::Token;
-use std::alloc::Global;
 use op_kind::Op;
+use std::alloc::Global;
 
 /// What a line of these words says, where a script may have it.
 pub fn line_of(alloc: Global, tokens: &mut [Token]) -> Result<Option<Line>, NoMemory>

@@ -15,9 +15,9 @@ use crate::part_text::{
 };
 use bytes::Bytes;
 use mark_set::{RawAttrs, RawText, RawValue};
+use op_kind::Op;
 use res_path::{Name, Path};
 use ws_elem::Depth;
-use op_kind::Op;
 
 /// Appends an operation's line, without its end.
 pub fn put_doing(out: &mut Vec<u8>, op: &Op) -> Result<(), NoMemory>

@@ -12,8 +12,8 @@ use crate::arguments::{
 use crate::parts::is_key;
 use crate::verb::Verb;
 use crate::words::Token;
-use std::alloc::Global;
 use op_kind::{Op, Want};
+use std::alloc::Global;
 
 /// The operation whose line begins with the verb and goes on with these tokens.
 pub fn operation_with(alloc: Global, verb: Verb, rest: &mut [Token]) -> Result<Option<Op>, NoMemory>

@@ -13,9 +13,9 @@ use crate::word_text::put_word;
 use bytes::Bytes;
 use itoa::Buffer;
 use mark_set::RawText;
+use op_kind::Want;
 use res_path::{Name, Path};
 use ws_elem::Depth;
-use op_kind::Want;
 
 /// Appends `create`, what is created, which can stand bare, and its path, with one space between.
 pub fn put_created(out: &mut Vec<u8>, kind: &[u8], path: &[u8]) -> Result<(), NoMemory>

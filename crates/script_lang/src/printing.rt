@@ -12,8 +12,8 @@ use crate::rule_text::put_rule;
 use crate::script::{Command, Job, Phase, Script};
 use crate::word_text::put_word;
 use crate::{NoMemory, ScriptRule};
-use std::alloc::Global;
 use op_kind::Op;
+use std::alloc::Global;
 
 /// The script's text, each line ended by LF. `parse` reads it as this script.
 pub fn print(alloc: Global, script: &Script) -> Result<Vec<u8>, NoMemory>

@@ -3,10 +3,10 @@ ghost use Rattle.std.specs.Prelude.{◌≡◌, ◌++◌, ◌∷◌, [], length, 
 ghost use Rattle.script_lang.specs.Commands.{priority_number};
 
 use crate::{NoMemory, ScriptRule};
+use op_kind::Op;
 use res_path::Name;
 use std::alloc::Global;
 use std::marker::Model;
-use op_kind::Op;
 
 /// One command of a job.
 #[derive(Debug, Drop)]

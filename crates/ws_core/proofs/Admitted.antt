@@ -12,10 +12,10 @@ use Rattle.rule_table.specs.Tables.{outer_rule, first_conflict, lowest, is_free,
 use Rattle.rule_table.specs.declared.held.Held.{Held}
 use Rattle.rule_table.proofs.Kept.{begun_apart, pairs_filter, pairs_without_last}
 use Rattle.rule_table.proofs.Lowest.{none_found}
-use Rattle.ws_core.specs.declared.reply.Refusal.{Refusal}
-use Rattle.ws_core.specs.declared.reply.Refusal.TheVariants as refusals
+use Rattle.core_event.specs.declared.reply.Refusal.{Refusal}
+use Rattle.core_event.specs.declared.reply.Refusal.TheVariants as refusals
 use Rattle.ws_core.specs.declared.state.State.{State}
-use Rattle.ws_core.specs.declared.waiting.Waiting.{Waiting}
+use Rattle.core_event.specs.declared.waiting.Waiting.{Waiting}
 use Rattle.ws_core.specs.Rules.{conflict_with, refused_under, admission}
 use Rattle.ws_core.specs.Effects.{may_run}
 

@@ -7,10 +7,10 @@ use Rattle.std.proofs.lemmas.List.{length-reverse}
 use Rattle.std.proofs.lemmas.List.Edits.{length-remove}
 use Rattle.std.proofs.lemmas.List.Folds.{list_any-append}
 use mathlib.Core.List.{reverse-cons}
-use Rattle.ws_core.specs.declared.event.Event.TheVariants.{EndBatch}
-use Rattle.ws_core.specs.declared.reply.Refusal.TheVariants.{NoBatch}
+use Rattle.core_event.specs.declared.event.Event.TheVariants.{EndBatch}
+use Rattle.core_event.specs.declared.reply.Refusal.TheVariants.{NoBatch}
 use Rattle.ws_core.specs.declared.state.State.{State}
-use Rattle.ws_core.specs.Numbers.{has_number, without_number, without_place, without_newest}
+use Rattle.core_event.specs.Numbers.{has_number, without_number, without_place, without_newest}
 use Rattle.ws_core.specs.Refusals.{when}
 use Rattle.ws_core.specs.Steps.{acted, act_admitted, tells}
 

@@ -5,11 +5,11 @@ use Rattle.sched_rules.specs.AtomLaws.{atom_cmp_total, atom_cmp_exact}
 use Rattle.sched_rules.specs.declared.ws_atom.WsAtom.{WsAtom}
 use Rattle.sched_rules.proofs.RuleLaws.{same_rules}
 use Rattle.rule_table.specs.Tables.{last_rule, rules_held}
-use Rattle.ws_core.specs.declared.event.Event.TheVariants.{End}
-use Rattle.ws_core.specs.declared.reply.Answer.{Answer}
-use Rattle.ws_core.specs.declared.reply.Answer.TheVariants.{Done, Refused}
-use Rattle.ws_core.specs.declared.reply.Refusal.{Refusal}
-use Rattle.ws_core.specs.declared.reply.Refusal.TheVariants.{NotLast, HoldsNothing}
+use Rattle.core_event.specs.declared.event.Event.TheVariants.{End}
+use Rattle.core_event.specs.declared.reply.Answer.{Answer}
+use Rattle.core_event.specs.declared.reply.Answer.TheVariants.{Done, Refused}
+use Rattle.core_event.specs.declared.reply.Refusal.{Refusal}
+use Rattle.core_event.specs.declared.reply.Refusal.TheVariants.{NotLast, HoldsNothing}
 use Rattle.ws_core.specs.declared.state.State.{State}
 use Rattle.ws_core.specs.Effects.{end}
 use Rattle.ws_core.specs.Refusals.{same_rule, end_refusal}

@@ -1,8 +1,8 @@
 -- Histories that grow at their end.
 use Rattle.std.proofs.Common.{◌≡◌, Bool, true, false, ◌&&◌, List, [], ◌∷◌, ◌++◌, map, refl, sym, ap, ◌∙◌, append_assoc}
 use Rattle.std.specs.Option.{option_to_list}
-use Rattle.ws_core.specs.declared.history.Entry.{Entry}
-use Rattle.ws_core.specs.declared.reply.Reply.{Reply}
+use Rattle.core_event.specs.declared.entry.Entry.{Entry}
+use Rattle.core_event.specs.declared.reply.Reply.{Reply}
 use Rattle.ws_core.specs.declared.state.State.{State}
 use Rattle.ws_core.specs.Steps.{step}
 use Rattle.ws_core.specs.Histories.{after, replay, replies, has_entered, entered, Legal, told_of}

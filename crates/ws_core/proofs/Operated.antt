@@ -10,14 +10,14 @@ use Rattle.op_kind.specs.declared.op.Op.TheVariants.{CreateFile, CreateFolder, C
 use Rattle.op_kind.specs.declared.refusal.OpRefusal.{OpRefusal}
 use Rattle.op_kind.specs.Resources.{Resources}
 use Rattle.op_kind.specs.Refusals as ops
-use Rattle.ws_core.specs.declared.event.Event.{Event}
-use Rattle.ws_core.specs.declared.event.Event.TheVariants.{Enter, Leave, Schedule, Take, Finish, Begin, TryBegin, End, Batch, EndBatch, Checkpoint, Operation}
-use Rattle.ws_core.specs.declared.reply.Refusal.{Refusal}
-use Rattle.ws_core.specs.declared.reply.Refusal.TheVariants as refusals
+use Rattle.core_event.specs.declared.event.Event.{Event}
+use Rattle.core_event.specs.declared.event.Event.TheVariants.{Enter, Leave, Schedule, Take, Finish, Begin, TryBegin, End, Batch, EndBatch, Checkpoint, Operation}
+use Rattle.core_event.specs.declared.reply.Refusal.{Refusal}
+use Rattle.core_event.specs.declared.reply.Refusal.TheVariants as refusals
 use Rattle.ws_core.specs.declared.state.State.{State}
-use Rattle.ws_core.specs.declared.waiting.Waiting.{Waiting}
+use Rattle.core_event.specs.declared.waiting.Waiting.{Waiting}
 use Rattle.ws_core.proofs.Taken.{after_take}
-use Rattle.ws_core.specs.Events.{is_read, change_of}
+use Rattle.core_event.specs.Events.{is_read, change_of}
 use Rattle.ws_core.specs.States.{resources_of, with_resources, seen}
 use Rattle.ws_core.specs.Operations.{operated_by, operated, act_operation}
 use Rattle.ws_core.specs.Effects.{effect}

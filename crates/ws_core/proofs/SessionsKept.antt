@@ -2,8 +2,8 @@
 use Rattle.std.proofs.Common.{◌≡◌, ℕ, true, List, [], ◌∷◌, ◌++◌, refl, sym, ap, ◌∙◌, subst}
 use Rattle.std.specs.Prelude.{Result, Ok, Err, OnOk, OnErr}
 use Rattle.ws_elem.specs.Trees.{Tree, fresh_tree}
-use Rattle.ws_core.specs.declared.event.Event.{Event}
-use Rattle.ws_core.specs.declared.history.Entry.{Entry}
+use Rattle.core_event.specs.declared.event.Event.{Event}
+use Rattle.core_event.specs.declared.entry.Entry.{Entry}
 use Rattle.ws_core.specs.declared.state.State.{State}
 use Rattle.ws_core.specs.Steps.{step}
 use Rattle.ws_core.specs.Histories.{fresh, has_entered, notices, told_of}

@@ -2,9 +2,9 @@
 use Rattle.std.proofs.Common.{◌≡◌, ℕ, sym, ap}
 use Rattle.std.specs.Prelude.{Some, None}
 use Rattle.std.specs.Option.{option_or}
-use Rattle.ws_core.specs.declared.event.Event.{Event}
-use Rattle.ws_core.specs.declared.reply.Answer.TheVariants.{Refused}
-use Rattle.ws_core.specs.declared.reply.Refusal.{Refusal}
+use Rattle.core_event.specs.declared.event.Event.{Event}
+use Rattle.core_event.specs.declared.reply.Answer.TheVariants.{Refused}
+use Rattle.core_event.specs.declared.reply.Refusal.{Refusal}
 use Rattle.ws_core.specs.declared.state.State.{State}
 use Rattle.ws_core.specs.Refusals.{own_refusal}
 use Rattle.ws_core.specs.Rules.{event_rule, admission}

@@ -2,10 +2,10 @@
 use Rattle.std.proofs.Common.{◌≡◌, ℕ, Bool, true, false, cond, refl}
 use Rattle.std.specs.Prelude.{Option, Some}
 use Rattle.std.specs.Prelude.{None as nothing}
-use Rattle.ws_core.specs.declared.reply.Answer.{Answer}
-use Rattle.ws_core.specs.declared.reply.Answer.TheVariants.{None}
+use Rattle.core_event.specs.declared.reply.Answer.{Answer}
+use Rattle.core_event.specs.declared.reply.Answer.TheVariants.{None}
 use Rattle.ws_core.specs.declared.state.State.{State}
-use Rattle.ws_core.specs.declared.waiting.Waiting.{Waiting}
+use Rattle.core_event.specs.declared.waiting.Waiting.{Waiting}
 use Rattle.ws_core.specs.Effects.{may_run, run, take}
 
 -- what holds of the state, and of it with the job's rule, holds after a Take

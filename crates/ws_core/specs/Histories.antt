@@ -5,11 +5,12 @@ use Rattle.std.specs.FinMap.{empty}
 use Rattle.ws_elem.specs.Trees.{Tree, fresh_tree}
 use Rattle.delta_kind.specs.Deltas.{delta}
 use Rattle.delta_kind.specs.declared.node.DeltaNode.{DeltaNode}
-use Rattle.ws_core.specs.declared.history.Entry.{Entry}
-use Rattle.ws_core.specs.declared.reply.Reply.{Reply}
+use Rattle.core_event.specs.declared.entry.Entry.{Entry}
+use Rattle.core_event.specs.declared.reply.Reply.{Reply}
 use Rattle.ws_core.specs.declared.state.State.{State}
-use Rattle.ws_core.specs.Numbers.{has_number}
-use Rattle.ws_core.specs.Steps.{step, tells, some_nodes}
+use Rattle.core_event.specs.Numbers.{has_number}
+use Rattle.ws_core.specs.Steps.{step, tells}
+use Rattle.core_event.specs.Replies.{some_nodes}
 
 -- the fresh workspace: the root alone, as node 1, and pass 0
 abbrev pub fresh : State

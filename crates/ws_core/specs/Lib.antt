@@ -1,6 +1,4 @@
 pub mod States
-pub mod Numbers
-pub mod Events
 pub mod Rules
 pub mod Refusals
 pub mod Operations

@@ -1,24 +1,16 @@
 -- What an operation is answered and does, refused or not.
 use Rattle.std.specs.Prelude.{Option, Some, None}
-use Rattle.op_kind.specs.declared.answer.OpAnswer.{OpAnswer}
-use Rattle.op_kind.specs.declared.answer.OpAnswer.TheVariants as op_answers
 use Rattle.op_kind.specs.declared.op.Op.{Op}
 use Rattle.op_kind.specs.declared.refusal.OpRefusal.{OpRefusal}
 use Rattle.op_kind.specs.Resources.{Resources}
 use Rattle.op_kind.specs.Refusals.{refusal}
 use Rattle.op_kind.specs.Effects.{effect}
-use Rattle.ws_core.specs.declared.reply.Answer.{Answer}
-use Rattle.ws_core.specs.declared.reply.Answer.TheVariants as answers
-use Rattle.ws_core.specs.declared.reply.Refusal.TheVariants as refusals
+use Rattle.core_event.specs.Replies.{answered}
+use Rattle.core_event.specs.declared.reply.Answer.{Answer}
+use Rattle.core_event.specs.declared.reply.Answer.TheVariants as answers
+use Rattle.core_event.specs.declared.reply.Refusal.TheVariants as refusals
 use Rattle.ws_core.specs.declared.state.State.{State}
 use Rattle.ws_core.specs.States.{resources_of, with_resources}
-
--- the answer to an operation that is done
-abbrev pub answered : OpAnswer → Answer
-answered op_answers.Done = answers.Done
-answered (op_answers.Id id) = answers.Id id
-answered (op_answers.Count count) = answers.Count count
-answered (op_answers.Seen entries partners) = answers.Seen (entries, partners)
 
 -- a refused operation changes nothing
 abbrev pub operated_by : Option OpRefusal → Resources → Op → Resources × Answer

@@ -8,24 +8,14 @@ use Rattle.sched_rules.specs.declared.ws_atom.WsAtom.{WsAtom}
 use Rattle.rule_table.specs.Tables.{last_rule, rules_held}
 use Rattle.op_kind.specs.Refusals.{is_spent}
 use Rattle.op_kind.specs.Refusals as ops
-use Rattle.ws_core.specs.declared.event.Event.{Event}
-use Rattle.ws_core.specs.declared.event.Event.TheVariants.{Enter, Leave, Schedule, Take, Finish, Begin, TryBegin, End, Batch, EndBatch, Checkpoint, Operation}
-use Rattle.ws_core.specs.declared.reply.Refusal.{Refusal}
-use Rattle.ws_core.specs.declared.reply.Refusal.TheVariants as refusals
+use Rattle.core_event.specs.declared.event.Event.{Event}
+use Rattle.core_event.specs.declared.event.Event.TheVariants.{Enter, Leave, Schedule, Take, Finish, Begin, TryBegin, End, Batch, EndBatch, Checkpoint, Operation}
+use Rattle.core_event.specs.declared.reply.Refusal.{Refusal}
+use Rattle.core_event.specs.declared.reply.Refusal.TheVariants as refusals
 use Rattle.ws_core.specs.declared.state.State.{State}
 use Rattle.ws_core.specs.States.{resources_of}
-use Rattle.ws_core.specs.Numbers.{has_number}
+use Rattle.core_event.specs.Numbers.{has_number}
 use Rattle.ws_core.specs.Rules.{event_rule, admission}
-
--- the platform's number of a refusal
-abbrev pub refusal_number : Refusal → ℕ
-refusal_number (refusals.Operation r) = ops.refusal_number r
-refusal_number (refusals.NotContained outer) = 15
-refusal_number refusals.NumbersUsed = 18
-refusal_number (refusals.NotLast held) = 19
-refusal_number refusals.HoldsNothing = 20
-refusal_number (refusals.Conflict holder rule) = 30
-refusal_number refusals.NoBatch = 44
 
 -- the refusal, where its cause holds
 abbrev pub when : Bool → Refusal → Option Refusal

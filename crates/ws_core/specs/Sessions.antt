@@ -5,7 +5,7 @@ use Rattle.sched_rules.specs.Atoms.{atom_contains, atom_conflicts}
 use Rattle.rule_table.specs.Tables.{IsApart}
 use Rattle.op_kind.specs.Sound as ops
 use Rattle.op_kind.specs.Stamps.{IsKnown}
-use Rattle.ws_core.specs.declared.history.Entry.{Entry}
+use Rattle.core_event.specs.declared.entry.Entry.{Entry}
 use Rattle.ws_core.specs.declared.state.State.{State}
 use Rattle.ws_core.specs.Histories.{Legal, replay}
 use Rattle.ws_core.specs.States.{resources_of}

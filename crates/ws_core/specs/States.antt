@@ -9,7 +9,7 @@ use Rattle.sched_rules.specs.declared.ws_atom.WsAtom.{WsAtom}
 use Rattle.rule_table.specs.declared.held.Held.{Held}
 use Rattle.op_kind.specs.Partners.{Partners}
 use Rattle.op_kind.specs.Resources.{Resources}
-use Rattle.ws_core.specs.declared.waiting.Waiting.{Waiting}
+use Rattle.core_event.specs.declared.waiting.Waiting.{Waiting}
 
 -- a workspace at one moment
 pub record Workspace : Type 0 where

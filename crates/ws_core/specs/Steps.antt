@@ -2,13 +2,14 @@
 use Rattle.std.specs.Prelude.{ℕ, Bool, true, false, ◌||◌, ◌==◌, List, [], ◌∷◌, length, Option, Some, None}
 use Rattle.delta_kind.specs.Deltas.{delta}
 use Rattle.delta_kind.specs.declared.node.DeltaNode.{DeltaNode}
-use Rattle.ws_core.specs.declared.event.Event.{Event}
-use Rattle.ws_core.specs.declared.reply.Answer.{Answer}
-use Rattle.ws_core.specs.declared.reply.Answer.TheVariants.{Refused}
-use Rattle.ws_core.specs.declared.reply.Refusal.{Refusal}
-use Rattle.ws_core.specs.declared.reply.Reply.{Reply}
+use Rattle.core_event.specs.declared.event.Event.{Event}
+use Rattle.core_event.specs.declared.reply.Answer.{Answer}
+use Rattle.core_event.specs.declared.reply.Answer.TheVariants.{Refused}
+use Rattle.core_event.specs.declared.reply.Refusal.{Refusal}
+use Rattle.core_event.specs.declared.reply.Reply.{Reply}
 use Rattle.ws_core.specs.declared.state.State.{State}
-use Rattle.ws_core.specs.Events.{is_checkpoint}
+use Rattle.core_event.specs.Events.{is_checkpoint}
+use Rattle.core_event.specs.Replies.{some_nodes}
 use Rattle.ws_core.specs.Effects.{effect}
 use Rattle.ws_core.specs.Refusals.{own_refusal, refusal}
 
@@ -28,11 +29,6 @@ act s pass event = acted (refusal s pass event) s pass event
 -- whether the event is a telling place: each Checkpoint, and each other event that leaves no batch open
 abbrev pub tells : Event → State → Bool
 tells event after = is_checkpoint event || length after.batches == 0
-
--- nothing is told where nothing changed
-abbrev pub some_nodes : List DeltaNode → Option (List DeltaNode)
-some_nodes [] = None
-some_nodes (node ∷ nodes) = Some (node ∷ nodes)
 
 -- what changed since the last telling place
 abbrev pub notice : State → Option (List DeltaNode)

@@ -4,16 +4,16 @@ ghost use Rattle.std.specs.Option.{option_map_or};
 ghost use Rattle.sched_rules.specs.Atoms.{atom_contains};
 ghost use Rattle.sched_rules.specs.Rules.{rule_contains};
 ghost use Rattle.rule_table.specs.Tables.{outer_rule};
-ghost use Rattle.ws_core.specs.declared.event.Event.TheVariants.{End};
+ghost use Rattle.core_event.specs.declared.event.Event.TheVariants.{End};
 ghost use Rattle.ws_core.specs.Effects.{begin};
 ghost use Rattle.ws_core.specs.Rules.{admission, event_rule, operation_rule};
 ghost use Rattle.ws_core.specs.Steps.{act_admitted};
 
 use crate::operation_rules::{contains_operation, operation_rule};
 use crate::{Answer, Event, NoMemory, Refusal, State, WsRule};
+use op_kind::Op;
 use rule_table::{BeginError, EndError};
 use std::alloc::{AllocError, Global};
-use op_kind::Op;
 
 impl State {
     /// Why the event of the pass isn't admitted by its rule, if it isn't. Costs one pass over the held rules. It takes no

@@ -1,16 +1,8 @@
 //! What was done.
 ghost use Rattle.std.specs.Prelude.{◌≡◌, ◌↔◌, [], length, IsTrue};
 
-use crate::{Event, Reply, State};
+use crate::{Entry, State};
 use std::marker::Model;
-
-/// An event, the pass that asked it, and the reply.
-#[derive(Debug, Drop)]
-pub struct Entry {
-    pub pass: u64,
-    pub event: Event,
-    pub reply: Reply,
-}
 
 /// What was done, in order. A contract sees the list of entries.
 ///
@@ -26,8 +18,8 @@ pub struct History {
 impl Model for History {
     ghost use Rattle.std.specs.Prelude.{List};
     ghost use Rattle.std.specs.Coded.{coded_list};
-    ghost use Rattle.ws_core.specs.declared.history.Entry.{Entry};
-    ghost use Rattle.ws_core.specs.contracts.history.Entry as of_entry;
+    ghost use Rattle.core_event.specs.declared.entry.Entry.{Entry};
+    ghost use Rattle.core_event.specs.contracts.entry.Entry as of_entry;
 
     ghost Value = { List Entry };
 

@@ -6,15 +6,15 @@ ghost use Rattle.op_plan.specs.Changes.{HasRooms};
 ghost use Rattle.op_kind.specs.Refusals.{refusal};
 ghost use Rattle.op_kind.specs.Resources.{resources};
 ghost use Rattle.op_kind.specs.Sound.{IsSound};
-ghost use Rattle.ws_core.specs.Operations.{answered, operated};
-ghost use Rattle.ws_core.specs.Steps.{some_nodes};
+ghost use Rattle.ws_core.specs.Operations.{operated};
+ghost use Rattle.core_event.specs.Replies.{answered, some_nodes};
 
 use crate::telling::notice_between;
 use crate::{Answer, NoMemory, Refusal, Reply};
+use op_kind::{Op, OpAnswer, OpError, OpRefusal, Side};
 use std::alloc::{AllocError, Global};
 use tree_flat::FlatTree;
 use ws_elem::{ElemMap, TreeRep};
-use op_kind::{Op, OpAnswer, OpError, OpRefusal, Side};
 use ws_ops::{Applied, apply, take_back};
 
 /// Why the operation is refused, if it is. It is tried, and taken back: nothing has changed.

@@ -7,10 +7,10 @@ ghost use Rattle.sched_rules.specs.declared.ws_atom.WsAtom.TheVariants as atoms;
 ghost use Rattle.ws_core.specs.Rules.{operation_rule, at, up};
 
 use crate::{NoMemory, WsRule};
+use op_kind::Op;
 use res_path::Path;
 use sched_rules::{Rule, WsAtom};
 use std::alloc::Global;
-use op_kind::Op;
 
 /// The rule by which the operation is admitted, as the platform's `IResourceRuleFactory` tells it: what is made, removed
 /// or moved has the rule of what is above it, a project its own; other changes have the rule of the resource; and what

@@ -33,9 +33,9 @@ pub struct Core {
 impl Model for Core {
     ghost use Rattle.std.specs.Prelude.{◌≡◌, List, refl};
     ghost use Rattle.std.specs.Coded.{code_by, coded×, coded_list};
-    ghost use Rattle.ws_core.specs.declared.history.Entry.{Entry};
+    ghost use Rattle.core_event.specs.declared.entry.Entry.{Entry};
     ghost use Rattle.ws_core.specs.declared.state.State.{State};
-    ghost use Rattle.ws_core.specs.contracts.history.Entry as of_entry;
+    ghost use Rattle.core_event.specs.contracts.entry.Entry as of_entry;
     ghost use Rattle.ws_core.specs.contracts.state.State as of_state;
     ghost use Rattle.ws_core.specs.Sessions.{Session, IsSession};
 

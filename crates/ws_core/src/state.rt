@@ -5,13 +5,13 @@ ghost use Rattle.ws_core.specs.Histories.{fresh};
 ghost use Rattle.ws_core.specs.Sessions.{IsSound};
 
 use crate::{NoMemory, Numbers, Waiting};
+use op_kind::{Partners, Side};
 use rule_table::RuleTable;
 use sched_rules::WsAtom;
 use std::alloc::Global;
 use std::marker::Model;
 use tree_flat::FlatTree;
 use ws_elem::ElemMap;
-use op_kind::{Partners, Side};
 
 /// The state of a workspace. A contract sees the record of its tree, the members of closed projects, the tree as it
 /// was last told, the counters that new resources, contents, markers and passes are numbered from, the synchronisation partners,

@@ -1,9 +1,9 @@
 //! One step of a state.
 ghost use Rattle.std.specs.Prelude.{◌≡◌, IfOk, IfSome, OnOk, OnErr, Some, true, false, None as nothing};
 ghost use Rattle.op_kind.specs.Refusals as ops;
-ghost use Rattle.ws_core.specs.declared.event.Event.TheVariants.{Operation};
-ghost use Rattle.ws_core.specs.declared.reply.Answer.TheVariants.{Refused};
-ghost use Rattle.ws_core.specs.Events.{change_of};
+ghost use Rattle.core_event.specs.declared.event.Event.TheVariants.{Operation};
+ghost use Rattle.core_event.specs.declared.reply.Answer.TheVariants.{Refused};
+ghost use Rattle.core_event.specs.Events.{change_of};
 ghost use Rattle.ws_core.specs.Operations.{act_operation};
 ghost use Rattle.ws_core.specs.Sessions.{IsSound};
 ghost use Rattle.ws_core.specs.States.{resources_of, told_tree};
@@ -14,10 +14,10 @@ use crate::arranging::is_spent;
 use crate::operating::{operate, operate_and_tell, refusal_of};
 use crate::telling::notice_between;
 use crate::{Answer, Event, NoMemory, Notice, Refusal, Reply, State};
+use op_kind::{Op, OpRefusal};
 use std::alloc::Global;
 use tree_flat::FlatTree;
 use ws_elem::ElemMap;
-use op_kind::{Op, OpRefusal};
 
 impl State {
     /// Does the event of the pass, or refuses it with the first cause in the order of its list, and tells what changed

@@ -1,7 +1,7 @@
 //! What changed from one tree to another.
 ghost use Rattle.std.specs.Prelude.{◌≡◌, IfOk};
 ghost use Rattle.delta_kind.specs.Deltas.{delta};
-ghost use Rattle.ws_core.specs.Steps.{some_nodes};
+ghost use Rattle.core_event.specs.Replies.{some_nodes};
 
 use crate::{NoMemory, Notice};
 use delta_kind::compare;

@@ -6,13 +6,13 @@ use crate::{Answer, Core, Event, NoMemory, Refusal, Reply, State, WsRule, operat
 use bytes::Bytes;
 use delta_kind::DeltaNode;
 use mark_set::{RawAttrs, RawText};
+use op_kind::{Entries, Op, OpRefusal, Want};
 use res_path::{Name, Path};
 use sched_rules::{Rule, WsAtom};
 use std::alloc::Global;
 use std::process::Abort;
 use std::test::Fail;
 use ws_elem::Depth;
-use op_kind::{Entries, Op, OpRefusal, Want};
 
 /// What is asked, and what it is to be answered and to tell.
 type Case = (&'static str, &'static str);

@@ -3,7 +3,7 @@ use Rattle.std.proofs.Common.{◌≡◌, ◌≢◌, ◌⊎◌, inl, inr, ℕ, �
 use Rattle.std.proofs.lemmas.Fmt.{decimal_digit}
 use Rattle.ws_outside.specs.Streams.{Gains, GainsFront}
 use Rattle.ws_core.specs.Histories.{fresh}
-use Rattle.ws_core.specs.declared.history.Entry.{Entry}
+use Rattle.core_event.specs.declared.entry.Entry.{Entry}
 use Rattle.ws_core.specs.declared.state.State.{State}
 use Rattle.ws_top.specs.Outcomes.{WritesCut, Writes}
 use Rattle.ws_top.specs.Printing.{PrintsSome}

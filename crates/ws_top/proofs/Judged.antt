@@ -6,7 +6,7 @@ use Rattle.script_lang.specs.declared.script.Script.{Script}
 use Rattle.script_lang.specs.declared.error.ScriptError.{ScriptError}
 use Rattle.script_lang.specs.declared.error.ScriptError.TheVariants.{BadLine, Memory}
 use Rattle.script_lang.specs.Scripts.{IsScript, IsFirstBad}
-use Rattle.ws_core.specs.declared.history.Entry.{Entry}
+use Rattle.core_event.specs.declared.entry.Entry.{Entry}
 use Rattle.ws_top.specs.Limits.{ReadsAll}
 use Rattle.ws_top.specs.Outcomes.{SpellsNone, IsResponse, IsTextBad}
 use Rattle.ws_top.specs.Runs.{Call, call_of, Asks, AsksFront}

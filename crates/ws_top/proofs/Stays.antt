@@ -6,19 +6,19 @@ use Rattle.std.proofs.lemmas.Bool.{false≢true, true≢false}
 use Rattle.script_lang.specs.declared.script.Command.{Command}
 use Rattle.script_lang.specs.declared.script.Command.TheVariants as commands
 use Rattle.script_lang.specs.declared.script.Phase.{Phase}
-use Rattle.ws_core.specs.declared.event.Event.{Event}
-use Rattle.ws_core.specs.declared.event.Event.TheVariants.{Enter, Leave, Schedule, Take, Finish, Begin, TryBegin, End, Batch, EndBatch, Checkpoint, Operation}
-use Rattle.ws_core.specs.declared.history.Entry.{Entry}
-use Rattle.ws_core.specs.declared.reply.Answer.{Answer}
-use Rattle.ws_core.specs.declared.reply.Answer.TheVariants as answers
-use Rattle.ws_core.specs.declared.reply.Refusal.{Refusal}
+use Rattle.core_event.specs.declared.event.Event.{Event}
+use Rattle.core_event.specs.declared.event.Event.TheVariants.{Enter, Leave, Schedule, Take, Finish, Begin, TryBegin, End, Batch, EndBatch, Checkpoint, Operation}
+use Rattle.core_event.specs.declared.entry.Entry.{Entry}
+use Rattle.core_event.specs.declared.reply.Answer.{Answer}
+use Rattle.core_event.specs.declared.reply.Answer.TheVariants as answers
+use Rattle.core_event.specs.declared.reply.Refusal.{Refusal}
 use Rattle.ws_core.specs.declared.state.State.{State}
-use Rattle.ws_core.specs.Events.{is_leave}
+use Rattle.core_event.specs.Events.{is_leave}
 use Rattle.ws_core.specs.Effects.{effect, take, run, may_run}
-use Rattle.ws_core.specs.declared.waiting.Waiting.{Waiting}
+use Rattle.core_event.specs.declared.waiting.Waiting.{Waiting}
 use Rattle.ws_core.specs.Sessions.{Session}
 use Rattle.ws_core.specs.Histories.{has_entered, fresh}
-use Rattle.ws_core.specs.Numbers.{has_number}
+use Rattle.core_event.specs.Numbers.{has_number}
 use Rattle.ws_core.specs.Refusals.{refusal}
 use Rattle.ws_core.specs.Steps.{acted, act, told, tells, step}
 use Rattle.ws_top.specs.Runs.{Call, call_of, event_of, Asks, AsksFront, Stay, phase_calls, calls}

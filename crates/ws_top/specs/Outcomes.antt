@@ -4,7 +4,7 @@ use Rattle.ws_outside.specs.Faults.{Rose}
 use Rattle.ws_outside.specs.Streams.{Gains, GainsFront}
 use Rattle.script_lang.specs.declared.script.Script.{Script}
 use Rattle.script_lang.specs.Scripts.{IsScript, IsFirstBad}
-use Rattle.ws_core.specs.declared.history.Entry.{Entry}
+use Rattle.core_event.specs.declared.entry.Entry.{Entry}
 use Rattle.ws_top.specs.declared.words.Form.{Form}
 use Rattle.ws_top.specs.declared.words.Form.TheVariants.{Run, Help, Version}
 use Rattle.ws_core.specs.Histories.{fresh}

@@ -21,14 +21,14 @@ use Rattle.report_text.specs.Elements.{shown_text}
 use Rattle.report_text.specs.Rules.{rule_words}
 use Rattle.report_text.specs.Trees.{digest_text}
 use Rattle.script_lang.specs.Scripts.{operation_text}
-use Rattle.ws_core.specs.declared.event.Event.{Event}
-use Rattle.ws_core.specs.declared.event.Event.TheVariants.{Enter, Leave, Schedule, Take, Finish, Begin, TryBegin, End, Batch, EndBatch, Checkpoint, Operation}
-use Rattle.ws_core.specs.declared.reply.Refusal.{Refusal}
-use Rattle.ws_core.specs.declared.reply.Refusal.TheVariants as refusals
-use Rattle.ws_core.specs.declared.reply.Answer.{Answer}
-use Rattle.ws_core.specs.declared.reply.Answer.TheVariants as answers
-use Rattle.ws_core.specs.declared.reply.Answer.TheVariants.{Done, Id, Count, Job, Seen, Refused}
-use Rattle.ws_core.specs.declared.history.Entry.{Entry}
+use Rattle.core_event.specs.declared.event.Event.{Event}
+use Rattle.core_event.specs.declared.event.Event.TheVariants.{Enter, Leave, Schedule, Take, Finish, Begin, TryBegin, End, Batch, EndBatch, Checkpoint, Operation}
+use Rattle.core_event.specs.declared.reply.Refusal.{Refusal}
+use Rattle.core_event.specs.declared.reply.Refusal.TheVariants as refusals
+use Rattle.core_event.specs.declared.reply.Answer.{Answer}
+use Rattle.core_event.specs.declared.reply.Answer.TheVariants as answers
+use Rattle.core_event.specs.declared.reply.Answer.TheVariants.{Done, Id, Count, Job, Seen, Refused}
+use Rattle.core_event.specs.declared.entry.Entry.{Entry}
 
 -- the command of a script that the event is, or what stands for it
 abbrev pub event_text : Event → List ℕ

@@ -1,7 +1,7 @@
 //! A script is run by one worker, event by event.
 ghost use Rattle.std.specs.Prelude.{◌≡◌, ◌∷◌, [], map, true, false, IfOk, OnOk, OnErr};
 ghost use Rattle.std.specs.List.{flat_map};
-ghost use Rattle.ws_core.specs.Events.{is_leave};
+ghost use Rattle.core_event.specs.Events.{is_leave};
 ghost use Rattle.ws_core.specs.Histories.{has_entered, fresh};
 ghost use Rattle.ws_top.specs.Runs.{Asks, AsksFront, Stay, event_of, command_call, schedule_event, schedule_call, job_calls, phase_calls, calls};
 

@@ -11,6 +11,7 @@ ghost use Rattle.ws_top.specs.Texts.{bad_line};
 
 use crate::NoMemory;
 use mark_set::ValueCause;
+use op_kind::{Entries, Op, OpRefusal, Partners, Want};
 use proj_desc::DescCause;
 use report_text::{
     digest_text, put_counted, put_named, put_number, put_path, put_rule, put_shown, put_text,
@@ -20,7 +21,6 @@ use script_lang::{put_operation, put_word};
 use std::fmt::Write;
 use ws_core::{Answer, Entry, Event, Refusal, WsRule};
 use ws_elem::Element;
-use op_kind::{Entries, Op, OpRefusal, Partners, Want};
 
 fn put_schedule(out: &mut Vec<u8>, name: &str, priority: u8, rule: &WsRule) -> Result<(), NoMemory>
     ensures { OnOk result (out.new.items ≡ out.old.items ++ codes "schedule " ++ word_text name.now ++ codes " " ++ decimal priority ++ codes " " ++ rule_words rule.now) }

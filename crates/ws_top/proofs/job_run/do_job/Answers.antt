@@ -1,5 +1,5 @@
 use Rattle.std.proofs.Common.{[], ◌∷◌, ◌++◌, map, subst}
-use Rattle.ws_core.specs.declared.event.Event.TheVariants.{Take, Finish}
+use Rattle.core_event.specs.declared.event.Event.TheVariants.{Take, Finish}
 use Rattle.ws_top.specs.Runs.{AsksFront, command_call}
 use Rattle.ws_top.proofs.Stays.{front_before, front_between}
 use Rattle.ws_top.proofs.job_run.do_job.Goals as goal

@@ -3,8 +3,8 @@ use Rattle.op_kind.specs.Resources.{resources}
 use Rattle.rule_table.specs.Tables.{last_rule}
 use Rattle.rule_table.specs.Refusals.{RefusesEnd}
 use Rattle.rule_table.specs.declared.error.EndError.TheVariants.{NotLast, HoldsNothing}
-use Rattle.ws_core.specs.declared.event.Event.TheVariants.{End}
-use Rattle.ws_core.specs.declared.reply.Answer.TheVariants.{Done, Refused}
+use Rattle.core_event.specs.declared.event.Event.TheVariants.{End}
+use Rattle.core_event.specs.declared.reply.Answer.TheVariants.{Done, Refused}
 use Rattle.ws_core.specs.declared.state.State.{State}
 use Rattle.ws_core.specs.Effects.{end}
 use Rattle.ws_core.specs.States.{seen}

@@ -1,6 +1,6 @@
 use Rattle.std.proofs.Common.{◌≡◌, ◌==◌, length, ap, sym, ◌∙◌}
 use Rattle.ws_core.specs.declared.state.State.{State}
-use Rattle.ws_core.specs.Numbers.{has_number, without_number}
+use Rattle.core_event.specs.Numbers.{has_number, without_number}
 use Rattle.ws_core.specs.Steps.{act_admitted, tells}
 use Rattle.ws_core.proofs.Batches.{none_other, end_tells}
 use Rattle.ws_core.proofs.state.State.will_tell.Goals as goal

@@ -1,0 +1,100 @@
+//! What an event is answered.
+ghost use Rattle.std.specs.Prelude.{◌≡◌, IfOk};
+ghost use Rattle.core_event.specs.Replies.{refusal_number, answered};
+
+use crate::{Apart, NoMemory, Notice, WsRule};
+use op_kind::{Entries, OpAnswer, OpRefusal, Partners};
+use res_path::Name;
+use std::alloc::Global;
+
+/// Why an event is refused. A refused event changes nothing.
+#[derive(Clone, Debug, Drop)]
+pub enum Refusal {
+    /// The operation is refused.
+    Operation(OpRefusal),
+    /// The event's rule isn't within the topmost rule of the pass that isn't null, which is this one.
+    NotContained(WsRule),
+    /// Another pass has this rule, which conflicts with the event's: of several the pass with the least number, and the
+    /// rule that it began first.
+    Conflict(u64, WsRule),
+    /// The pass began another rule last, and has so many.
+    NotLast(u64),
+    /// The pass has no rule.
+    HoldsNothing,
+    /// A new pass's number would pass 2^63 - 1.
+    NumbersUsed,
+    /// The pass has no open batch.
+    NoBatch,
+}
+
+impl Refusal {
+    /// The refusal's number: that of the operation's refusal, 15 for a rule that isn't contained, 18 for used numbers, 19
+    /// for a rule that isn't the last, 20 for no rule, 30 for a conflict, 44 for no batch.
+    pub fn number(&self) -> u8
+        ensures { result ≡ refusal_number self.now }
+    {
+        match self {
+            Refusal::Operation(refusal) => refusal.number(),
+            Refusal::NotContained(_) => 15,
+            Refusal::NumbersUsed => 18,
+            Refusal::NotLast(_) => 19,
+            Refusal::HoldsNothing => 20,
+            Refusal::Conflict(_, _) => 30,
+            Refusal::NoBatch => 44,
+        }
+    }
+}
+
+/// What an event is answered. What few answers have is kept apart, so that each answer is small.
+#[derive(Clone, Debug, Drop)]
+pub enum Answer {
+    Done,
+    /// The new pass's number, or the new marker's id.
+    Id(u64),
+    /// How many markers went, or how many resources lost a partner's bytes.
+    Count(u64),
+    /// No job waits.
+    None,
+    /// The job that is to be run.
+    Job(Apart<Name>),
+    /// What was read: elements with their paths, and the names of the synchronisation partners by their numbers.
+    Seen(Apart<(Entries, Partners)>),
+    Refused(Apart<Refusal>),
+}
+
+impl Answer {
+    /// The answer to an operation that is done. Only what was read takes memory.
+    pub fn of(alloc: Global, answer: OpAnswer) -> Result<Answer, NoMemory>
+        ensures { IfOk result (λ a. a ≡ answered answer) }
+    {
+        match answer {
+            OpAnswer::Done => Ok(Answer::Done),
+            OpAnswer::Id(id) => Ok(Answer::Id(id)),
+            OpAnswer::Count(count) => Ok(Answer::Count(count)),
+            OpAnswer::Seen(entries, partners) => Answer::seen(alloc, entries, partners),
+        }
+    }
+
+    /// The answer to an operation that read this.
+    fn seen(alloc: Global, entries: Entries, partners: Partners) -> Result<Answer, NoMemory>
+        ensures { IfOk result (λ a. a ≡ Answer.Seen (entries, partners)) }
+    {
+        let seen = Apart::of(alloc, (entries, partners))?;
+        Ok(Answer::Seen(seen))
+    }
+
+    /// The answer to an event that is refused.
+    pub fn refused(alloc: Global, refusal: Refusal) -> Result<Answer, NoMemory>
+        ensures { IfOk result (λ a. a ≡ Answer.Refused refusal) }
+    {
+        let refusal = Apart::of(alloc, refusal)?;
+        Ok(Answer::Refused(refusal))
+    }
+}
+
+/// What an event is answered, and what it tells: what changed in the tree since it was last told, where anything did.
+#[derive(Debug, Drop)]
+pub struct Reply {
+    pub answer: Answer,
+    pub notice: Notice,
+}
