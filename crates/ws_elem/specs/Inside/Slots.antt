@@ -1,12 +1,12 @@
 -- How a tree with room is kept: a slot for each path with an element, and an empty one for each other path with room.
 use Rattle.std.specs.Prelude.{◌≡◌, ℕ, Bool, true, false, not, cond, List, [], ◌∷◌, Option, None, Some}
 use Rattle.std.specs.BTreeMap.{is_at}
-use Rattle.std.specs.FinMap.{empty, insert, remove, len}
+use Rattle.std.specs.FinMap.{empty, len}
 use Rattle.std.specs.List.{list_any}
 use Rattle.std.specs.Map.{lookup}
 use Rattle.res_path.specs.Paths.{Names, path_cmp}
 use Rattle.ws_elem.specs.declared.element.Element.{Element}
-use Rattle.ws_elem.specs.Trees.{Tree}
+use Rattle.ws_elem.specs.Trees.{Tree, set_at}
 
 -- in path order
 abbrev pub Slots : Type 0
@@ -19,11 +19,6 @@ slot_at slots p = lookup (is_at (path_cmp p)) slots
 -- whether the path is among these
 abbrev pub is_among : List Names → Names → Bool
 is_among ps p = list_any (is_at (path_cmp p)) ps
-
--- the tree with this at p, if anything
-abbrev pub set_at : Tree → Names → Option Element → Tree
-set_at t p None = remove t p
-set_at t p (Some e) = insert t p e
 
 -- the elements in the slots, by path
 abbrev pub tree_of : Slots → Tree
