@@ -107,7 +107,11 @@ impl Delta {
     pub fn kind(&self) -> u8
         ensures { result ≡ whole_kind self.now }
     {
-        if self.nodes.is_empty() { NO_CHANGE } else { CHANGED }
+        if self.nodes.is_empty() {
+            NO_CHANGE
+        } else {
+            CHANGED
+        }
     }
 
     /// Whether nothing changed.
