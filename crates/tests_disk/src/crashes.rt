@@ -100,9 +100,9 @@ fn may_read(text: &str, stands: u64) -> bool {
 
 /// Whether what a crash after so many calls leaves is read as it may be where so many of the three writes stood.
 fn is_kept(rt: &impl Abort, alloc: Global, disk: &MemDisk, calls: usize, stands: u64) -> bool {
-    let calls = calls.min(disk.calls().len());
     let mut is = true;
     for remnant in REMNANTS {
+        let calls = calls.min(disk.calls().len());
         let remnants = must(rt, vec![in alloc; remnant; calls]);
         let left = must(rt, disk.crash(alloc, calls, &remnants));
         let text = read_as(rt, alloc, left.left.as_slice());

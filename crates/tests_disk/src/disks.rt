@@ -65,17 +65,28 @@ fn numbers(rt: &impl Abort, alloc: Global, word: &str) -> Vec<u64> {
 
 /// Makes the call, where it may be made.
 fn made(disk: &mut MemDisk, call: &str) -> Result<(), Failed> {
-    let len = disk.contents().of(Which::Left).len() as u64;
     match call.as_bytes() {
-        [b'w', at, piece @ ..] if digit(*at) <= len => {
-            disk.write_at(Which::Left, digit(*at), piece)
-        }
-        [b'c', most] if digit(*most) <= len => disk.cut(Which::Left, digit(*most)),
+        [b'w', at, piece @ ..] => written(disk, digit(*at), piece),
+        [b'c', most] => cut(disk, digit(*most)),
         [b's'] => disk.sync(Which::Left),
         [b'r'] => disk.sync(Which::Right),
         [b'l'] => len_told(disk),
         _ => read_told(disk),
     }
+}
+
+fn written(disk: &mut MemDisk, at: u64, piece: &[u8]) -> Result<(), Failed> {
+    if at > disk.contents().of(Which::Left).len() as u64 {
+        return Err(Failed);
+    }
+    disk.write_at(Which::Left, at, piece)
+}
+
+fn cut(disk: &mut MemDisk, most: u64) -> Result<(), Failed> {
+    if most > disk.contents().of(Which::Left).len() as u64 {
+        return Err(Failed);
+    }
+    disk.cut(Which::Left, most)
 }
 
 fn len_told(disk: &mut MemDisk) -> Result<(), Failed> {
