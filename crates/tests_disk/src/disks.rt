@@ -140,8 +140,10 @@ fn is_shown(rt: &impl Abort, alloc: Global, row: &str) {
     same_at(rt, row, reads, word(&mut words).as_bytes());
     let calls = disk.calls().len();
     let remnants = must(rt, vec![in alloc; remnant_of(word(&mut words)); calls]);
-    let left = must(rt, disk.crash(alloc, calls, &remnants));
-    same_at(rt, row, left.left.as_slice(), word(&mut words).as_bytes());
+    let left = must(rt, disk.crash(alloc, calls, &remnants))
+        .left
+        .into_vec();
+    same_at(rt, row, left.as_slice(), word(&mut words).as_bytes());
 }
 
 #[test]
