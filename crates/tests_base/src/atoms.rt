@@ -1,5 +1,5 @@
 //! Atoms and rules, two by two.
-use crate::asserting::{must, same};
+use crate::asserting::same;
 use crate::rows::{Row, gives, number, row_of, yes};
 use res_path::{Name, Path};
 use sched_rules::{Atom, Rule, WsAtom};
@@ -144,14 +144,15 @@ fn atoms_and_rules_are_what_the_rows_say(rt: HostRuntime) -> Result<(), Fail> {
 }
 
 #[test]
-fn atoms_are_ordered_by_kind_and_then_by_their_parts(rt: HostRuntime) {
+fn atoms_are_ordered_by_kind_and_then_by_their_parts(rt: HostRuntime) -> Result<(), Fail> {
     let alloc = rt.alloc();
     for (i, a) in RISING.lines().enumerate() {
         for (j, b) in RISING.lines().enumerate() {
-            let one = must(&rt, atom(alloc, a));
-            let two = must(&rt, atom(alloc, b));
+            let one = atom(alloc, a)?;
+            let two = atom(alloc, b)?;
             same(&rt, one.cmp(&two), i.cmp(&j));
             same(&rt, one == two, i == j);
         }
     }
+    Ok(())
 }
