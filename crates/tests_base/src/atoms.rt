@@ -1,5 +1,5 @@
 //! Atoms and rules, two by two.
-use crate::asserting::same;
+use crate::asserting::{holds, same};
 use crate::rows::{Row, gives, number, row_of, yes};
 use res_path::{Name, Path};
 use sched_rules::{Atom, Rule, WsAtom};
@@ -138,7 +138,7 @@ fn atoms_and_rules_are_what_the_rows_say(rt: HostRuntime) -> Result<(), Fail> {
     for line in ROWS.lines() {
         let row = row_of(line);
         let told = told(rt.alloc(), &row)?;
-        gives(&rt, line, &row, told.as_str())?;
+        holds(&rt, gives(&rt, line, &row, told.as_str())?);
     }
     Ok(())
 }

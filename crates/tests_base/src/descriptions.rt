@@ -1,4 +1,5 @@
 //! Descriptions of the project P, a text for each cause and for pairs of causes that stand together.
+use crate::asserting::holds;
 use crate::rows::{Row, gives, number, row_of};
 use proj_desc::Desc;
 use res_path::Name;
@@ -138,7 +139,7 @@ fn descriptions_are_what_the_rows_say(rt: HostRuntime) -> Result<(), Fail> {
     for line in ROWS.lines() {
         let row = row_of(line);
         let told = told(rt.alloc(), &row)?;
-        gives(&rt, line, &row, told.as_str())?;
+        holds(&rt, gives(&rt, line, &row, told.as_str())?);
     }
     Ok(())
 }
@@ -146,6 +147,6 @@ fn descriptions_are_what_the_rows_say(rt: HostRuntime) -> Result<(), Fail> {
 #[test]
 fn a_text_of_other_bytes_is_no_json(rt: HostRuntime) -> Result<(), Fail> {
     let told = checked(rt.alloc(), b"{\"references\":[\"\xff\"]}")?;
-    crate::asserting::holds(&rt, told.as_str() == "not-json");
+    holds(&rt, told.as_str() == "not-json");
     Ok(())
 }

@@ -1,5 +1,5 @@
 //! Names and paths at the edges of their rules.
-use crate::asserting::{must, same};
+use crate::asserting::{holds, must, same};
 use crate::rows::{Row, gives, row_of, spelt, yes};
 use res_path::{Name, Path, PathError};
 use std::alloc::Global;
@@ -161,7 +161,7 @@ fn names_and_paths_are_what_the_rows_say(rt: HostRuntime) -> Result<(), Fail> {
     for line in ROWS.lines() {
         let row = row_of(line);
         let told = told(rt.alloc(), &row)?;
-        gives(&rt, line, &row, told.as_str())?;
+        holds(&rt, gives(&rt, line, &row, told.as_str())?);
     }
     Ok(())
 }

@@ -1,4 +1,5 @@
 //! Who holds which rules, row by row.
+use crate::asserting::holds;
 use crate::atoms::rule;
 use crate::rows::{Row, gives, number, row_of, yes};
 use rule_table::{BeginError, EndError, RuleTable};
@@ -155,7 +156,7 @@ fn rules_are_held_as_the_rows_say(rt: HostRuntime) -> Result<(), Fail> {
     for line in ROWS.lines() {
         let row = row_of(line);
         let told = told(rt.alloc(), &mut table, &row)?;
-        gives(&rt, line, &row, told.as_str())?;
+        holds(&rt, gives(&rt, line, &row, told.as_str())?);
     }
     Ok(())
 }
