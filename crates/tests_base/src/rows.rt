@@ -3,6 +3,7 @@ use std::alloc::Global;
 use std::test::Fail;
 
 /// One row. Of the parts that it doesn't have each is empty.
+#[derive(Clone, Copy)]
 pub struct Row<'a> {
     pub word: &'a str,
     pub gives: &'a str,
