@@ -6,7 +6,7 @@ use Rattle.op_kind.specs.declared.refusal.OpError.{OpError}
 use Rattle.op_kind.specs.declared.refusal.OpError.TheVariants.{Refused, Memory}
 use Rattle.op_kind.specs.declared.op.Op.{Op}
 use Rattle.op_plan.specs.declared.plan.Plan.{Plan}
-use Rattle.op_plan.specs.inside.Plans.{Plans}
+use Rattle.op_plan.specs.Inside.Plans.{Plans}
 use Rattle.op_kind.specs.Resources.{Resources}
 use Rattle.op_kind.specs.Judging.{IfRefused, Judges}
 use Rattle.op_kind.specs.Refusals.{first_cause, refusal}

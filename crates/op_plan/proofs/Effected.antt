@@ -16,7 +16,7 @@ use Rattle.op_kind.specs.Members.{branch, members, without_members, is_below, pu
 use Rattle.op_kind.specs.Numbers.{stamps_of}
 use Rattle.op_kind.specs.Effects.{change_at, put_some, copies, renumbered}
 use Rattle.op_plan.specs.Changes.{Changes, set_entry, changed}
-use Rattle.op_plan.specs.inside.Lists.{undoing, taken, put}
+use Rattle.op_plan.specs.Inside.Lists.{undoing, taken, put}
 
 pub changed-append : (t : Tree) (cs ds : Changes) → changed t (cs ++ ds) ≡ changed (changed t cs) ds
 changed-append t [] ds = refl

@@ -22,7 +22,7 @@ use Rattle.op_kind.specs.declared.answer.OpAnswer.TheVariants.{Count}
 use Rattle.op_kind.specs.declared.op.Op.TheVariants.{ClearMarks, Flush}
 use Rattle.op_plan.specs.declared.plan.Plan.{Plan}
 use Rattle.op_plan.specs.Changes.{changed}
-use Rattle.op_plan.specs.inside.Lists.{put}
+use Rattle.op_plan.specs.Inside.Lists.{put}
 use Rattle.op_kind.specs.Effects.{effect}
 use Rattle.op_kind.specs.Entries.{Entries}
 use Rattle.op_kind.specs.Marking.{removed, unmarked, count_marks, unsynced, count_bytes, reached, change_all, change_within, count_all}
@@ -30,7 +30,7 @@ use Rattle.op_kind.specs.Members.{put_all}
 use Rattle.op_kind.specs.declared.side.Side.{Side}
 use Rattle.op_kind.specs.Partners.{number_of}
 use Rattle.op_kind.specs.Problems.{is_problem_from, without_problems_from}
-use Rattle.op_plan.specs.inside.Plans.{planned, unmark_at, unsync_at}
+use Rattle.op_plan.specs.Inside.Plans.{planned, unmark_at, unsync_at}
 use Rattle.op_kind.specs.Resources.{resources}
 use Rattle.op_plan.proofs.Effected.{changed_put}
 use Rattle.op_kind.proofs.ChangedWhere.{get-lost, get-change_where}

@@ -11,7 +11,7 @@ use Rattle.ws_elem.proofs.Rooms.{room_added, room_kept}
 use Rattle.ws_elem.specs.Trees.{Tree}
 use Rattle.op_kind.specs.Partners.{Partners, with_partner}
 use Rattle.op_plan.specs.Changes.{Changes, HasRooms, KeepsRoom, set_entry}
-use Rattle.op_plan.specs.inside.Lists.{undoing}
+use Rattle.op_plan.specs.Inside.Lists.{undoing}
 
 pub rooms_kept : (r s : Room) (cs : Changes) → KeepsRoom r s → HasRooms r cs → HasRooms s cs
 rooms_kept r s [] k h = tt

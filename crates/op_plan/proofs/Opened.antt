@@ -13,10 +13,10 @@ use Rattle.op_plan.specs.declared.plan.Plan.{Plan}
 use Rattle.op_kind.specs.Effects.{effect, set_open}
 use Rattle.op_kind.specs.Places.{is_shut}
 use Rattle.op_kind.specs.declared.side.Side.{Side}
-use Rattle.op_plan.specs.inside.Plans.{no_change, planned}
+use Rattle.op_plan.specs.Inside.Plans.{no_change, planned}
 use Rattle.op_kind.specs.Resources.{Resources, resources}
 use Rattle.op_plan.specs.Changes.{Changes, changed}
-use Rattle.op_plan.specs.inside.Lists.{taken, put}
+use Rattle.op_plan.specs.Inside.Lists.{taken, put}
 use Rattle.op_plan.proofs.Effected.{changed-append, changed_put, taken_members, change_there}
 use Rattle.op_plan.proofs.Walked.{prefix_itself}
 

@@ -19,8 +19,8 @@ use Rattle.op_kind.specs.Numbers.{stamps_of_all}
 use Rattle.op_kind.specs.Resources.{resources}
 use Rattle.op_plan.specs.declared.plan.Plan.{Plan}
 use Rattle.op_plan.specs.Changes.{changed}
-use Rattle.op_plan.specs.inside.Lists.{taken, put}
-use Rattle.op_plan.specs.inside.Plans.{no_change, put_at, stamp_at, planned}
+use Rattle.op_plan.specs.Inside.Lists.{taken, put}
+use Rattle.op_plan.specs.Inside.Plans.{no_change, put_at, stamp_at, planned}
 use Rattle.op_plan.proofs.Effected.{changed-append, changed_put, taken_branch, copies_carried}
 use Rattle.op_plan.proofs.Carried.{carried_count, carried_stamps}
 

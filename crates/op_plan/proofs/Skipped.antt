@@ -20,7 +20,7 @@ use Rattle.ws_elem.specs.declared.element.Element.{Element}
 use Rattle.op_kind.specs.Entries.{Entries}
 use Rattle.op_kind.specs.Marking.{reached}
 use Rattle.op_kind.specs.Members.{found_at, is_below, members}
-use Rattle.op_plan.specs.inside.Walks.{members_after}
+use Rattle.op_plan.specs.Inside.Walks.{members_after}
 use Rattle.op_plan.proofs.Reached.{reached_split}
 use Rattle.op_plan.proofs.Walked.{prefix_itself, under}
 

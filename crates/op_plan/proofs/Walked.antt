@@ -14,7 +14,7 @@ use Rattle.ws_elem.specs.declared.element.Element.{Element}
 use Rattle.ws_elem.specs.Trees.{Tree, entry_after}
 use Rattle.op_kind.specs.Entries.{Entries}
 use Rattle.op_kind.specs.Members.{found_at, is_below, branch, members}
-use Rattle.op_plan.specs.inside.Walks.{entries_after, members_after}
+use Rattle.op_plan.specs.Inside.Walks.{entries_after, members_after}
 
 never : {A : Type 0} → true ≡ false → A
 never h = cc

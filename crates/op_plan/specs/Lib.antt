@@ -1,3 +1,3 @@
 pub mod Changes
 pub mod Backs
-pub mod inside
+pub mod Inside

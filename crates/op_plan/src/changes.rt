@@ -4,7 +4,7 @@ ghost use Rattle.std.specs.FinMap.{get};
 ghost use Rattle.std.specs.Vec.{vec_len, vec_capacity};
 ghost use Rattle.ws_elem.specs.Rooms.{has_room};
 ghost use Rattle.op_plan.specs.Changes.{changed, set_entry, HasRooms, KeepsRoom};
-ghost use Rattle.op_plan.specs.inside.Lists.{undoing, taken, put};
+ghost use Rattle.op_plan.specs.Inside.Lists.{undoing, taken, put};
 
 use crate::Entries;
 use res_path::{NoMemory, Path};

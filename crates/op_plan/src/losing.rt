@@ -2,7 +2,7 @@
 ghost use Rattle.std.specs.Prelude.{◌≡◌, ◌++◌, ◌+◌, ◌==◌, [], ◌∷◌, filter, not, if◌then◌else◌, pos, int_le, codes, Some, IfOk, OnOk};
 ghost use Rattle.std.specs.Option.{option_copied};
 ghost use Rattle.std.specs.FinMap as map;
-ghost use Rattle.op_plan.specs.inside.Lists.{put};
+ghost use Rattle.op_plan.specs.Inside.Lists.{put};
 ghost use Rattle.mark_set.specs.Markers.{has_type};
 ghost use Rattle.op_kind.specs.Marking.{change_all, count_all, unmarked, count_marks, removed, unsynced, count_bytes};
 ghost use Rattle.op_kind.specs.Problems.{is_at_or_above, is_problem_from, without_problems_from};

@@ -1,6 +1,6 @@
 //! What an operation is going to change.
 ghost use Rattle.std.specs.Prelude.{◌≡◌, ◌+◌, ◌<◌, ◌^◌, IfOk};
-ghost use Rattle.op_plan.specs.inside.Plans.{CanDraw, no_change, put_at, stamp_at, create_at};
+ghost use Rattle.op_plan.specs.Inside.Plans.{CanDraw, no_change, put_at, stamp_at, create_at};
 
 use crate::changes::Changes;
 use crate::{NoMemory, OpAnswer, Side};

@@ -1,13 +1,13 @@
 //! Doing an operation, and taking it back.
 ghost use Rattle.std.specs.Prelude.{◌≡◌, None, Some, IfOk, IfErr, OnOk, OnErr};
 ghost use Rattle.ws_elem.specs.Trees.{Tree};
-ghost use Rattle.ws_ops.specs.inside.AtOnce.{IsDone};
+ghost use Rattle.ws_ops.specs.Inside.AtOnce.{IsDone};
 ghost use Rattle.op_plan.specs.Backs.{HasWay, taken_back};
 ghost use Rattle.op_plan.specs.Changes.{HasRooms, KeepsRoom};
 ghost use Rattle.op_kind.specs.Effects.{effect};
 ghost use Rattle.op_kind.specs.Judging.{IfRefused};
 ghost use Rattle.op_kind.specs.Partners.{with_partner};
-ghost use Rattle.op_plan.specs.inside.Plans.{Plans, planned};
+ghost use Rattle.op_plan.specs.Inside.Plans.{Plans, planned};
 ghost use Rattle.op_kind.specs.Refusals.{refusal};
 ghost use Rattle.op_kind.specs.Resources.{resources};
 ghost use Rattle.op_kind.specs.Sound.{IsSound};

@@ -1,9 +1,9 @@
 //! Creations done at once: one search finds that nothing is at the path, makes room and puts the element there.
 ghost use Rattle.std.specs.Prelude.{◌≡◌, ◌&&◌, true, is_none, None, IfOk, IfSome, OnErr};
-ghost use Rattle.ws_ops.specs.inside.AtOnce.{IsDone, IsPut};
+ghost use Rattle.ws_ops.specs.Inside.AtOnce.{IsDone, IsPut};
 ghost use Rattle.op_plan.specs.Changes.{KeepsRoom};
 ghost use Rattle.op_kind.specs.Places.{is_member_path};
-ghost use Rattle.op_plan.specs.inside.Plans.{CanDraw};
+ghost use Rattle.op_plan.specs.Inside.Plans.{CanDraw};
 ghost use Rattle.op_kind.specs.Refusals.{first_cause, around_causes};
 ghost use Rattle.op_kind.specs.Resources.{resources};
 

@@ -4,7 +4,7 @@ ghost use Rattle.std.specs.FinMap.{get};
 ghost use Rattle.op_kind.specs.Judging.{Judges};
 ghost use Rattle.op_kind.specs.Refusals.{first_cause, derived_causes};
 ghost use Rattle.op_kind.specs.Resources.{resources};
-ghost use Rattle.op_plan.specs.inside.Plans.{Plans, put_at, stamp_at};
+ghost use Rattle.op_plan.specs.Inside.Plans.{Plans, put_at, stamp_at};
 
 use crate::{NoMemory, Op, OpError, Side};
 use bytes::Bytes;

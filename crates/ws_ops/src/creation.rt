@@ -5,7 +5,7 @@ ghost use Rattle.op_kind.specs.Judging.{Judges};
 ghost use Rattle.op_kind.specs.Places.{is_member_path, is_project_path};
 ghost use Rattle.op_kind.specs.Refusals.{first_cause, when, creation_causes};
 ghost use Rattle.op_kind.specs.Resources.{resources};
-ghost use Rattle.op_plan.specs.inside.Plans.{CanDraw, Plans, create_at};
+ghost use Rattle.op_plan.specs.Inside.Plans.{CanDraw, Plans, create_at};
 
 use crate::{NoMemory, Op, OpError, OpRefusal, Side};
 use bytes::Bytes;

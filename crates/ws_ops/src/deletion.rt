@@ -4,8 +4,8 @@ ghost use Rattle.op_kind.specs.Judging.{Judges};
 ghost use Rattle.op_kind.specs.Members.{branch};
 ghost use Rattle.op_kind.specs.Refusals.{first_cause, deletion_causes};
 ghost use Rattle.op_kind.specs.Resources.{resources};
-ghost use Rattle.op_plan.specs.inside.Lists.{taken};
-ghost use Rattle.op_plan.specs.inside.Plans.{Plans, no_change};
+ghost use Rattle.op_plan.specs.Inside.Lists.{taken};
+ghost use Rattle.op_plan.specs.Inside.Plans.{Plans, no_change};
 
 use crate::{NoMemory, Op, OpError, Side};
 use op_plan::checks::{check_member_open, check_not_root, there};

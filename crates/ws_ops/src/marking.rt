@@ -7,7 +7,7 @@ ghost use Rattle.op_kind.specs.Judging.{Decides, Judges};
 ghost use Rattle.op_kind.specs.Marking.{has_marker, with_marks, with_marker, with_attribute_of, reached};
 ghost use Rattle.op_kind.specs.Refusals.{first_cause, when, marking_causes, mark_causes, attr_causes, unmark_causes};
 ghost use Rattle.op_kind.specs.Resources.{resources};
-ghost use Rattle.op_plan.specs.inside.Plans.{Plans, put_at, unmark_at};
+ghost use Rattle.op_plan.specs.Inside.Plans.{Plans, put_at, unmark_at};
 
 use crate::{NoMemory, Op, OpAnswer, OpError, OpRefusal, Side};
 use mark_set::{MarkError, RawAttrs, RawText, RawValue};

@@ -10,8 +10,8 @@ ghost use Rattle.op_kind.specs.Places.{project_name};
 ghost use Rattle.op_kind.specs.Problems.{without_problems_from};
 ghost use Rattle.op_kind.specs.Refusals.{first_cause, describe_causes};
 ghost use Rattle.op_kind.specs.Resources.{resources};
-ghost use Rattle.op_plan.specs.inside.Lists.{put, taken};
-ghost use Rattle.op_plan.specs.inside.Plans.{Plans, no_change, stamp_at};
+ghost use Rattle.op_plan.specs.Inside.Lists.{put, taken};
+ghost use Rattle.op_plan.specs.Inside.Plans.{Plans, no_change, stamp_at};
 
 use crate::{NoMemory, Op, OpError, OpRefusal, Side};
 use bytes::Bytes;
@@ -152,7 +152,11 @@ fn plan_description(
     let mut attachments = project.attached.to_attachments()?;
     attachments.desc = Bytes::from_vec(desc.text(alloc)?)?;
     attachments.desc_stamp = side.next_stamp;
-    losing::unmark_problems(alloc, &mut attachments.marks, desc.commands.as_slice().len())?;
+    losing::unmark_problems(
+        alloc,
+        &mut attachments.marks,
+        desc.commands.as_slice().len(),
+    )?;
     let element = project.with_attachments(alloc, attachments)?;
     Plan::stamp(alloc, side, path, element)
 }

@@ -5,7 +5,7 @@ ghost use Rattle.op_kind.specs.Effects.{read};
 ghost use Rattle.op_kind.specs.Judging.{Judges};
 ghost use Rattle.op_kind.specs.Refusals.{first_cause, read_causes, cannot_be_read};
 ghost use Rattle.op_kind.specs.Resources.{resources};
-ghost use Rattle.op_plan.specs.inside.Plans.{Plans, no_change};
+ghost use Rattle.op_plan.specs.Inside.Plans.{Plans, no_change};
 
 use crate::{Entries, NoMemory, Op, OpAnswer, OpError, Side, Want};
 use op_plan::checks::{check_member_open, there, wrong_kind};

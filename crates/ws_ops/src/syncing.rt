@@ -7,7 +7,7 @@ ghost use Rattle.op_kind.specs.Marking.{reached};
 ghost use Rattle.op_kind.specs.Partners.{is_partner, number_of};
 ghost use Rattle.op_kind.specs.Refusals.{first_cause, when, sync_causes, flush_causes};
 ghost use Rattle.op_kind.specs.Resources.{resources};
-ghost use Rattle.op_plan.specs.inside.Plans.{Plans, put_at, unsync_at};
+ghost use Rattle.op_plan.specs.Inside.Plans.{Plans, put_at, unsync_at};
 
 use crate::marking::there_open;
 use crate::{NoMemory, Op, OpAnswer, OpError, OpRefusal, Partners, Side};

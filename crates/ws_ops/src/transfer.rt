@@ -9,8 +9,8 @@ ghost use Rattle.op_kind.specs.Judging.{Decides, Judges, IfRefused};
 ghost use Rattle.op_kind.specs.Members.{branch, carried, rebased};
 ghost use Rattle.op_kind.specs.Numbers.{has_stamp, stamps_of, stamps_of_all};
 ghost use Rattle.op_kind.specs.Places.{is_root_path, is_project_path, project_name};
-ghost use Rattle.op_plan.specs.inside.Lists.{put, taken};
-ghost use Rattle.op_plan.specs.inside.Plans.{CanDraw, Plans, no_change};
+ghost use Rattle.op_plan.specs.Inside.Lists.{put, taken};
+ghost use Rattle.op_plan.specs.Inside.Plans.{CanDraw, Plans, no_change};
 ghost use Rattle.op_kind.specs.Refusals.{first_cause, when, standing_causes, fit_causes, transfer_causes, copy_causes, goes_too_deep, gets_too_long, description_cause};
 ghost use Rattle.op_kind.specs.Resources.{resources};
 

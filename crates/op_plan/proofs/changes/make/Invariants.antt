@@ -2,7 +2,7 @@ use Rattle.std.proofs.Common.{◌≡◌, ◌+◌, ◌≤◌, ◌++◌, length, r
 use Rattle.std.specs.Vec.{vec_len, vec_capacity}
 use Rattle.std.specs.Vec.Iter.{into_iter_items}
 use Rattle.op_plan.specs.Changes.{HasRooms, changed}
-use Rattle.op_plan.specs.inside.Lists.{undoing}
+use Rattle.op_plan.specs.Inside.Lists.{undoing}
 use Rattle.op_plan.proofs.changes.make.Given as goal
 
 abbrev pub invariant-loop-change : goal.invariant-loop-change

@@ -2,7 +2,7 @@ use Rattle.std.proofs.Common.{rules, ◌≡◌, ◌==◌, ◌++◌, length, not,
 use Rattle.std.specs.Prelude.{filter}
 use Rattle.std.proofs.lemmas.List.{append-nil}
 use Rattle.op_plan.specs.Changes.{Changes}
-use Rattle.op_plan.specs.inside.Lists.{put}
+use Rattle.op_plan.specs.Inside.Lists.{put}
 use Rattle.op_kind.specs.Entries.{Entries}
 use Rattle.op_kind.specs.Marking.{change_all, unsynced, count_bytes}
 use Rattle.op_plan.proofs.Lost.{none_left}

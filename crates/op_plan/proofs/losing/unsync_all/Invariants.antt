@@ -1,6 +1,6 @@
 use Rattle.std.proofs.Common.{◌≡◌, ◌+◌, ◌==◌, ◌++◌, not, length}
 use Rattle.std.specs.Prelude.{filter}
-use Rattle.op_plan.specs.inside.Lists.{put}
+use Rattle.op_plan.specs.Inside.Lists.{put}
 use Rattle.op_kind.specs.Marking.{change_all, count_all, unsynced, count_bytes}
 use Rattle.op_plan.proofs.losing.unsync_all.Given as goal
 

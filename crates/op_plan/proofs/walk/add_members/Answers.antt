@@ -1,6 +1,6 @@
 use Rattle.std.proofs.Common.{ap, ◌∙◌, ◌++◌}
 use Rattle.res_path.specs.Paths.{is_prefix}
-use Rattle.op_plan.specs.inside.Walks.{members_after}
+use Rattle.op_plan.specs.Inside.Walks.{members_after}
 use Rattle.op_plan.proofs.Walked.{members_start, prefix_itself}
 use Rattle.op_plan.proofs.walk.add_members.Goals as goal
 

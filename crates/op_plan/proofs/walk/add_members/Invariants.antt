@@ -1,7 +1,7 @@
 use Rattle.std.proofs.Common.{◌≡◌, ◌++◌, true, length}
 use Rattle.res_path.specs.Paths.{is_prefix}
 use Rattle.op_kind.specs.Members.{members}
-use Rattle.op_plan.specs.inside.Walks.{members_after}
+use Rattle.op_plan.specs.Inside.Walks.{members_after}
 use Rattle.op_plan.proofs.walk.add_members.Given as goal
 
 abbrev pub invariant-loop-at : goal.invariant-loop-at

@@ -4,7 +4,7 @@ use Rattle.res_path.specs.Paths.{Names, is_prefix}
 use Rattle.ws_elem.specs.declared.element.Element.{Element}
 use Rattle.ws_elem.specs.Depths.{is_within}
 use Rattle.op_kind.specs.Members.{is_below}
-use Rattle.op_plan.specs.inside.Walks.{entries_after, members_after}
+use Rattle.op_plan.specs.Inside.Walks.{entries_after, members_after}
 use Rattle.op_plan.proofs.Reached.{reached_step}
 use Rattle.op_plan.proofs.Skipped.{begins_through, first_kept, none_more, same_reach}
 use Rattle.op_plan.proofs.Walked.{members_start, prefix_itself}

@@ -3,7 +3,7 @@ use Rattle.std.specs.Prelude.{filter}
 use Rattle.res_path.specs.Paths.{is_prefix}
 use Rattle.ws_elem.specs.Depths.{is_within}
 use Rattle.op_kind.specs.Members.{members}
-use Rattle.op_plan.specs.inside.Walks.{members_after}
+use Rattle.op_plan.specs.Inside.Walks.{members_after}
 use Rattle.op_plan.proofs.walk.add_within.Given as goal
 
 abbrev pub invariant-loop-at : goal.invariant-loop-at

@@ -5,7 +5,7 @@ use Rattle.ws_elem.specs.Trees.{Tree}
 use Rattle.op_plan.specs.declared.back.Applied.{Applied}
 use Rattle.op_kind.specs.declared.op.Op.{Op}
 use Rattle.op_kind.specs.declared.refusal.OpError.{OpError}
-use Rattle.ws_ops.specs.inside.AtOnce.{IsDone}
+use Rattle.ws_ops.specs.Inside.AtOnce.{IsDone}
 use Rattle.op_kind.specs.Resources.{Resources, resources}
 use Rattle.op_kind.specs.Sound.{IsSound}
 use Rattle.op_kind.specs.Stamps.{IsKnown}

@@ -1,5 +1,5 @@
 use Rattle.op_kind.specs.Resources.{resources}
-use Rattle.op_plan.specs.inside.Plans.{planned}
+use Rattle.op_plan.specs.Inside.Plans.{planned}
 use Rattle.std.proofs.Common.{ap}
 use Rattle.ws_ops.proofs.creation.create_folder.Goals as goal
 

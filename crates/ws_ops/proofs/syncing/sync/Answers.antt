@@ -2,7 +2,7 @@ use Rattle.std.proofs.Common.{ap, ◌∙◌}
 use Rattle.sync_set.specs.Syncs.{with_bytes}
 use Rattle.ws_elem.specs.declared.element.Element.{Element}
 use Rattle.op_kind.specs.Partners.{number_of}
-use Rattle.op_plan.specs.inside.Plans.{put_at}
+use Rattle.op_plan.specs.Inside.Plans.{put_at}
 use Rattle.op_plan.proofs.Planned.{put_planned}
 use Rattle.ws_ops.proofs.syncing.sync.Goals as goal
 

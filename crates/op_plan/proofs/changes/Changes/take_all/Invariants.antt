@@ -1,5 +1,5 @@
 use Rattle.std.proofs.Common.{◌≡◌, ◌++◌, take}
-use Rattle.op_plan.specs.inside.Lists.{taken}
+use Rattle.op_plan.specs.Inside.Lists.{taken}
 use Rattle.op_plan.proofs.changes.Changes.take_all.Given as goal
 
 abbrev pub invariant-loop-path : goal.invariant-loop-path
