@@ -14,10 +14,6 @@ mod printing;
 mod program;
 mod reading;
 mod reply_text;
-#[cfg(test)]
-mod spoilt_tests;
-#[cfg(test)]
-mod tests;
 mod words;
 mod writing;
 

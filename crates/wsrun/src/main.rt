@@ -55,16 +55,3 @@ fn say(sink: &mut StdSink, text: &[u8], status: u8) -> ExitCode
     let _ = sink.write(text);
     ExitCode::from(status)
 }
-
-#[cfg(test)]
-mod tests {
-    use crate::say;
-    use std::process::ExitCode;
-    use ws_outside::StdSink;
-
-    #[test]
-    fn the_status_is_the_one_that_is_said(rt: HostRuntime) {
-        let mut sink = StdSink::new(rt.stdout());
-        assert!(rt; say(&mut sink, b"", 2) == ExitCode::from(2));
-    }
-}
