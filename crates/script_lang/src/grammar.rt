@@ -20,18 +20,9 @@ use std::alloc::Global;
 
 /// The script that the text spells. Refused with the number of the first bad line where it spells none: the first
 /// one at which no continuation could make the lines so far the beginning of a script; one past the last where the
-/// text ends too early. Lines are counted from 1, also those that are skipped. The text is copied once; costs as
-/// `parse_shared`.
-pub fn parse(alloc: Global, text: &[u8]) -> Result<Script, ScriptError>
-    ensures found { IfOk result (IsScript text.now) }
-    ensures all { (script : Script) → IsScript text.now script → MatchResult result (λ found. found ≡ script) (λ e. e ≡ Memory) }
-    ensures bad { (number : ℕ) → result ≡ Err (BadLine number) → IsFirstBad text.now number }
-{
-    let text = Bytes::copy_from_slice(alloc, text)?;
-    parse_shared(alloc, text)
-}
-
-/// The script that the text spells, as by `parse`, without a copy of the text. The words share its bytes but for those
+/// text ends too early. Lines are counted from 1, also those that are skipped.
+///
+/// The words share the text's bytes but for those
 /// with escapes, for a few common ones before a space, which take no memory, and for the texts of markers,
 /// which are copied. Costs one pass over the text, and for each atom of a rule one over the rule of the atoms
 /// before it.

@@ -15,7 +15,7 @@ use script_parts::{name_word, put_rule, put_three};
 use script_words::{put_bytes, put_word};
 use std::alloc::Global;
 
-/// The script's text, each line ended by LF. `parse` reads it as this script.
+/// The script's text, each line ended by LF. `parse_shared` reads it as this script.
 pub fn print(alloc: Global, script: &Script) -> Result<Vec<u8>, NoMemory>
     ensures text { IfOk result (λ bytes. bytes.items ≡ script_text script.now) }
     ensures back { IfOk result (λ bytes. IsScript bytes.items script.now) }
