@@ -7,18 +7,20 @@ use mark_set::{
 };
 use res_path::Path;
 use std::alloc::Global;
+use std::process::Abort;
+use std::test::Fail;
 
-fn raw(rt: &HostRuntime, text: &str) -> RawText {
-    RawText::of(must(rt, String::from_str(rt.alloc(), text)))
+fn raw(rt: &impl Abort, alloc: Global, text: &str) -> RawText {
+    RawText::of(must(rt, String::from_str(alloc, text)))
 }
 
-fn text(rt: &HostRuntime, text: &str) -> MarkText {
-    must(rt, MarkText::parse(rt.alloc(), text))
+fn text(rt: &impl Abort, alloc: Global, text: &str) -> MarkText {
+    must(rt, MarkText::parse(alloc, text))
 }
 
 #[test]
 fn raw_values_are_given_back_as_they_came(rt: HostRuntime) {
-    let copy = must(&rt, raw(&rt, "message").copy());
+    let copy = must(&rt, raw(&rt, rt.alloc(), "message").copy());
     holds(&rt, copy.text() == "message");
     for value in [
         RawValue::Int(-1),
@@ -27,14 +29,23 @@ fn raw_values_are_given_back_as_they_came(rt: HostRuntime) {
     ] {
         holds(&rt, must(&rt, value.copy()) == value);
     }
-    holds(&rt, raw(&rt, "message").into_string().as_str() == "message");
+    holds(
+        &rt,
+        raw(&rt, rt.alloc(), "message").into_string().as_str() == "message",
+    );
 }
 
 #[test]
 fn raw_attributes_stay_in_the_order_in_which_they_came(rt: HostRuntime) {
     let mut attrs = RawAttrs::empty(rt.alloc());
-    must(&rt, attrs.push(raw(&rt, "severity"), RawValue::Int(2)));
-    must(&rt, attrs.push(raw(&rt, "done"), RawValue::Bool(true)));
+    must(
+        &rt,
+        attrs.push(raw(&rt, rt.alloc(), "severity"), RawValue::Int(2)),
+    );
+    must(
+        &rt,
+        attrs.push(raw(&rt, rt.alloc(), "done"), RawValue::Bool(true)),
+    );
     let again = RawAttrs::of(must(&rt, attrs.copy()).into_vec());
     same(&rt, again.len(), 2);
     for ((name, _), wanted) in again.as_slice().iter().zip(["severity", "done"].iter()) {
@@ -48,7 +59,10 @@ fn attributes_are_made_of_a_list_and_give_it_back(rt: HostRuntime) {
     holds(&rt, none.is_empty() && none.iter().next().is_none());
     let mut marks = MarkSet::empty();
     let mut raws = RawAttrs::empty(rt.alloc());
-    must(&rt, raws.push(raw(&rt, "line"), RawValue::Int(3)));
+    must(
+        &rt,
+        raws.push(raw(&rt, rt.alloc(), "line"), RawValue::Int(3)),
+    );
     must(&rt, marks.create(rt.alloc(), 1, "task", raws.as_slice()));
     for marker in marks.get(1).iter() {
         let copy = must(&rt, marker.copy());
@@ -56,10 +70,15 @@ fn attributes_are_made_of_a_list_and_give_it_back(rt: HostRuntime) {
         let again = Attrs::of(must(&rt, copy.attrs.copy()).into_vec());
         holds(&rt, again == marker.attrs);
         same(&rt, again.len(), 1);
-        holds(&rt, again.get(&text(&rt, "line")) == Some(&Value::Int(3)));
         holds(
             &rt,
-            again.get(&must(&rt, text(&rt, "lane").copy())).is_none(),
+            again.get(&text(&rt, rt.alloc(), "line")) == Some(&Value::Int(3)),
+        );
+        holds(
+            &rt,
+            again
+                .get(&must(&rt, text(&rt, rt.alloc(), "lane").copy()))
+                .is_none(),
         );
     }
 }
@@ -69,7 +88,7 @@ fn marker_deltas_are_made_of_a_list_and_give_it_back(rt: HostRuntime) {
     let delta = MarkerDelta {
         id: 7,
         change: Change::Removed,
-        mark_type: text(&rt, "task"),
+        mark_type: text(&rt, rt.alloc(), "task"),
         old: Attrs::empty(rt.alloc()),
     };
     holds(&rt, must(&rt, delta.copy()) == delta);
@@ -97,9 +116,9 @@ fn a_place_is_a_path_or_none(rt: HostRuntime) {
 }
 
 #[test]
-fn rows_that_are_known_make_the_delta_too(rt: HostRuntime) {
+fn rows_that_are_known_make_the_delta_too(rt: HostRuntime) -> Result<(), Fail> {
     let from = must(&rt, Path::parse(rt.alloc(), "/a"));
-    let file = must(&rt, element(rt.alloc(), "f3.1"));
+    let file = element(rt.alloc(), "f3.1")?;
     let gone = Row {
         path: &from,
         before: Some(&file),
@@ -119,4 +138,5 @@ fn rows_that_are_known_make_the_delta_too(rt: HostRuntime) {
         );
     }
     same(&rt, Delta::empty(rt.alloc()).kind(), 0);
+    Ok(())
 }

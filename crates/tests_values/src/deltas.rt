@@ -1,4 +1,5 @@
 //! Deltas of two trees, and parts of them.
+use crate::asserting::holds;
 use crate::elements::{element, put_all};
 use crate::marks::show_delta;
 use crate::rows::{Row, gives, row_of, yes};
@@ -44,7 +45,7 @@ bare|/ 4 0, /f 4 30000 7 + problem, , |/f=f2.1|/f=f2.1,m7.3,sv1
 bare|/ 4 0, /f 4 10000, |/f=f2.1,m7.3|/f=f2.1,m7.3,s
 bare|/ 4 0, /f 4 10000, |/f=f2.1,sv1|/f=f2.1,sv2
 bare||/f=f2.1,m7.3,sv1|/f=f2.1,m7.3,sv1
-bare|/ 4 0, /f 4 20000 7 * problem line=3, 9 + problem, , |/f=f2.1,m7.3|/f=f2.1,m7.5,m9.6
+bare|/ 4 0, /f 4 20000 7 * problem line=3,  9 + problem, , |/f=f2.1,m7.3|/f=f2.1,m7.5,m9.6
 bare|/ 4 0, /a 2 32000 to /b 7 - problem line=3, , /b 1 31000 from /a 7 + problem, , |/a=f8.1,m7.3,sv1|/b=f8.1,m7.3,sv1
 find|yes|/
 find|yes|/p
@@ -160,7 +161,7 @@ fn deltas_are_what_the_rows_say(rt: HostRuntime) -> Result<(), Fail> {
     for line in ROWS.lines() {
         let row = row_of(line);
         let told = told(rt.alloc(), &row)?;
-        gives(&rt, line, &row, told.as_str())?;
+        holds(&rt, gives(&rt, line, &row, told.as_str())?);
     }
     Ok(())
 }

@@ -98,10 +98,10 @@ fn are_all(attachments: &Attachments) -> bool {
 }
 
 #[test]
-fn what_is_attached_goes_with_a_copy(rt: HostRuntime) {
+fn what_is_attached_goes_with_a_copy(rt: HostRuntime) -> Result<(), Fail> {
     let alloc = rt.alloc();
     let nothing = Attachments::none();
-    let file = must(&rt, must(&rt, element(alloc, "f5.1,c7,m1.3,sv1,D")).copy());
+    let file = must(&rt, element(alloc, "f5.1,c7,m1.3,sv1,D")?.copy());
     holds(
         &rt,
         file.kind == Kind::File && file.node == 5 && file.stamp == 1 && file.derived,
@@ -118,6 +118,7 @@ fn what_is_attached_goes_with_a_copy(rt: HostRuntime) {
         &rt,
         folder.node == 6 && folder.attached.kept().is_some_and(are_all),
     );
+    Ok(())
 }
 
 #[test]

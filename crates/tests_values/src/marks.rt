@@ -1,4 +1,5 @@
 //! Sets of markers: what each change answers, what stands then, and what a delta tells.
+use crate::asserting::holds;
 use crate::rows::{Row, cut, gives, number, row_of, spelt};
 use mark_set::{
     Change, MarkError, MarkSet, MarkText, Marker, MarkerDelta, RawAttrs, RawText, RawValue, Value,
@@ -83,8 +84,8 @@ fn cause(cause: ValueCause) -> &'static str {
     }
 }
 
-fn answer(result: Result<(), MarkError>) -> &'static str {
-    match result {
+fn answer(given: Result<(), MarkError>) -> &'static str {
+    match given {
         Ok(()) => "ok",
         Err(MarkError::MarkerUnknown) => "unknown",
         Err(MarkError::BadValue(why)) => cause(why),
@@ -234,7 +235,7 @@ fn sets_of_markers_are_what_the_rows_say(rt: HostRuntime) -> Result<(), Fail> {
     for line in ROWS.lines() {
         let row = row_of(line);
         let told = told(rt.alloc(), &row)?;
-        gives(&rt, line, &row, told.as_str())?;
+        holds(&rt, gives(&rt, line, &row, told.as_str())?);
     }
     Ok(())
 }

@@ -1,4 +1,5 @@
 //! Sets of synchronisation bytes.
+use crate::asserting::holds;
 use crate::rows::{Row, cut, gives, number, row_of, yes};
 use bytes::Bytes;
 use std::alloc::Global;
@@ -80,7 +81,7 @@ fn sets_of_synchronisation_bytes_are_what_the_rows_say(rt: HostRuntime) -> Resul
     for line in ROWS.lines() {
         let row = row_of(line);
         let told = told(rt.alloc(), &row)?;
-        gives(&rt, line, &row, told.as_str())?;
+        holds(&rt, gives(&rt, line, &row, told.as_str())?);
     }
     Ok(())
 }

@@ -1,4 +1,5 @@
 //! Trees: ordered maps of elements, and what serves as a tree.
+use crate::asserting::holds;
 use crate::elements::{element, put_all};
 use crate::rows::{Row, cut, gives, row_of, yes};
 use res_path::Path;
@@ -32,7 +33,7 @@ without|/ /a /a/y /a.b |/a/x|/a=p2 /a.b=p3 /a/x=d4 /a/x/f=f5.1 /a/y=f6.1
 without|/ /a.b |/a|/a=p2 /a.b=p3 /a/x=d4 /a/x/f=f5.1 /a/y=f6.1
 has|yes|/a/x/f|/a=p2 /a/x=d4 /a/x/f=f5.1
 has|no|/a/x/g|/a=p2 /a/x=d4 /a/x/f=f5.1
-map|6 7 0 4: /a /a/x |put /a/y d7; take /a/y; take /a/y; put /a.b p3|/a=p2 /a/x=d4 /a/y=f6.1
+map|6 7 0 0 4: /a /a/x /a.b |put /a/y d7; take /a/y; take /a/y; put /a.b p3|/a=p2 /a/x=d4 /a/y=f6.1
 map|0 3 0 3: /a /b |room /a/b; room /a/f; room /b; room /a/b; put /b p4; take /a/f; take /a/f|/a=p2 /a/f=f3.1
 map|3: /a /a/f |room /a/b; room /a/f; room /b; room /a/b|/a=p2 /a/f=f3.1
 map|3: /a /a/f |room /a/b; room /a/f; room /b; drop|/a=p2 /a/f=f3.1
@@ -206,7 +207,7 @@ fn trees_are_what_the_rows_say(rt: HostRuntime) -> Result<(), Fail> {
     for line in ROWS.lines() {
         let row = row_of(line);
         let told = told(rt.alloc(), &row)?;
-        gives(&rt, line, &row, told.as_str())?;
+        holds(&rt, gives(&rt, line, &row, told.as_str())?);
     }
     Ok(())
 }
