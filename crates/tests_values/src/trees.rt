@@ -46,7 +46,7 @@ flat|0 0 3: /a /a/f |room /a/f; room /a; room /a/f; put /a p2; put /a/f f3|
 flat|3 4 0 2: /a |put /a/f f4; take /a/f; take /a/f|/a=p2 /a/f=f3.1
 flat|put there 4: /a /a/f /a/g |new /a/g f9; new /a/f f9|/a=p2 /a/f=f3.1
 flat|1: |room /a|
-flat|2 2: /b |put /b p4; room /a; take /a; take /b; put /b p5; drop|/a=p2";
+flat|0 2 4 0 2: /b |put /b p4; room /a; take /a; take /b; put /b p5; drop|/a=p2";
 
 fn path(alloc: Global, text: &str) -> Result<Path, Fail> {
     Ok(Path::parse(alloc, text)?)
