@@ -1,5 +1,5 @@
 -- Why an event is refused.
-use Rattle.std.specs.Prelude.{ℕ, Bool, not, if◌then◌else◌, List, Option, Some, None}
+use Rattle.std.specs.Prelude.{ℕ, Bool, ◌==◌, if◌then◌else◌, List, Option, Some, None}
 use Rattle.std.specs.Cmp.Lexicographic.{pointwise}
 use Rattle.std.specs.Option.{option_map, option_or}
 use Rattle.std.specs.Ordering.{eq_by_cmp}
@@ -14,12 +14,8 @@ use Rattle.core_event.specs.declared.reply.Refusal.{Refusal}
 use Rattle.core_event.specs.declared.reply.Refusal.TheVariants as refusals
 use Rattle.ws_core.specs.declared.state.State.{State}
 use Rattle.ws_core.specs.States.{resources_of}
-use Rattle.core_event.specs.Numbers.{has_number}
+use Rattle.core_event.specs.Batches.{number_open}
 use Rattle.ws_core.specs.Rules.{event_rule, admission}
-
--- the refusal, where its cause holds
-abbrev pub when : Bool → Refusal → Option Refusal
-when holds r = if holds then Some r else None
 
 -- two rules have the same atoms
 abbrev pub same_rule : List WsAtom → List WsAtom → Bool
@@ -28,11 +24,11 @@ same_rule = pointwise (eq_by_cmp atom_cmp)
 -- why a rule isn't ended: the pass has none, or it has so many and began another one last
 abbrev pub end_refusal : Option (List WsAtom) → ℕ → List WsAtom → Option Refusal
 end_refusal None held rule = Some refusals.HoldsNothing
-end_refusal (Some last) held rule = when (not (same_rule last rule)) (refusals.NotLast held)
+end_refusal (Some last) held rule = if same_rule last rule then None else Some (refusals.NotLast held)
 
 -- why an event is refused that is admitted: an operation for its own causes
 abbrev pub own_refusal : State → ℕ → Event → Option Refusal
-own_refusal s pass Enter = when (is_spent s.next_pass 1) refusals.NumbersUsed
+own_refusal s pass Enter = if is_spent s.next_pass 1 then Some refusals.NumbersUsed else None
 own_refusal s pass Leave = None
 own_refusal s pass (Schedule name priority rule) = None
 own_refusal s pass Take = None
@@ -41,7 +37,7 @@ own_refusal s pass (Begin rule) = None
 own_refusal s pass (TryBegin rule) = None
 own_refusal s pass (End rule) = end_refusal (last_rule pass s.rules) (rules_held pass s.rules) rule
 own_refusal s pass Batch = None
-own_refusal s pass EndBatch = when (not (has_number pass s.batches)) refusals.NoBatch
+own_refusal s pass EndBatch = if number_open pass s.batches == 0 then Some refusals.NoBatch else None
 own_refusal s pass Checkpoint = None
 own_refusal s pass (Operation op) = option_map refusals.Operation (ops.refusal (resources_of s) op)
 

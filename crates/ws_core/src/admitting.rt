@@ -6,12 +6,13 @@ ghost use Rattle.sched_rules.specs.Rules.{rule_contains};
 ghost use Rattle.rule_table.specs.Tables.{outer_rule};
 ghost use Rattle.core_event.specs.declared.event.Event.TheVariants.{End};
 ghost use Rattle.ws_core.specs.Effects.{begin};
-ghost use Rattle.ws_core.specs.Rules.{admission, event_rule, operation_rule};
-ghost use Rattle.ws_core.specs.Steps.{act_admitted};
+ghost use Rattle.op_rule.specs.Rules.{operation_rule};
+ghost use Rattle.ws_core.specs.Rules.{admission, event_rule};
+ghost use Rattle.ws_core.specs.Inside.Acts.{act_admitted};
 
-use crate::operation_rules::{contains_operation, operation_rule};
 use crate::{Answer, Event, NoMemory, Refusal, State, WsRule};
 use op_kind::Op;
+use op_rule::{contains_operation, operation_rule};
 use rule_table::{BeginError, EndError};
 use std::alloc::{AllocError, Global};
 

@@ -88,7 +88,7 @@ impl State {
     pub(crate) fn finish(&mut self, pass: u64)
         ensures { self.new ≡ finish self.old pass }
     {
-        self.batches.remove_all(pass);
+        self.batches.end_all(pass);
         self.rules.drop_all(pass);
     }
 }

@@ -6,7 +6,7 @@ ghost use Rattle.ws_ops.specs.Changes.{HasRooms};
 ghost use Rattle.op_kind.specs.Refusals.{refusal};
 ghost use Rattle.op_kind.specs.Resources.{resources};
 ghost use Rattle.op_kind.specs.Sound.{IsSound};
-ghost use Rattle.ws_core.specs.Operations.{operated};
+ghost use Rattle.ws_core.specs.Inside.Acts.{operated};
 ghost use Rattle.core_event.specs.Replies.{answered, some_nodes};
 
 use crate::telling::notice_between;

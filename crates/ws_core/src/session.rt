@@ -191,14 +191,20 @@ fn write(
             push_entry(entries, pass, event, reply);
             Ok(())
         }
-        Err(wanted) => Err(wanted),
+        Err(wanted) => {
+            let_go(event);
+            Err(wanted)
+        }
     }
 }
+
+/// Lets the event go: the one place that does, since what lets go of so many kinds of value is dear to prove.
+fn let_go(_: Event) {}
 
 /// Adds an entry for which there is room.
 fn push_entry(entries: &mut Vec<Entry>, pass: u64, event: Event, reply: Reply)
     requires { vec_len entries.old < vec_capacity entries.old }
     ensures { entries.new.items ≡ entries.old.items ++ record { pass = pass; event = event; reply = reply } ∷ [] }
 {
-    let _ = entries.push(Entry { pass, event, reply });
+    entries.push_reserved(Entry { pass, event, reply });
 }

@@ -4,11 +4,12 @@ ghost use Rattle.op_kind.specs.Refusals as ops;
 ghost use Rattle.core_event.specs.declared.event.Event.TheVariants.{Operation};
 ghost use Rattle.core_event.specs.declared.reply.Answer.TheVariants.{Refused};
 ghost use Rattle.core_event.specs.Events.{change_of};
-ghost use Rattle.ws_core.specs.Operations.{act_operation};
+ghost use Rattle.ws_core.specs.Inside.Acts.{act_operation, act_admitted};
+ghost use Rattle.ws_core.specs.Inside.Views.{told_tree};
 ghost use Rattle.ws_core.specs.Sessions.{IsSound};
-ghost use Rattle.ws_core.specs.States.{resources_of, told_tree};
+ghost use Rattle.ws_core.specs.States.{resources_of};
 ghost use Rattle.ws_core.specs.Rules.{admission, event_rule};
-ghost use Rattle.ws_core.specs.Steps.{act_admitted, step, tell, tells, told, notice};
+ghost use Rattle.ws_core.specs.Steps.{step, tell, tells, told, notice};
 
 use crate::arranging::is_spent;
 use crate::operating::{operate, operate_and_tell, refusal_of};
@@ -101,7 +102,7 @@ impl State {
             Event::Checkpoint => true,
             Event::Batch => false,
             Event::Finish => self.batches.has_no_other(pass),
-            Event::EndBatch if self.batches.contains(pass) => self.batches.len() == 1,
+            Event::EndBatch if !self.batches.has_none(pass) => self.batches.has_at_most_one(pass),
             Event::EndBatch
             | Event::Enter
             | Event::Leave
@@ -164,11 +165,11 @@ impl State {
             Event::Finish => self.finish(pass),
             Event::Begin(rule) | Event::TryBegin(rule) => self.begin(pass, rule)?,
             Event::End(rule) => return self.end(alloc, pass, rule),
-            Event::Batch => self.batches.push(pass)?,
-            Event::EndBatch if !self.batches.contains(pass) => {
+            Event::Batch => self.batches.begin(pass)?,
+            Event::EndBatch if self.batches.has_none(pass) => {
                 return Answer::refused(alloc, Refusal::NoBatch);
             }
-            Event::EndBatch => self.batches.remove_newest(pass),
+            Event::EndBatch => self.batches.end(pass),
             Event::Checkpoint => {}
             Event::Operation(op) => return self.look(alloc, op),
         }
