@@ -16,8 +16,8 @@ use Rattle.op_kind.specs.Refusals as causes
 use Rattle.op_kind.specs.Resources.{Resources}
 use Rattle.op_kind.specs.Sound as ops
 use Rattle.op_kind.specs.Stamps.{IsKnown}
-use Rattle.ws_ops.proofs.SoundFresh as fresh_resources
-use Rattle.ws_ops.proofs.SoundKept as kept
+use Rattle.op_sound.proofs.SoundFresh as fresh_resources
+use Rattle.op_sound.proofs.SoundKept as kept
 use Rattle.core_event.specs.Batches.{Batches}
 use Rattle.core_event.specs.declared.event.Event.{Event}
 use Rattle.core_event.specs.declared.event.Event.TheVariants.{Enter, Leave, Schedule, Take, Finish, Begin, TryBegin, End, Batch, EndBatch, Checkpoint, Operation}
