@@ -1,6 +1,6 @@
 pub mod Told
 pub mod Seen
-pub mod Batches
+pub mod LastBatch
 pub mod Grown
 pub mod Operated
 pub mod Remembered

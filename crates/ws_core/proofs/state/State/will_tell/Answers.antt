@@ -4,7 +4,7 @@ use Rattle.core_event.specs.Batches.{number_open, without_any, with_one_fewer}
 use Rattle.ws_core.specs.declared.state.State.{State}
 use Rattle.ws_core.specs.Steps.{tells}
 use Rattle.ws_core.specs.Inside.Acts.{act_admitted}
-use Rattle.ws_core.proofs.Batches.{end_tells}
+use Rattle.ws_core.proofs.LastBatch.{end_tells}
 use Rattle.ws_core.proofs.state.State.will_tell.Goals as goal
 
 pub returns-in-Finish : goal.returns-in-Finish
