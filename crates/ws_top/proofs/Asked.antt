@@ -126,10 +126,7 @@ is_equal m n e = grind (arith, nat_tests)
 -- without phases nothing is asked
 pub no_phases : (a : Session) (phases : List Phase) → true ≡ (length phases == 0) → DoesCalls a a (calls phases)
 no_phases a [] e = calls_none a
-no_phases a (phase ∷ phases) e = absurd (not_empty (length phases) (is_equal (length phases + 1) 0 (sym e)))
-  where
-    not_empty : (n : ℕ) → n + 1 ≡ 0 → ⊥
-    not_empty n k = omega (arith, k)
+no_phases a (phase ∷ phases) e = let k = is_equal (length (phase ∷ phases)) 0 (sym e) in absurd (omega (arith, k))
 
 -- a worker enters, and then the others
 pub phases_then : {E : Type 0} (a b c : Session) (phases items : List Phase) (r : Result (Unit {0}) E) → false ≡ (length phases == 0) → items ≡ phases → DoesAll a b ((0, Enter) ∷ [])
