@@ -10,7 +10,7 @@ use Rattle.std.proofs.lemmas.Cmp.{tied_itself}
 use Rattle.res_path.specs.Paths.{Names, path_cmp, is_prefix, parent, parent_of}
 use Rattle.res_path.specs.PathLaws.{path_ties}
 use Rattle.delta_kind.specs.Deltas.{above}
-use Rattle.delta_kind.specs.Rows.{is_above, new_above, untouched}
+use Rattle.delta_kind.specs.Inside.Passes.{is_above, new_above, untouched}
 use Rattle.delta_kind.proofs.Rising.{Rises}
 
 -- ---- they rise, below the path

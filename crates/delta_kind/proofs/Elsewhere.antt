@@ -6,7 +6,9 @@ use Rattle.std.specs.FinMap.{get, entries, find, get-entries}
 use Rattle.res_path.specs.Paths.{Names, path_cmp}
 use Rattle.ws_elem.specs.declared.element.Element.{Element}
 use Rattle.ws_elem.specs.Trees.{Tree, Whole}
-use Rattle.delta_kind.specs.Moves.{lost, is_number, place_of, moved, SameNode, TellsPlace}
+use Rattle.delta_kind.specs.Rows.{lost, is_number}
+use Rattle.delta_kind.proofs.Turns.{place_of, moved_is}
+use Rattle.delta_kind.specs.Moves.{moved, SameNode, TellsPlace}
 use Rattle.delta_kind.specs.Deltas.{node_at, changed, with_above, delta, TellsMoves}
 use Rattle.delta_kind.proofs.Firsts.{passes, first_passes, none_passes, never}
 use Rattle.delta_kind.proofs.Rising.{keys_rise}
@@ -76,7 +78,7 @@ same_node n (Some e) None h g = g
 same_node n (Some e) (Some f) h g = h ∙ sym g
 
 told_there : (t u : Tree) (p q : Names) → moved t u p ≡ Some q → (q ≢ p) × SameNode (get t q) (get u p)
-told_there t u p q h = by (lost (get u p) (get t p)) refl h
+told_there t u p q h = by (lost (get u p) (get t p)) refl (sym (moved_is t u p) ∙ h)
   where
     by : (x : Option ℕ) → lost (get u p) (get t p) ≡ x → option_and_then (place_of t u) x ≡ Some q → (q ≢ p) × SameNode (get t q) (get u p)
     by None i j = cc
@@ -103,7 +105,8 @@ there_told t u wt wu p q apart same = by (get t q) refl (get u p) refl same
 
     at : (n : ℕ) → HasNode n (get t q) → HasNode n (get u p) → moved t u p ≡ Some q
     at n h g =
-        ap (option_and_then (place_of t u)) (lost_of (get u p) (get t p) n g (λ k. apart (unique t wt n q p h k)))
+        moved_is t u p
+        ∙ ap (option_and_then (place_of t u)) (lost_of (get u p) (get t p) n g (λ k. apart (unique t wt n q p h k)))
         ∙ found n h (place_of t u n) refl (lost_of (get t q) (get u q) n h (λ k. apart (unique u wu n q p k g)))
 
     by : (x : Option Element) → get t q ≡ x → (y : Option Element) → get u p ≡ y → SameNode x y → moved t u p ≡ Some q

@@ -9,7 +9,7 @@ use Rattle.res_path.specs.Paths.{Names, path_cmp}
 use Rattle.res_path.specs.PathLaws.{path_cmp_total}
 use Rattle.res_path.proofs.Prefixes.{path_cmp_exact, path_itself}
 use Rattle.ws_elem.proofs.Cuts.{same_at}
-use Rattle.delta_kind.specs.Moves.{first_path}
+use Rattle.delta_kind.specs.Rows.{first_path}
 use Rattle.delta_kind.proofs.Rising.{Rises, find_missing}
 
 some_path : {p q : Names} → Some p ≡ Some q → p ≡ q

@@ -3,9 +3,12 @@ pub mod Merged
 pub mod Above
 pub mod Told
 pub mod Firsts
+pub mod Turns
 pub mod Moved
 pub mod Table
 pub mod Same
 pub mod Unmoved
 pub mod Elsewhere
 pub mod Found
+pub mod Contents
+pub mod Flagged

@@ -13,7 +13,7 @@ use Rattle.ws_elem.specs.Trees.{Tree}
 use Rattle.ws_elem.proofs.Cuts.{same_at}
 use Rattle.delta_kind.specs.Flags.{differs}
 use Rattle.delta_kind.specs.Rows.{Sides, Rows, row_paths}
-use Rattle.delta_kind.specs.Walks.{only_before, only_after, merged_from, merged}
+use Rattle.delta_kind.specs.Inside.Walks.{only_before, only_after, merged_from, merged}
 use Rattle.delta_kind.proofs.Rising.{Over, Rises, rises_lower, keys_rise, find_missing}
 
 abbrev Entries : Type 0

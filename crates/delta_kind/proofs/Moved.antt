@@ -14,10 +14,11 @@ use Rattle.ws_elem.specs.declared.element.Element.{Element}
 use Rattle.ws_elem.specs.Attached.{nothing_attached}
 use Rattle.ws_elem.specs.Trees.{Tree}
 use Rattle.delta_kind.specs.declared.row.Turn.TheVariants.{Lost, Gained}
-use Rattle.delta_kind.specs.declared.flags.TheConstants.{CONTENT, OPEN, TYPE, SYNC, MARKERS, REPLACED, DESCRIPTION, DERIVED_CHANGED}
 use Rattle.delta_kind.specs.Flags.{has_content, has_open, has_type, has_sync, has_markers, has_replaced, has_description, has_derived_changed, marks_of, syncs_of, flag_if, flags_of, differs}
-use Rattle.delta_kind.specs.Moves.{lost, is_number, place_of}
-use Rattle.delta_kind.specs.Rows.{Rows, Sides, row_paths, turned, place_in, untouched}
+use Rattle.delta_kind.specs.Rows.{lost, is_number}
+use Rattle.delta_kind.proofs.Turns.{place_of}
+use Rattle.delta_kind.specs.Rows.{Rows, Sides, row_paths, turned, place_in}
+use Rattle.delta_kind.specs.Inside.Passes.{untouched}
 use Rattle.delta_kind.proofs.Merged.{RowsOf}
 use Rattle.delta_kind.proofs.Rising.{Rises, keys_rise}
 use Rattle.delta_kind.proofs.Firsts.{passes, same_first}
@@ -31,20 +32,20 @@ no_flags a b h = zero (flags_of (Some a) (Some b)) h
     zero n h = grind (arith, nat_tests)
 
 same_node : (a b : Element) → differs (Some a) (Some b) ≡ false → (a.node == b.node) ≡ true
-same_node a b h = by (flag_if CONTENT (has_content (Some a) (Some b))) (flag_if OPEN (has_open (Some a) (Some b))) (flag_if TYPE (has_type (Some a) (Some b)))
-    (flag_if SYNC (has_sync (Some a) (Some b))) (flag_if MARKERS (has_markers (Some a) (Some b))) (flag_if DESCRIPTION (has_description (Some a) (Some b))) (flag_if DERIVED_CHANGED (has_derived_changed (Some a) (Some b))) (a.node == b.node) (no_flags a b h)
+same_node a b h = by (flag_if 0x100 (has_content (Some a) (Some b))) (flag_if 0x4000 (has_open (Some a) (Some b))) (flag_if 0x8000 (has_type (Some a) (Some b)))
+    (flag_if 0x10000 (has_sync (Some a) (Some b))) (flag_if 0x20000 (has_markers (Some a) (Some b))) (flag_if 0x80000 (has_description (Some a) (Some b))) (flag_if 0x400000 (has_derived_changed (Some a) (Some b))) (a.node == b.node) (no_flags a b h)
   where
-    by : (c o t y m d v : ℕ) (s : Bool) → c + o + t + y + m + flag_if REPLACED (not s) + d + v ≡ 0 → s ≡ true
+    by : (c o t y m d v : ℕ) (s : Bool) → c + o + t + y + m + flag_if 0x40000 (not s) + d + v ≡ 0 → s ≡ true
     by c o t y m d v true h = refl
     by c o t y m d v false h = absurd (omega arith)
 
 -- where a path doesn't differ, its markers stay
 pub same_markers : (a b : Element) → differs (Some a) (Some b) ≡ false → a.attached.marks ≡ b.attached.marks
-same_markers a b h = (same_marks-Decides a.attached.marks b.attached.marks).0 (by (flag_if CONTENT (has_content (Some a) (Some b))) (flag_if OPEN (has_open (Some a) (Some b)))
-    (flag_if TYPE (has_type (Some a) (Some b))) (flag_if SYNC (has_sync (Some a) (Some b))) (flag_if REPLACED (has_replaced (Some a) (Some b)))
-    (flag_if DESCRIPTION (has_description (Some a) (Some b))) (flag_if DERIVED_CHANGED (has_derived_changed (Some a) (Some b))) (same_marks a.attached.marks b.attached.marks) (no_flags a b h))
+same_markers a b h = (same_marks-Decides a.attached.marks b.attached.marks).0 (by (flag_if 0x100 (has_content (Some a) (Some b))) (flag_if 0x4000 (has_open (Some a) (Some b)))
+    (flag_if 0x8000 (has_type (Some a) (Some b))) (flag_if 0x10000 (has_sync (Some a) (Some b))) (flag_if 0x40000 (has_replaced (Some a) (Some b)))
+    (flag_if 0x80000 (has_description (Some a) (Some b))) (flag_if 0x400000 (has_derived_changed (Some a) (Some b))) (same_marks a.attached.marks b.attached.marks) (no_flags a b h))
   where
-    by : (c o t y r d v : ℕ) (s : Bool) → c + o + t + y + flag_if MARKERS (not s) + r + d + v ≡ 0 → s ≡ true
+    by : (c o t y r d v : ℕ) (s : Bool) → c + o + t + y + flag_if 0x20000 (not s) + r + d + v ≡ 0 → s ≡ true
     by c o t y r d v true h = refl
     by c o t y r d v false h = absurd (omega arith)
 
@@ -56,10 +57,10 @@ pub idle_marks : (m : Marks) → same_marks m m ≡ true
 idle_marks m = (same_marks-Decides m m).1 refl
 
 pub nothing_flagged : flags_of None None ≡ 0
-nothing_flagged = λ i. 0 + flag_if SYNC (not (idle_syncs empty i)) + flag_if MARKERS (not (idle_marks empty i)) + 0 + 0 + 0
+nothing_flagged = λ i. 0 + flag_if 0x10000 (not (idle_syncs empty i)) + flag_if 0x20000 (not (idle_marks empty i)) + 0 + 0 + 0
 
-pub nothing_marked : (m : Marks) → marker_deltas m m ≡ []
-nothing_marked m = (no_deltas m m).1 refl
+pub no_marker_deltas : (m : Marks) → marker_deltas m m ≡ []
+no_marker_deltas m = (no_deltas m m).1 refl
 
 pub equal_marks : (x y : Option Element) → not (has_markers x y) ≡ true → marker_deltas (marks_of x) (marks_of y) ≡ []
 equal_marks x y h = (no_deltas (marks_of x) (marks_of y)).1 ((same_marks-Decides (marks_of x) (marks_of y)).0 (by (same_marks (marks_of x) (marks_of y)) h))
@@ -87,7 +88,7 @@ same_marks_kept x y h = sym (ap not ((same_marks-Decides (marks_of x) (marks_of 
     by (Some e) = refl
 
 pub untouched_is : (p : Names) → untouched p ≡ record { path = p; kind = 4; flags = 0; moved_from = None; moved_to = None; markers = [] }
-untouched_is p = λ i. record { path = p; kind = 4; flags = nothing_flagged i + 0; moved_from = None; moved_to = None; markers = nothing_marked empty i }
+untouched_is p = λ i. record { path = p; kind = 4; flags = nothing_flagged i + 0; moved_from = None; moved_to = None; markers = no_marker_deltas empty i }
 
 same_back : (m n : ℕ) → (m == n) ≡ true → (n == m) ≡ true
 same_back m n h = grind (arith, nat_tests)

@@ -20,14 +20,14 @@ use Rattle.ws_elem.specs.Trees.{Tree}
 use Rattle.ws_elem.proofs.Cuts.{any_filter, same_at}
 use Rattle.delta_kind.specs.declared.node.DeltaNode.{DeltaNode}
 use Rattle.delta_kind.specs.Flags.{flag_if, moved_flags, differs}
-use Rattle.delta_kind.specs.Moves.{lost, place_of}
-use Rattle.delta_kind.specs.declared.flags.TheConstants.{CONTENT, OPEN, TYPE, SYNC, MARKERS, REPLACED, DESCRIPTION, DERIVED_CHANGED}
+use Rattle.delta_kind.specs.Rows.{lost}
+use Rattle.delta_kind.proofs.Turns.{place_of, moved_is}
 use Rattle.delta_kind.specs.declared.row.Turn.TheVariants.{Lost, Gained}
-use Rattle.delta_kind.specs.Deltas.{node_at, changed, with_above, delta, paths_of, InPathOrder}
+use Rattle.delta_kind.specs.Deltas.{node_of, node_at, changed, with_above, delta, paths_of, InPathOrder}
 use Rattle.delta_kind.specs.Rows.{Rows, Sides, row_paths, place_in, node_by, delta_of_rows}
 use Rattle.delta_kind.proofs.Merged.{RowsOf}
 use Rattle.delta_kind.proofs.Told.{above_set, get-above_set, node_found, node_in}
-use Rattle.delta_kind.proofs.Moved.{no_flags, same_markers, idle_syncs, idle_marks, nothing_flagged, nothing_marked, none_lost, none_gained, losers_are, gainers_are}
+use Rattle.delta_kind.proofs.Moved.{no_flags, same_markers, idle_syncs, idle_marks, nothing_flagged, no_marker_deltas, none_lost, none_gained, losers_are, gainers_are}
 use Rattle.delta_kind.proofs.Rising.{Rises, sorted_rises}
 
 -- ---- tests of all paths of a list
@@ -104,16 +104,19 @@ idle_node f g p (Some a) None h = cc
 idle_node f g p (Some a) (Some b) h =
     let from : option_and_then f (lost (Some b) (Some a)) ≡ None = ap (option_and_then f) (none_gained (Some a) (Some b) h) in
     let to : option_and_then g (lost (Some a) (Some b)) ≡ None = ap (option_and_then g) (none_lost (Some a) (Some b) h) in
-    let still : marker_deltas empty empty ≡ marker_deltas a.attached.marks b.attached.marks = nothing_marked empty ∙ sym (nothing_marked b.attached.marks) ∙ ap (λ m. marker_deltas m b.attached.marks) (sym (same_markers a b h)) in
+    let still : marker_deltas empty empty ≡ marker_deltas a.attached.marks b.attached.marks = no_marker_deltas empty ∙ sym (no_marker_deltas b.attached.marks) ∙ ap (λ m. marker_deltas m b.attached.marks) (sym (same_markers a b h)) in
     λ i. record { path = p; kind = 4; flags = (nothing_flagged ∙ sym (no_flags a b h)) i + moved_flags (sym from i) (sym to i); moved_from = sym from i; moved_to = sym to i; markers = still i }
 
 node_there : (a b : Tree) (rows : Rows) → RowsOf a b rows → Rises None (row_paths rows) → (p : Names) → node_in (place_in Lost rows) (place_in Gained rows) rows p ≡ node_at a b p
 node_there a b rows h up p =
     (λ i. node_found (λ n. losers_are a b rows h up n i) (λ n. gainers_are a b rows h up n i) p (h p i)) ∙ by (differs (get a p) (get b p)) refl
   where
+    by_turns : node_by (place_of a b) (place_of b a) p (get a p, get b p) ≡ node_at a b p
+    by_turns = λ i. node_of p (get a p) (get b p) (sym (moved_is a b p) i) (sym (moved_is b a p) i)
+
     by : (c : Bool) → differs (get a p) (get b p) ≡ c → node_found (place_of a b) (place_of b a) p (cond c (Some (get a p, get b p)) None) ≡ node_at a b p
-    by true e = refl
-    by false e = idle_node (place_of a b) (place_of b a) p (get a p) (get b p) e
+    by true e = by_turns
+    by false e = idle_node (place_of a b) (place_of b a) p (get a p) (get b p) e ∙ by_turns
 
 map_same : (f g : Names → DeltaNode) → ((p : Names) → f p ≡ g p) → (ps : List Names) → map f ps ≡ map g ps
 map_same f g h [] = refl
@@ -148,31 +151,24 @@ delta_has a b p =
     by u true = refl
     by u false = refl
 
--- ---- when a delta tells nothing
-
-no_paths : (f : Names → DeltaNode) (ps : List Names) → map f ps ≡ [] → ps ≡ []
-no_paths f [] h = refl
-no_paths f (p ∷ ps) h = cc
-
-no_entries : (es : List (Names × (Unit {0}))) → map (λ e. e.0) es ≡ [] → es ≡ []
-no_entries [] h = refl
-no_entries (e ∷ es) h = cc
-
 prefix_itself : (p : Names) → is_prefix p p ≡ true
 prefix_itself [] = refl
 prefix_itself (n ∷ p) = ap (λ b. b && is_prefix p p) ((bytes_decides n n).1 refl) ∙ prefix_itself p
 
-nothing_found : (a b : Tree) → delta a b ≡ [] → (p : Names) → differs (get a p) (get b p) ≡ false
-nothing_found a b h p = by (differs (get a p) (get b p)) refl
+-- a path that it doesn't tell doesn't differ
+pub untold_same : (a b : Tree) (p : Names) → list_any (path_eq p) (paths_of (delta a b)) ≡ false → differs (get a p) (get b p) ≡ false
+untold_same a b p h = by (differs (get a p) (get b p)) refl
   where
-    none : get (above_set (changed a b)) p ≡ None
-    none = get-entries (above_set (changed a b)) p ∙ ap (find path_cmp p) (no_entries (entries (above_set (changed a b))) (no_paths (node_at a b) (with_above (changed a b)) h))
-
     by : (c : Bool) → differs (get a p) (get b p) ≡ c → c ≡ false
     by false e = refl
     by true e =
         let told : list_any (is_prefix p) (changed a b) ≡ true = there (is_prefix p) p (changed a b) (prefix_itself p) (changed_has a b p ∙ e) in
-        let found : Some tt ≡ None = sym (get-above_set (changed a b) p ∙ ap (λ c. cond c (Some tt) None) told) ∙ none in cc
+        sym told ∙ sym (delta_has a b p) ∙ h
+
+-- ---- when a delta tells nothing
+
+nothing_found : (a b : Tree) → delta a b ≡ [] → (p : Names) → differs (get a p) (get b p) ≡ false
+nothing_found a b h p = untold_same a b p (ap (λ nodes. list_any (path_eq p) (paths_of nodes)) h)
 
 nothing_told : (a b : Tree) → ((p : Names) → differs (get a p) (get b p) ≡ false) → delta a b ≡ []
 nothing_told a b h =
@@ -201,14 +197,14 @@ idle false n h = refl
 
 pub differs_same : (x : Option Element) → differs x x ≡ false
 differs_same None = refl
-differs_same (Some e) = λ i. not (flag_if CONTENT (idle (is_file e.kind) (e.stamp == e.stamp) (equal_numbers e.stamp) i)
-    + flag_if OPEN (idle (is_project e.kind) (beq e.opened e.opened) (equal_bools e.opened) i)
-    + flag_if TYPE (ap not (equal_numbers (kind_number e.kind)) i)
-    + flag_if SYNC (ap not (idle_syncs e.attached.syncs) i)
-    + flag_if MARKERS (ap not (idle_marks e.attached.marks) i)
-    + flag_if REPLACED (ap not (equal_numbers e.node) i)
-    + flag_if DESCRIPTION (idle (is_project e.kind) (e.attached.desc_stamp == e.attached.desc_stamp) (equal_numbers e.attached.desc_stamp) i)
-    + flag_if DERIVED_CHANGED (ap not (equal_bools e.derived) i) == 0)
+differs_same (Some e) = λ i. not (flag_if 0x100 (idle (is_file e.kind) (e.stamp == e.stamp) (equal_numbers e.stamp) i)
+    + flag_if 0x4000 (idle (is_project e.kind) (beq e.opened e.opened) (equal_bools e.opened) i)
+    + flag_if 0x8000 (ap not (equal_numbers (kind_number e.kind)) i)
+    + flag_if 0x10000 (ap not (idle_syncs e.attached.syncs) i)
+    + flag_if 0x20000 (ap not (idle_marks e.attached.marks) i)
+    + flag_if 0x40000 (ap not (equal_numbers e.node) i)
+    + flag_if 0x80000 (idle (is_project e.kind) (e.attached.desc_stamp == e.attached.desc_stamp) (equal_numbers e.attached.desc_stamp) i)
+    + flag_if 0x400000 (ap not (equal_bools e.derived) i) == 0)
 
 pub tells_no_change : (a b : Tree) → a ≡ b → delta a b ≡ []
 tells_no_change a b h = nothing_told a b (λ p. ap (λ t. differs (get a p) (get t p)) (sym h) ∙ differs_same (get a p))

@@ -11,12 +11,13 @@ use Rattle.std.specs.Map.{lookup}
 use Rattle.res_path.specs.Paths.{Names}
 use Rattle.delta_kind.specs.declared.row.Row.{Row}
 use Rattle.delta_kind.specs.declared.row.Turn.{Turn}
-use Rattle.delta_kind.specs.Moves.{is_number}
-use Rattle.delta_kind.specs.Rows.{Rows, Sides, shown, turned, place_in, has_turn, node_by, new_above, untouched, nodes_from}
+use Rattle.delta_kind.specs.Rows.{is_number}
+use Rattle.delta_kind.specs.Rows.{Rows, Sides, shown, turned, place_in, node_by}
+use Rattle.delta_kind.specs.Inside.Passes.{has_turn, new_above, untouched, nodes_from}
 use Rattle.delta_kind.specs.Deltas.{node_of}
 use Rattle.delta_kind.specs.declared.node.DeltaNode.{DeltaNode}
 use Rattle.delta_kind.specs.declared.row.Turn.TheVariants.{Lost, Gained}
-use Rattle.delta_kind.specs.Tables.{kept_node, kept_place, known, Serves}
+use Rattle.delta_kind.specs.Inside.Tables.{kept_node, kept_place, known, Serves}
 
 find_is : (es : List (ℕ × Names)) (q : ℕ) → find nat_cmp q es ≡ lookup (is_at (nat_cmp q)) es
 find_is [] q = refl

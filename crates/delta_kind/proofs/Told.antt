@@ -14,7 +14,8 @@ use Rattle.ws_elem.proofs.Cuts.{any_filter}
 use Rattle.ws_elem.proofs.Ordered.{keys_is}
 use Rattle.delta_kind.specs.declared.node.DeltaNode.{DeltaNode}
 use Rattle.delta_kind.specs.Deltas.{above, put_paths, with_above, paths_of, InPathOrder}
-use Rattle.delta_kind.specs.Rows.{Rows, Sides, row_paths, place_in, node_by, delta_of_rows, is_above, new_above, untouched, nodes_from}
+use Rattle.delta_kind.specs.Rows.{Rows, Sides, row_paths, place_in, node_by, delta_of_rows}
+use Rattle.delta_kind.specs.Inside.Passes.{is_above, new_above, untouched, nodes_from}
 use Rattle.delta_kind.specs.declared.row.Turn.TheVariants.{Lost, Gained}
 use Rattle.delta_kind.proofs.Above.{above_rises, above_less, above_prefix, prefix_is}
 use Rattle.delta_kind.proofs.Rising.{Over, Rises, all_over, rises_sorted, sorted_rises, find_missing}
@@ -125,28 +126,28 @@ get-above_set ps q =
     get-put_paths empty (flat_map (λ p. above p ++ p ∷ []) ps) q
     ∙ (λ i. cond (any_prefixes q ps i) (Some tt) (get-empty path_cmp q i))
 
-abbrev pub marked : List Names → List (Names × (Unit {0}))
-marked ps = map {B = Names × (Unit {0})} (λ p. (p, tt)) ps
+abbrev pub listed : List Names → List (Names × (Unit {0}))
+listed ps = map {B = Names × (Unit {0})} (λ p. (p, tt)) ps
 
-keys_marked : (ps : List Names) → map (λ e. e.0) (marked ps) ≡ ps
-keys_marked [] = refl
-keys_marked (p ∷ ps) = ap (λ qs. p ∷ qs) (keys_marked ps)
+keys_listed : (ps : List Names) → map (λ e. e.0) (listed ps) ≡ ps
+keys_listed [] = refl
+keys_listed (p ∷ ps) = ap (λ qs. p ∷ qs) (keys_listed ps)
 
-find_marked : (q : Names) (ps : List Names) → find path_cmp q (marked ps) ≡ cond (list_any (eq_by_cmp path_cmp q) ps) (Some tt) None
-find_marked q [] = refl
-find_marked q (p ∷ ps) = by (eq_by_cmp path_cmp q p) (find_marked q ps)
+find_listed : (q : Names) (ps : List Names) → find path_cmp q (listed ps) ≡ cond (list_any (eq_by_cmp path_cmp q) ps) (Some tt) None
+find_listed q [] = refl
+find_listed q (p ∷ ps) = by (eq_by_cmp path_cmp q p) (find_listed q ps)
   where
-    by : (b : Bool) → find path_cmp q (marked ps) ≡ cond (list_any (eq_by_cmp path_cmp q) ps) (Some tt) None
-        → cond b (Some tt) (find path_cmp q (marked ps)) ≡ cond (b || list_any (eq_by_cmp path_cmp q) ps) (Some tt) None
+    by : (b : Bool) → find path_cmp q (listed ps) ≡ cond (list_any (eq_by_cmp path_cmp q) ps) (Some tt) None
+        → cond b (Some tt) (find path_cmp q (listed ps)) ≡ cond (b || list_any (eq_by_cmp path_cmp q) ps) (Some tt) None
     by true h = refl
     by false h = h
 
 pub told_is : (ps : List Names) → Rises None ps → with_above ps ≡ told_from None ps
 told_is ps h =
-    ap keys (same_map path_cmp_total path_cmp_exact (above_set ps) (from_entries {R = path_cmp} (marked (told_from None ps))) (λ q.
-    get-above_set ps q ∙ ap (λ b. cond b (Some tt) None) (sym (told_any q ps None)) ∙ sym (find_marked q (told_from None ps)) ∙ sym (get-from_entries path_cmp_total (marked (told_from None ps)) q)))
-    ∙ keys_is (marked (told_from None ps)) (subst (λ qs. InPathOrder qs) (sym (keys_marked (told_from None ps))) (rises_sorted None (told_from None ps) (told_rises ps None h)))
-    ∙ keys_marked (told_from None ps)
+    ap keys (same_map path_cmp_total path_cmp_exact (above_set ps) (from_entries {R = path_cmp} (listed (told_from None ps))) (λ q.
+    get-above_set ps q ∙ ap (λ b. cond b (Some tt) None) (sym (told_any q ps None)) ∙ sym (find_listed q (told_from None ps)) ∙ sym (get-from_entries path_cmp_total (listed (told_from None ps)) q)))
+    ∙ keys_is (listed (told_from None ps)) (subst (λ qs. InPathOrder qs) (sym (keys_listed (told_from None ps))) (rises_sorted None (told_from None ps) (told_rises ps None h)))
+    ∙ keys_listed (told_from None ps)
 
 -- ---- and their nodes
 

@@ -10,7 +10,8 @@ use Rattle.ws_elem.specs.Trees.{Tree}
 use Rattle.delta_kind.specs.declared.node.DeltaNode.{DeltaNode}
 use Rattle.delta_kind.specs.declared.row.Turn.TheVariants.{Lost, Gained}
 use Rattle.delta_kind.specs.Deltas.{node_of, delta, InPathOrder, paths_of}
-use Rattle.delta_kind.specs.Rows.{Rows, Sides, row_paths, turned, has_turn, place_in, node_by, new_above, untouched, unmoved, nodes_from}
+use Rattle.delta_kind.specs.Rows.{Rows, Sides, row_paths, turned, place_in, node_by}
+use Rattle.delta_kind.specs.Inside.Passes.{has_turn, new_above, untouched, unmoved, nodes_from}
 use Rattle.delta_kind.proofs.Merged.{row_differs, rows_between, between_rises, between_found}
 use Rattle.delta_kind.proofs.Rising.{rises_sorted}
 use Rattle.delta_kind.proofs.Same.{rows_delta}

@@ -1,5 +1,5 @@
 -- What became of one path, by its entries before and after.
-use Rattle.std.specs.Prelude.{ℕ, ◌+◌, Bool, true, false, not, ◌&&◌, ◌==◌, if◌then◌else◌, Option, Some, None, is_some}
+use Rattle.std.specs.Prelude.{ℕ, ◌+◌, Bool, true, false, not, ◌&&◌, ◌==◌, if◌then◌else◌, Option, Some, None, is_some, bit_and}
 use Rattle.std.specs.Bool.{beq}
 use Rattle.std.specs.FinMap.{empty}
 use Rattle.res_path.specs.Paths.{Names}
@@ -7,7 +7,6 @@ use Rattle.mark_set.specs.Markers.{Marks, same_marks}
 use Rattle.sync_set.specs.Syncs.{Syncs, same_syncs}
 use Rattle.ws_elem.specs.declared.element.Element.{Element}
 use Rattle.ws_elem.specs.Kinds.{kind_number, is_file, is_project}
-use Rattle.delta_kind.specs.declared.flags.TheConstants.{ADDED, REMOVED, CHANGED, CONTENT, MOVED_FROM, MOVED_TO, OPEN, TYPE, SYNC, MARKERS, REPLACED, DESCRIPTION, DERIVED_CHANGED}
 
 -- both are files, and their stamps differ
 abbrev pub has_content : Option Element → Option Element → Bool
@@ -63,32 +62,37 @@ has_derived_changed (Some a) (Some b) = not (beq a.derived b.derived)
 has_derived_changed (Some a) None = false
 has_derived_changed None after = false
 
+-- the flag is among these
+abbrev pub is_set : ℕ → ℕ → Bool
+is_set flag flags = not (bit_and flags flag == 0)
+
 -- the flag, where it holds
 abbrev pub flag_if : ℕ → Bool → ℕ
 flag_if flag holds = if holds then flag else 0
 
--- the flags that a path's own entries tell
+-- the flags that a path's own entries tell: the contents, open or closed, another kind, synchronisation bytes, markers, another
+-- node, the description, derived or not
 abbrev pub flags_of : Option Element → Option Element → ℕ
 flags_of a b =
-    flag_if CONTENT (has_content a b)
-    + flag_if OPEN (has_open a b)
-    + flag_if TYPE (has_type a b)
-    + flag_if SYNC (has_sync a b)
-    + flag_if MARKERS (has_markers a b)
-    + flag_if REPLACED (has_replaced a b)
-    + flag_if DESCRIPTION (has_description a b)
-    + flag_if DERIVED_CHANGED (has_derived_changed a b)
+    flag_if 0x100 (has_content a b)
+    + flag_if 0x4000 (has_open a b)
+    + flag_if 0x8000 (has_type a b)
+    + flag_if 0x10000 (has_sync a b)
+    + flag_if 0x20000 (has_markers a b)
+    + flag_if 0x40000 (has_replaced a b)
+    + flag_if 0x80000 (has_description a b)
+    + flag_if 0x400000 (has_derived_changed a b)
 
--- the flags that tell where what is at a path was, and where what was there is
+-- the flags that tell that what is at a path was elsewhere, and that what was there is elsewhere
 abbrev pub moved_flags : Option Names → Option Names → ℕ
-moved_flags from to = flag_if MOVED_FROM (is_some from) + flag_if MOVED_TO (is_some to)
+moved_flags from to = flag_if 0x1000 (is_some from) + flag_if 0x2000 (is_some to)
 
--- only after: ADDED; only before: REMOVED; else CHANGED
+-- only after: added, 1; only before: removed, 2; else changed, 4
 abbrev pub kind_of : Option Element → Option Element → ℕ
-kind_of None (Some b) = ADDED
-kind_of (Some a) None = REMOVED
-kind_of (Some a) (Some b) = CHANGED
-kind_of None None = CHANGED
+kind_of None (Some b) = 1
+kind_of (Some a) None = 2
+kind_of (Some a) (Some b) = 4
+kind_of None None = 4
 
 -- the path came, went, or has a flag
 abbrev pub differs : Option Element → Option Element → Bool

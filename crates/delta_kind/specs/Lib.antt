@@ -1,6 +1,5 @@
-pub mod Flags
-pub mod Moves
 pub mod Deltas
+pub mod Flags
+pub mod Inside
+pub mod Moves
 pub mod Rows
-pub mod Walks
-pub mod Tables

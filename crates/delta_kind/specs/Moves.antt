@@ -1,39 +1,33 @@
--- Which nodes a path loses and gains, and where they were and went.
-use Rattle.std.specs.Prelude.{◌≡◌, ◌≢◌, ◌↔◌, ℕ, Bool, false, ◌==◌, if◌then◌else◌, List, [], ◌∷◌, Option, Some, None, IsSomeAnd}
-use Rattle.std.specs.Option.{option_and_then}
-use Rattle.std.specs.FinMap.{get, entries}
-use Rattle.res_path.specs.Paths.{Names}
+-- Where nodes were, and where they went.
+use Rattle.std.specs.Prelude.{◌≡◌, ◌≢◌, ◌↔◌, Bool, false, not, ◌&&◌, ◌||◌, ◌==◌, find, Option, Some, None, IsSomeAnd}
+use Rattle.std.specs.FinMap.{get, keys}
+use Rattle.res_path.specs.Paths.{Names, path_eq}
 use Rattle.ws_elem.specs.declared.element.Element.{Element}
 use Rattle.ws_elem.specs.Trees.{Tree}
 
--- the node of the first entry, unless the second has it too
-abbrev pub lost : Option Element → Option Element → Option ℕ
-lost (Some a) (Some b) = if a.node == b.node then None else Some a.node
-lost (Some a) None = Some a.node
-lost None b = None
+-- whether both entries are there, with one node
+abbrev pub has_same_node : Option Element → Option Element → Bool
+has_same_node None y = false
+has_same_node (Some e) None = false
+has_same_node (Some e) (Some f) = e.node == f.node
 
--- the number is there, and is n
-abbrev pub is_number : ℕ → Option ℕ → Bool
-is_number n None = false
-is_number n (Some m) = m == n
+-- whether the path has one node in both trees
+abbrev pub keeps_node : Tree → Tree → Names → Bool
+keeps_node t u p = has_same_node (get t p) (get u p)
 
--- the path of the first entry that passes the test
-abbrev pub first_path : {X : Type 0} → (Names × X → Bool) → List (Names × X) → Option Names
-first_path test [] = None
-first_path test (e ∷ es) = if test e then Some e.0 else first_path test es
+-- whether t has at q, another path than p, the node that u has at p. In a whole tree each node stands at one path; where
+-- one stands at several, a path that keeps its node neither gave nor got it
+abbrev pub stands_at : Tree → Tree → Names → Names → Bool
+stands_at t u p q = not (path_eq q p) && has_same_node (get t q) (get u p) && not (keeps_node t u p || keeps_node t u q)
 
--- the first path that has the node in t, and hasn't it in u
-abbrev pub place_of : Tree → Tree → ℕ → Option Names
-place_of t u n = first_path (λ e. is_number n (lost (Some e.1) (get u e.0))) (entries t)
-
--- where t has the node that p has in u, unless t has it at p
+-- where t has the node that u has at p, if elsewhere: the path, or the first of several
 abbrev pub moved : Tree → Tree → Names → Option Names
-moved t u p = option_and_then (place_of t u) (lost (get u p) (get t p))
+moved t u p = find (stands_at t u p) (keys t)
 
 -- both entries are there, with one node
 abbrev pub SameNode : Option Element → Option Element → Type 0
 SameNode x y = IsSomeAnd x (λ e. IsSomeAnd y (λ f. e.node ≡ f.node))
 
--- the place tells, of each path but p, whether t has there the node that p has in u
+-- the place tells, of each path but p, whether t has there the node that u has at p
 abbrev pub TellsPlace : Tree → Tree → Names → Option Names → Type 0
 TellsPlace t u p place = (q : Names) → (place ≡ Some q) ↔ ((q ≢ p) × SameNode (get t q) (get u p))

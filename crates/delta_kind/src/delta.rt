@@ -4,9 +4,9 @@ ghost use Rattle.std.specs.List.{list_any};
 ghost use Rattle.std.specs.Option.{option_copied};
 ghost use Rattle.res_path.specs.Paths.{path_eq};
 ghost use Rattle.std.specs.Slice.Iter.{iter_rest};
-ghost use Rattle.delta_kind.specs.Deltas.{InPathOrder, paths_of, node_with, cut};
+ghost use Rattle.delta_kind.specs.Deltas.{InPathOrder, paths_of, node_with, cut, whole_kind};
 
-use crate::{DeltaNode, parts};
+use crate::{CHANGED, DeltaNode, NO_CHANGE, parts};
 use res_path::Path;
 use std::alloc::Global;
 use std::marker::Model;
@@ -101,6 +101,17 @@ impl Delta {
         ensures { result ≡ length self.now }
     {
         self.nodes.len()
+    }
+
+    /// What became of the whole: `NO_CHANGE` where no path has a node, and else `CHANGED`.
+    pub fn kind(&self) -> u8
+        ensures { result ≡ whole_kind self.now }
+    {
+        if self.nodes.is_empty() {
+            NO_CHANGE
+        } else {
+            CHANGED
+        }
     }
 
     /// Whether nothing changed.

@@ -15,16 +15,12 @@
 mod delta;
 mod flags;
 mod making;
-#[cfg(test)]
-mod marker_tests;
 mod node;
 mod parts;
 mod place;
 mod places;
 mod plain;
 mod row;
-#[cfg(test)]
-mod tests;
 mod walk;
 
 pub use delta::Delta;

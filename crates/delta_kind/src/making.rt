@@ -4,10 +4,12 @@ ghost use Rattle.std.specs.FinMap.{get, find};
 ghost use Rattle.std.specs.Option.{option_copied};
 ghost use Rattle.res_path.specs.Paths.{Names, path_cmp, path_eq, is_prefix, parent};
 ghost use Rattle.std.specs.List.{list_any};
+ghost use Rattle.ws_elem.specs.Stamps.{SameContents};
 ghost use Rattle.ws_elem.specs.Trees.{Whole};
 ghost use Rattle.delta_kind.specs.Flags.{differs};
-ghost use Rattle.delta_kind.specs.Deltas.{delta, changed, InPathOrder, paths_of, TellsMoves};
-ghost use Rattle.delta_kind.specs.Rows.{shown, row_paths, node_by, delta_of_rows, nodes_from, is_above, new_above, untouched};
+ghost use Rattle.delta_kind.specs.Deltas.{delta, changed, InPathOrder, paths_of, TellsMoves, TellsPaths, TellsContents};
+ghost use Rattle.delta_kind.specs.Rows.{shown, row_paths, node_by, delta_of_rows};
+ghost use Rattle.delta_kind.specs.Inside.Passes.{nodes_from, is_above, new_above, untouched};
 
 use crate::places::Moves;
 use crate::plain::unmoved_nodes;
@@ -28,6 +30,10 @@ pub fn compare(alloc: Global, before: &ElemMap, after: &ElemMap) -> Result<Delta
         ≡ list_any (is_prefix p) (changed before.now.map after.now.map)) }
     ensures none { IfOk result (λ d. (d ≡ []) ↔ ((p : Names) → differs (get before.now.map p) (get after.now.map p) ≡ false)) }
     ensures same { IfOk result (λ d. before.now.map ≡ after.now.map → d ≡ []) }
+    // A node has each flag exactly where what the flag stands for holds.
+    ensures tells { IfOk result (λ d. TellsPaths before.now.map after.now.map d) }
+    // Where equal stamps mean equal contents, a path without a node holds the same file bytes, or no file, in both.
+    ensures contents { IfOk result (λ d. SameContents before.now.map after.now.map → TellsContents before.now.map after.now.map d) }
     // In whole trees a node tells just where what is at its path was, and where what was there is.
     ensures moves { IfOk result (λ d. Whole before.now.map → Whole after.now.map → TellsMoves before.now.map after.now.map d) }
 {

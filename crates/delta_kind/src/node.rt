@@ -1,7 +1,10 @@
 //! What became of one path.
+ghost use Rattle.std.specs.Prelude.{◌≡◌, IfOk};
+
 use crate::Place;
 use mark_set::MarkerDeltas;
 use res_path::Path;
+use ws_elem::NoMemory;
 
 /// What became of one path.
 #[derive(Clone, Debug, Drop)]
@@ -17,4 +20,13 @@ pub struct DeltaNode {
     pub moved_to: Place,
     /// What became of each of its markers, by id; with `MARKERS`.
     pub markers: MarkerDeltas,
+}
+
+impl DeltaNode {
+    /// An equal node, whose paths share their texts.
+    pub fn copy(&self) -> Result<DeltaNode, NoMemory>
+        ensures { IfOk result (λ copy. copy ≡ self.now) }
+    {
+        self.clone()
+    }
 }

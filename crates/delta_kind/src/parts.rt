@@ -47,7 +47,7 @@ fn keep(kept: &mut Vec<DeltaNode>, node: &DeltaNode, prefixes: &[Path]) -> Resul
     ensures { OnOk result (kept.new.items ≡ kept.old.items ++ cut prefixes.now (node.now ∷ [])) }
 {
     if is_under(prefixes, &node.path) {
-        kept.push(node.clone()?)?;
+        kept.push(node.copy()?)?;
     }
     Ok(())
 }

@@ -3,8 +3,9 @@ ghost use Rattle.std.specs.Prelude.{◌≡◌, ℕ, Some, IfOk, OnOk, map, is_so
 ghost use Rattle.std.specs.Option.{option_copied, option_and_then};
 ghost use Rattle.std.specs.FinMap as map;
 ghost use Rattle.res_path.specs.Paths.{Names};
-ghost use Rattle.delta_kind.specs.Rows.{shown, place_in, turned, has_turn};
-ghost use Rattle.delta_kind.specs.Tables.{kept_place, kept_node, known, Serves};
+ghost use Rattle.delta_kind.specs.Rows.{shown, place_in, turned};
+ghost use Rattle.delta_kind.specs.Inside.Passes.{has_turn};
+ghost use Rattle.delta_kind.specs.Inside.Tables.{kept_place, kept_node, known, Serves};
 ghost use Rattle.delta_kind.specs.declared.row.Turn.TheVariants.{Lost, Gained};
 
 use crate::{Place, Row, Turn};

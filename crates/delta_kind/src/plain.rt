@@ -2,8 +2,9 @@
 ghost use Rattle.std.specs.Prelude.{◌≡◌, ◌&&◌, ◌||◌, [], ◌∷◌, ◌++◌, map, is_some, true, Some, IfOk, IfSome, IfNone, OnOk};
 ghost use Rattle.std.specs.Option.{option_copied};
 ghost use Rattle.delta_kind.specs.Deltas.{delta, InPathOrder, paths_of};
-ghost use Rattle.delta_kind.specs.Rows.{shown, turned, has_turn, unmoved, new_above, untouched};
-ghost use Rattle.delta_kind.specs.Walks.{differing};
+ghost use Rattle.delta_kind.specs.Rows.{shown, turned};
+ghost use Rattle.delta_kind.specs.Inside.Passes.{has_turn, unmoved, new_above, untouched};
+ghost use Rattle.delta_kind.specs.Inside.Walks.{differing};
 ghost use Rattle.delta_kind.specs.declared.row.Turn.TheVariants.{Lost, Gained};
 
 use crate::making::tell_above;

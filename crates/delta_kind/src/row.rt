@@ -1,7 +1,7 @@
 //! A path with its entries before and after.
 ghost use Rattle.std.specs.Prelude.{◌≡◌, ◌==◌, if◌then◌else◌, Some, None};
 ghost use Rattle.std.specs.Option.{option_copied};
-ghost use Rattle.delta_kind.specs.Moves.{lost};
+ghost use Rattle.delta_kind.specs.Rows.{lost};
 
 use crate::flags;
 use res_path::Path;

@@ -2,7 +2,7 @@
 ghost use Rattle.std.specs.Prelude.{◌≡◌, [], None};
 ghost use Rattle.std.specs.Option.{option_copied};
 ghost use Rattle.delta_kind.specs.Rows.{shown};
-ghost use Rattle.delta_kind.specs.Walks.{pending};
+ghost use Rattle.delta_kind.specs.Inside.Walks.{pending};
 
 use crate::Row;
 use res_path::Path;
@@ -23,7 +23,7 @@ pub struct Walk<'a> {
 impl<'a> Walk<'a> {
     ghost use Rattle.std.specs.Prelude.{◌≡◌};
     ghost use Rattle.std.specs.FinMap as map;
-    ghost use Rattle.delta_kind.specs.Walks.{rows_left, merged};
+    ghost use Rattle.delta_kind.specs.Inside.Walks.{rows_left, merged};
 
     /// The walk of two trees from their first entries on.
     pub fn of(before: &'a ElemMap, after: &'a ElemMap) -> Walk<'a>
@@ -43,7 +43,7 @@ impl<'a> Iterator for Walk<'a> {
 
     ghost use Rattle.std.specs.Iterator.{YieldsFirstBy, item_count};
     ghost use Rattle.delta_kind.specs.Rows.{shown};
-    ghost use Rattle.delta_kind.specs.Walks.{rows_left};
+    ghost use Rattle.delta_kind.specs.Inside.Walks.{rows_left};
 
     ghost next_gives = { YieldsFirstBy shown rows_left };
 

@@ -10,8 +10,6 @@ mod parse;
 mod pieces;
 mod read;
 mod save;
-#[cfg(test)]
-mod tests;
 mod writes;
 
 pub use damage::{AreaFault, Damage, DamageCause};

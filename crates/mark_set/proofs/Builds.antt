@@ -19,7 +19,7 @@ use Rattle.mark_set.specs.Deltas.{added, came, difference, difference_at, differ
 use Rattle.mark_set.specs.Markers.{Marks}
 use Rattle.mark_set.specs.declared.marker.Marker.{Marker}
 use Rattle.mark_set.specs.declared.delta.MarkerDelta.{MarkerDelta}
-use Rattle.mark_set.specs.Builds.{Covers, with_some}
+use Rattle.mark_set.specs.Inside.Builds.{Covers, with_some}
 use Rattle.mark_set.proofs.Ids.{get_insert, get_is, same_gets, ties}
 
 module _ {Y : Type 0} (pick : ℕ → Option Y) where

@@ -5,3 +5,5 @@ pub mod Formed
 pub mod Ids
 pub mod Lengths
 pub mod Maps
+pub mod Placing
+pub mod Sorted

@@ -1,7 +1,6 @@
 -- The map that a table's entries make.
 use Rattle.std.proofs.Common.{◌≡◌, ◌≢◌, ◌↔◌, Bool, true, false, cond, ◌&&◌, List, [], ◌∷◌, length, refl, sym, ap, ◌∙◌, subst, Ordering}
 use Rattle.std.specs.Prelude.{Option, Some, None, IfSome, T, is_some}
-use Rattle.std.specs.Bool.{Decides}
 use Rattle.std.specs.declared.cmp.Ordering.TheVariants.{Less, Equal, Greater}
 use Rattle.std.specs.Ordering.{eq_by_cmp, is_eq, is_lt}
 use Rattle.std.specs.Cmp.{IsTotalOrder, eq_by_cmp_equiv, tied_itself}
@@ -9,7 +8,7 @@ use Rattle.std.specs.List.{AllByRecursion}
 use Rattle.std.specs.List.Sorted.{IsStrictlySortedBy}
 use Rattle.std.specs.Map.{lookup, keys_of}
 use Rattle.std.specs.BTreeMap.{is_at}
-use Rattle.std.specs.FinMap.{FinMap, IsAntisymmetric, get, insert, remove, empty, entries, len, len-entries, from_entries, from_sorted, entries-from_sorted, get-from_sorted, is_sorted, find, get-from_entries, get-insert, get-remove, get-empty, same_map}
+use Rattle.std.specs.FinMap.{FinMap, IsAntisymmetric, get, insert, remove, empty, entries, from_entries, from_sorted, entries-from_sorted, get-from_sorted, is_sorted, find, get-from_entries, get-insert, get-remove, get-empty, same_map}
 use Rattle.std.specs.FinMap.Entries.{below_all}
 
 both : (a b : Bool) → T a → T b → T (a && b)
@@ -31,11 +30,6 @@ module _ {K X : Type 0} {R : K → K → Ordering} (o : IsTotalOrder R) (same : 
   one_put es fs k x h = same_map o same _ _ (λ q.
       get_is fs q ∙ h q ∙ ap (λ b. cond b (Some x) (lookup (is_at (R q)) es)) ((eq_by_cmp_equiv o).symm k q)
       ∙ sym (get-insert o (from_entries es) k x q ∙ ap (cond (eq_by_cmp R q k) (Some x)) (get_is es q)))
-
-  pub one_taken : (es fs : List (K × X)) (k : K) → ((q : K) → lookup (is_at (R q)) fs ≡ cond (is_at (R k) q) None (lookup (is_at (R q)) es)) → from_entries {R = R} fs ≡ remove (from_entries es) k
-  one_taken es fs k h = same_map o same _ _ (λ q.
-      get_is fs q ∙ h q ∙ ap (λ b. cond b None (lookup (is_at (R q)) es)) ((eq_by_cmp_equiv o).symm k q)
-      ∙ sym (get-remove o (from_entries es) k q ∙ ap (cond (eq_by_cmp R q k) None) (get_is es q)))
 
   -- a map that was put into isn't empty
   pub put_not_empty : (m : FinMap R X) (k : K) (x : X) → insert m k x ≢ empty
@@ -69,13 +63,6 @@ module _ {K X : Type 0} {R : K → K → Ordering} (o : IsTotalOrder R) (same : 
   entries_is es s =
       let sorted = rises es s in
       ap entries (same_map o same _ _ (λ q. get-from_entries o es q ∙ sym (get-from_sorted R es q sorted))) ∙ entries-from_sorted R es sorted
-
-  pub len_is : (es : List (K × X)) → IsStrictlySortedBy R (keys_of es) → len (from_entries {R = R} es) ≡ length es
-  len_is es s = len-entries (from_entries es) ∙ ap length (entries_is es s)
-
-  -- a test that decides the entries decides the maps
-  pub same_is : (es fs : List (K × X)) (b : Bool) → IsStrictlySortedBy R (keys_of es) → IsStrictlySortedBy R (keys_of fs) → Decides b (es ≡ fs) → Decides b (from_entries {R = R} es ≡ from_entries fs)
-  same_is es fs b s t d = (λ h. ap (λ l. from_entries l) (d.0 h), λ e. d.1 (sym (entries_is es s) ∙ ap entries e ∙ entries_is fs t))
 
   -- what holds of every value holds after one is put, and after one is taken
   pub all_put : (P : K → X → Type 0) (m : FinMap R X) (k : K) (x : X) → ((q : K) → IfSome (get m q) (P q)) → P k x → (q : K) → IfSome (get (insert m k x) q) (P q)

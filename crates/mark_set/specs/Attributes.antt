@@ -1,14 +1,15 @@
 -- Attributes: a finite map from names to values, in the order of the names' bytes.
-use Rattle.std.specs.Prelude.{◌≡◌, ℕ, List, [], ◌∷◌, Option, Some, None, Bool as Truth, false, nat_eq, ◌&&◌, refl, IfSome}
+use Rattle.std.specs.Prelude.{◌≡◌, ℕ, List, [], ◌∷◌, Option, Some, None, Bool as Truth, false, nat_eq, ◌&&◌, refl, IfSome, T}
 use Rattle.std.specs.Bool.{Decides, beq}
 use Rattle.std.specs.Ordering.{nat_cmp, int_eq}
 use Rattle.std.specs.declared.cmp.Ordering.{Ordering}
 use Rattle.std.specs.Cmp.{IsEquivalence, signed_Decides, booleans_Decides}
 use Rattle.std.specs.Cmp.Lexicographic.{pointwise, slice_cmp}
-use Rattle.std.specs.FinMap.{FinMap, get, insert, remove, entries, same_entries_map}
-use Rattle.std.proofs.Common.{sym, ap}
-use Rattle.std.proofs.lemmas.Bool.Decides.{Decides-and, same_from_decides}
+use Rattle.std.specs.FinMap.{FinMap, get, insert, remove, entries, is_sorted, same_entries_map}
+use Rattle.std.proofs.Common.{ap}
+use Rattle.std.proofs.lemmas.Bool.Decides.{Decides-and}
 use Rattle.std.proofs.lemmas.Slice.Eq.{slice_eq-Decides, bytes_eq-Decides}
+use Rattle.mark_set.specs.Equivalences.{decided-IsEquivalence}
 use Rattle.mark_set.specs.Forms.{IsName, IsValue}
 use Rattle.mark_set.specs.declared.value.Value.{Value}
 use Rattle.mark_set.specs.declared.value.Value.TheVariants.{Int, Bool, Text}
@@ -22,6 +23,10 @@ text_cmp = slice_cmp nat_cmp
 -- the attributes of one marker, by name
 abbrev pub Attributes : Type 0
 Attributes = FinMap text_cmp Value
+
+-- names with their values, in the order of the names' bytes, none twice
+abbrev pub InNameOrder : List (List ℕ × Value) → Type 0
+InNameOrder attributes = T (is_sorted text_cmp attributes)
 
 -- the value that a raw one stands for
 abbrev pub value_of : RawValue → Value
@@ -76,15 +81,9 @@ same_value-Decides (Text s) (Bool c) = (λ t. cc, λ e. cc)
 same_value-Decides (Text s) (Text t) = let d = bytes_eq-Decides s t in (λ h. ap Text (d.0 h), λ e. d.1 cc)
 
 pub same_value-IsEquivalence : IsEquivalence same_value
-same_value-IsEquivalence =
-    let is = same_value-Decides in
-    record {
-      refl = λ a. (is a a).1 refl;
-      symm = λ a b. same_from_decides _ _ (is a b) (λ t. sym ((is b a).0 t), λ e. (is b a).1 (sym e));
-      congr = λ a b c t. ap (λ (x : Value). same_value x c) ((is a b).0 t);
-    }
+same_value-IsEquivalence = decided-IsEquivalence same_value-Decides
 
-same_attribute-Decides : (a b : List ℕ × Value) → Decides (same_attribute a b) (a ≡ b)
+pub same_attribute-Decides : (a b : List ℕ × Value) → Decides (same_attribute a b) (a ≡ b)
 same_attribute-Decides a b =
     let both = Decides-and _ _ (bytes_eq-Decides a.0 b.0) (same_value-Decides a.1 b.1) in
     (λ t. let parts = both.0 t in λ i. (parts.0 i, parts.1 i), λ e. both.1 (ap (λ (p : List ℕ × Value). p.0) e, ap (λ (p : List ℕ × Value). p.1) e))
@@ -97,10 +96,4 @@ same_attributes-Decides a b =
     (λ t. same_entries_map a b (lists.0 t), λ e. lists.1 (ap entries e))
 
 pub same_attributes-IsEquivalence : IsEquivalence same_attributes
-same_attributes-IsEquivalence =
-    let is = same_attributes-Decides in
-    record {
-      refl = λ a. (is a a).1 refl;
-      symm = λ a b. same_from_decides _ _ (is a b) (λ t. sym ((is b a).0 t), λ e. (is b a).1 (sym e));
-      congr = λ a b c t. ap (λ (x : Attributes). same_attributes x c) ((is a b).0 t);
-    }
+same_attributes-IsEquivalence = decided-IsEquivalence same_attributes-Decides

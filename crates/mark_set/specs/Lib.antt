@@ -1,6 +1,7 @@
 pub mod Attributes
-pub mod Builds
 pub mod Causes
 pub mod Deltas
+pub mod Equivalences
 pub mod Forms
+pub mod Inside
 pub mod Markers

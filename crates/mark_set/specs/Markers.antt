@@ -6,9 +6,10 @@ use Rattle.std.specs.Cmp.{IsEquivalence, unsigned_Decides}
 use Rattle.std.specs.Cmp.Lexicographic.{pointwise}
 use Rattle.std.specs.FinMap.{FinMap, empty, entries, same_entries_map, get, keys, retain_keys, get-retain_keys, nat_cmp-IsAntisymmetric}
 use Rattle.std.proofs.Common.{ap, sym}
-use Rattle.std.proofs.lemmas.Bool.Decides.{Decides-and, same_from_decides}
+use Rattle.std.proofs.lemmas.Bool.Decides.{Decides-and}
 use Rattle.std.proofs.lemmas.Slice.Eq.{bytes_eq-Decides, slice_eq-Decides}
 use Rattle.mark_set.specs.Attributes.{AreAttributes, with_value, with_values, same_attributes, same_attributes-Decides}
+use Rattle.mark_set.specs.Equivalences.{decided-IsEquivalence}
 use Rattle.mark_set.specs.Forms.{IsName}
 use Rattle.mark_set.specs.declared.marker.Marker.{Marker}
 use Rattle.mark_set.specs.declared.value.Value.{Value}
@@ -104,10 +105,4 @@ same_marks-Decides a b =
     (λ t. same_entries_map a b (lists.0 t), λ e. lists.1 (ap entries e))
 
 pub same_marks-IsEquivalence : IsEquivalence same_marks
-same_marks-IsEquivalence =
-    let is = same_marks-Decides in
-    record {
-      refl = λ a. (is a a).1 refl;
-      symm = λ a b. same_from_decides _ _ (is a b) (λ t. sym ((is b a).0 t), λ e. (is b a).1 (sym e));
-      congr = λ a b c t. ap (λ (x : Marks). same_marks x c) ((is a b).0 t);
-    }
+same_marks-IsEquivalence = decided-IsEquivalence same_marks-Decides

@@ -3,34 +3,36 @@
 ghost use Rattle.std.specs.Prelude.{◌≡◌, ◌↔◌, IfOk, IsTrue, OnOk, OnErr, None, option_copied};
 ghost use Rattle.std.specs.Cmp.{partial_equiv_from_equiv};
 ghost use Rattle.std.specs.FinMap as map;
-ghost use Rattle.mark_set.specs.Attributes.{AreAttributes, value_of, with_values, same_attributes, same_attributes-IsEquivalence};
+ghost use Rattle.mark_set.specs.Attributes.{AreAttributes, InNameOrder, value_of, with_values, same_attributes, same_attributes-IsEquivalence};
 ghost use Rattle.mark_set.specs.Causes.{attributes_cause, name_cause, or_else, value_cause};
 
-use crate::NoMemory;
+use crate::attr_iter::AttrIter;
 use crate::text::{MarkText, RawText};
 use crate::value::{RawValue, Value};
+use crate::{NoMemory, places};
 use std::alloc::Global;
-use std::collections::BTreeMap;
-use std::collections::btree_map::Iter;
 use std::marker::Model;
 
-/// Values by name, in the order of the names' bytes.
+/// Values by name, in the order of the names' bytes. A contract sees the finite map. It is made from a vector and gives it
+/// back without taking memory. There are few, so a name is looked for from the first one on.
 #[derive(Debug, Drop)]
 pub struct Attrs {
-    values: BTreeMap<MarkText, Value>,
+    values: Vec<(MarkText, Value)>,
 }
 
 impl Model for Attrs {
     ghost use Rattle.std.specs.FinMap as map;
     ghost use Rattle.std.specs.Coded.{coded_ℕ, coded_list};
-    ghost use Rattle.mark_set.specs.Attributes.{Attributes};
+    ghost use Rattle.mark_set.specs.Attributes.{Attributes, InNameOrder};
     ghost use Rattle.mark_set.specs.contracts.value.Value as value;
 
     ghost Value = { Attributes };
 
     ghost coded = { map.code (coded_list coded_ℕ) value.the_row.coded };
 
-    ghost view = { λ attrs. map.from_entries attrs.values.entries };
+    ghost view = { λ attrs. map.from_sorted attrs.values.items };
+
+    ghost invariant = { λ attrs. InNameOrder attrs.values.items };
 }
 
 impl Attrs {
@@ -39,58 +41,72 @@ impl Attrs {
         ensures { result ≡ map.empty }
     {
         Attrs {
-            values: BTreeMap::new(alloc),
+            values: Vec::new(alloc),
         }
+    }
+
+    /// These values by their names, which are in the order of their bytes, none twice.
+    pub fn of(values: Vec<(MarkText, Value)>) -> Attrs
+        requires { InNameOrder values.items }
+        ensures { map.entries result ≡ values.items }
+    {
+        Attrs { values }
+    }
+
+    /// The names with their values, in the order of the names' bytes.
+    pub fn into_vec(self) -> Vec<(MarkText, Value)>
+        ensures { result.items ≡ map.entries self }
+    {
+        let Attrs { values } = self;
+        values
     }
 
     /// The value of a name.
     pub fn get(&self, name: &MarkText) -> Option<&Value>
         ensures { option_copied result ≡ map.get self.now name.now }
     {
-        self.values.get(name)
+        places::found(self.values.as_slice(), name)
     }
 
     /// How many there are.
     pub fn len(&self) -> usize
         ensures { result ≡ map.len self.now }
     {
-        self.values.len()
+        self.values.as_slice().len()
     }
 
     /// Whether there are none.
     pub fn is_empty(&self) -> bool
         ensures { IsTrue result ↔ (self.now ≡ map.empty) }
     {
-        self.values.is_empty()
+        self.len() == 0
     }
 
     /// The names with their values, in the order of the names' bytes.
-    pub fn iter(&self) -> Iter<'_, MarkText, Value>
+    pub fn iter(&self) -> AttrIter<'_>
         ensures { result ≡ map.entries self.now }
     {
-        self.values.iter()
+        AttrIter {
+            rest: self.values.as_slice(),
+        }
     }
 
     pub(crate) fn put(&mut self, name: MarkText, value: Value) -> Result<(), NoMemory>
         ensures ok { OnOk result (self.new ≡ map.insert self.old name value) }
         ensures err { OnErr result (self.new ≡ self.old) }
     {
-        self.values.insert(name, value)?;
-        Ok(())
+        places::put(&mut self.values, name, value)
     }
 
     pub(crate) fn take(&mut self, name: &MarkText)
         ensures { self.new ≡ map.remove self.old name.now }
     {
-        self.values.remove(name);
+        places::take(&mut self.values, name);
     }
 
     fn is_same(&self, other: &Attrs) -> bool
         ensures { IsTrue result ↔ (self.now ≡ other.now) }
     {
-        if self.values.len() != other.values.len() {
-            return false;
-        }
         self.values == other.values
     }
 

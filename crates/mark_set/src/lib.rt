@@ -6,20 +6,21 @@
 //! texts fewer than 65,536.
 #![tactic(auto)]
 
+mod attr_iter;
 mod attrs;
 mod causes;
 mod delta;
 mod error;
 mod marker;
 mod marks;
+mod places;
 mod raw_attrs;
 mod table;
-#[cfg(test)]
-mod tests;
 mod text;
 mod value;
 mod walks;
 
+pub use attr_iter::AttrIter;
 pub use attrs::Attrs;
 pub use delta::{Change, MarkerDelta, MarkerDeltas};
 pub use error::{MarkError, ValueCause};

@@ -9,7 +9,7 @@ use std::alloc::Global;
 use std::marker::Model;
 
 /// Names with their values, as they came from outside and in that order; of two of one name the last counts. A contract
-/// sees the list.
+/// sees the list. It is made from a vector and gives it back without taking memory.
 #[derive(Debug, Drop)]
 pub struct RawAttrs {
     attrs: Vec<(RawText, RawValue)>,
@@ -36,6 +36,21 @@ impl RawAttrs {
         RawAttrs {
             attrs: Vec::new(alloc),
         }
+    }
+
+    /// These names with their values, in their order.
+    pub fn of(attrs: Vec<(RawText, RawValue)>) -> RawAttrs
+        ensures { result ≡ attrs.items }
+    {
+        RawAttrs { attrs }
+    }
+
+    /// The vector given back.
+    pub fn into_vec(self) -> Vec<(RawText, RawValue)>
+        ensures { result.items ≡ self }
+    {
+        let RawAttrs { attrs } = self;
+        attrs
     }
 
     /// The names with their values, in their order.

@@ -4,7 +4,7 @@ ghost use Rattle.std.specs.Prelude.{◌≡◌, ◌++◌, [], ℕ, IfOk, OnOk, So
 ghost use Rattle.std.specs.Ordering.{nat_cmp};
 ghost use Rattle.std.specs.FinMap as map;
 ghost use Rattle.std.specs.Map.{keys_of};
-ghost use Rattle.mark_set.specs.Builds.{Covers, with_some};
+ghost use Rattle.mark_set.specs.Inside.Builds.{Covers, with_some};
 ghost use Rattle.mark_set.specs.Deltas.{came as came_if, difference, difference_at, marker_deltas};
 ghost use Rattle.mark_set.specs.Markers.{durable_marks, is_durable};
 

@@ -21,8 +21,9 @@ use Rattle.op_kind.specs.declared.op.Op.{Op}
 use Rattle.op_kind.specs.declared.op.Op.TheVariants.{CreateFile, CreateFolder, CreateProject, Delete, Write, Touch, Derived, Move, Copy, Open, Close, Describe, Mark, Attr, Unmark, ClearMarks, Partner, Sync, Flush, Read}
 use Rattle.op_kind.specs.declared.op.Want.{Want}
 use Rattle.op_kind.specs.declared.op.Want.TheVariants.{Show, Cat, Tree as AsTree, Digest}
-use Rattle.op_kind.specs.Marking.{with_marker, with_attribute_of, unmarked, count_marks, unsynced, count_bytes, reached, change_within, count_all}
+use Rattle.op_kind.specs.Marking.{with_marks, with_marker, with_attribute_of, unmarked, count_marks, unsynced, count_bytes, reached, change_within, count_all}
 use Rattle.op_kind.specs.Partners.{is_partner, number_of}
+use Rattle.op_kind.specs.Problems.{command_count, without_problems_from}
 use Rattle.op_kind.specs.Resources.{Resources}
 use Rattle.op_kind.specs.Places.{is_shut}
 use Rattle.op_kind.specs.Entries.{Entries}
@@ -130,16 +131,24 @@ close_project r p = if is_shut r.tree p then r else record r {
   shelf = put_all r.shelf (members r.tree p);
 }
 
--- the text in its canonical form, with a fresh stamp
-abbrev pub describe : Resources → Names → List ℕ → Resources
-describe r p text = record r {
-  tree = change_at r.tree p (λ e. record e { attached = record e.attached { desc = unwrap_or (canonical_of text) []; desc_stamp = r.next_stamp } });
-  next_stamp = r.next_stamp + 1;
+-- a project with the description that the text is, in its canonical form and with this stamp, and without the problems
+-- of commands that it doesn't have
+abbrev pub described : ℕ → List ℕ → Element → Element
+described stamp text e = record e {
+  attached = record e.attached {
+    desc = unwrap_or (canonical_of text) [];
+    desc_stamp = stamp;
+    marks = without_problems_from (command_count text) e.attached.marks;
+  };
 }
+
+-- the project at p is so described, with a fresh stamp
+abbrev pub describe : Resources → Names → List ℕ → Resources
+describe r p text = record r { tree = change_at r.tree p (described r.next_stamp text); next_stamp = r.next_stamp + 1 }
 
 -- the markers of what is at p are changed so
 abbrev pub change_marks : Tree → Names → (Marks → Marks) → Tree
-change_marks t p change = change_at t p (λ e. record e { attached = record e.attached { marks = change e.attached.marks } })
+change_marks t p change = change_at t p (with_marks change)
 
 -- a marker with the next id
 abbrev pub mark : Resources → Names → List ℕ → List (List ℕ × RawValue) → Resources

@@ -5,6 +5,7 @@ pub mod Places
 pub mod Members
 pub mod Numbers
 pub mod Marking
+pub mod Problems
 pub mod Refusals
 pub mod Effects
 pub mod Stamps

@@ -21,6 +21,10 @@ abbrev pub has_marker : ℕ → Option Element → Bool
 has_marker id None = false
 has_marker id (Some e) = is_some (get e.attached.marks id)
 
+-- with its markers changed so
+abbrev pub with_marks : (Marks → Marks) → Element → Element
+with_marks change e = record e { attached = record e.attached { marks = change e.attached.marks } }
+
 -- with one more marker
 abbrev pub with_marker : Marks → ℕ → List ℕ → List (List ℕ × RawValue) → Marks
 with_marker marks id mark_type attributes = insert marks id (new_marker id mark_type attributes)

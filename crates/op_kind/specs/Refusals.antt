@@ -209,6 +209,10 @@ abbrev pub mark_causes : Resources → Names → List ℕ → List (List ℕ × 
 mark_causes r p mark_type attributes =
     marking_causes r.tree p ++ option_map BadValue (marker_cause mark_type attributes) ∷ when (is_spent r.next_marker 1) NumbersUsed ∷ []
 
+-- why the marker can't go
+abbrev pub unmark_causes : Tree → Names → ℕ → List (Option OpRefusal)
+unmark_causes t p id = marking_causes t p ++ marker_missing t p id ∷ []
+
 -- why an attribute of the marker can't get this value, or go
 abbrev pub attr_causes : Tree → Names → ℕ → List ℕ → Option RawValue → List (Option OpRefusal)
 attr_causes t p id name value = marking_causes t p ++ marker_missing t p id ∷ option_map BadValue (change_cause name value) ∷ []
@@ -245,7 +249,7 @@ causes r (Close p) = project_causes r.tree p
 causes r (Describe p text) = describe_causes r p text
 causes r (Mark p mark_type attributes) = mark_causes r p mark_type attributes
 causes r (Attr p id name value) = attr_causes r.tree p id name value
-causes r (Unmark p id) = marking_causes r.tree p ++ marker_missing r.tree p id ∷ []
+causes r (Unmark p id) = unmark_causes r.tree p id
 causes r (ClearMarks p mark_type depth) = marking_causes r.tree p
 causes r (Partner name) = partner_causes r name
 causes r (Sync p name bytes) = sync_causes r p name

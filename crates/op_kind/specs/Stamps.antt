@@ -4,13 +4,8 @@ use Rattle.std.specs.FinMap.{get}
 use Rattle.res_path.specs.Paths.{Names}
 use Rattle.ws_elem.specs.Trees.{Tree}
 use Rattle.ws_elem.specs.declared.element.Element.{Element}
-use Rattle.ws_elem.specs.declared.kind.Kind.TheVariants.{File}
+use Rattle.ws_elem.specs.Stamps.{SameContents}
 use Rattle.op_kind.specs.Resources.{Resources}
-
--- files of a and b with equal stamps have equal contents
-abbrev pub SameContents : Tree → Tree → Type 0
-SameContents a b = (p q : Names)
-    → IfSome (get a p) (λ e. IfSome (get b q) (λ f. e.kind ≡ File → f.kind ≡ File → e.stamp ≡ f.stamp → e.bytes ≡ f.bytes))
 
 -- the element's numbers are below the counters that they were drawn from, and its partners are registered
 pub record IsDrawn (r : Resources) (e : Element) : Type 0 where

@@ -34,6 +34,13 @@ impl Entries {
         }
     }
 
+    /// These elements with their paths. It takes no memory.
+    pub fn of(entries: Vec<(Path, Element)>) -> Entries
+        ensures { result ≡ entries.items }
+    {
+        Entries { entries }
+    }
+
     /// The elements with their paths.
     pub fn as_slice(&self) -> &[(Path, Element)]
         ensures { result.now ≡ self.now }
@@ -48,7 +55,7 @@ impl Entries {
         self.entries.len()
     }
 
-    /// The elements with their paths, of which nothing is copied.
+    /// The elements with their paths, of which nothing is copied. It takes no memory.
     pub fn into_vec(self) -> Vec<(Path, Element)>
         ensures { result.items ≡ self }
     {

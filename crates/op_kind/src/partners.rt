@@ -31,6 +31,21 @@ impl Partners {
         }
     }
 
+    /// Partners of these names. It takes no memory.
+    pub fn of(names: Vec<Name>) -> Partners
+        ensures { result ≡ names.items }
+    {
+        Partners { names }
+    }
+
+    /// The names given back. It takes no memory.
+    pub fn into_vec(self) -> Vec<Name>
+        ensures { result.items ≡ self }
+    {
+        let Partners { names } = self;
+        names
+    }
+
     /// The names, in order.
     pub fn as_slice(&self) -> &[Name]
         ensures { result.now ≡ self.now }

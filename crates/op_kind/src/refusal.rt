@@ -79,6 +79,17 @@ pub enum OpError {
     Memory,
 }
 
+impl From<OpRefusal> for OpError {
+    ghost use Rattle.std.specs.Prelude.{◌≡◌};
+    ghost use Rattle.op_kind.specs.declared.refusal.OpError.TheVariants.{Refused};
+
+    ghost from_gives = { λ refusal e. e ≡ Refused refusal };
+
+    fn from(refusal: OpRefusal) -> OpError {
+        OpError::Refused(refusal)
+    }
+}
+
 impl From<AllocError> for OpError {
     ghost use Rattle.std.specs.Prelude.{◌≡◌};
     ghost use Rattle.op_kind.specs.declared.refusal.OpError.TheVariants.{Memory};

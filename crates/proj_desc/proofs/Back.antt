@@ -21,7 +21,8 @@ use Rattle.proj_desc.specs.declared.member.Level.TheVariants as level
 use Rattle.proj_desc.specs.Values.{value_of, is_text, is_object, is_list_of_texts, list_of, text}
 use Rattle.proj_desc.specs.Described.{names, begins_with_slash, input_of, command_of, desc_of}
 use Rattle.proj_desc.specs.Canonical.{inner_text, input_text, command_data, desc_data, described}
-use Rattle.proj_desc.specs.Causes.{when, others, has, shape_cause, is_path, is_inside, is_placed, has_places, word_cause, link_cause, rule_cause, read_cause, desc_cause}
+use Rattle.proj_desc.specs.Causes.{others, has, shape_cause, is_path, is_inside, is_placed, has_places, word_cause, link_cause, rule_cause, read_cause, desc_cause}
+use Rattle.proj_desc.specs.FirstCause.{when}
 use Rattle.proj_desc.proofs.Values.{value_read}
 use Rattle.proj_desc.proofs.Paths.{within}
 

@@ -1,4 +1,5 @@
 pub mod Lists
+pub mod Least
 pub mod Values
 pub mod Paths
 pub mod Order

@@ -1,7 +1,7 @@
 -- The first cause that applies, cause by cause.
 use Rattle.std.proofs.Common.{◌≡◌, Bool, true, false, Option, Some, None, sym, ap, ◌∙◌}
 use Rattle.std.specs.Option.{option_or}
-use Rattle.proj_desc.specs.Causes.{when}
+use Rattle.proj_desc.specs.FirstCause.{when}
 
 pub passed : {C : Type 0} (o p q : Option C) → o ≡ None → q ≡ p → q ≡ option_or o p
 passed o p q e f = f ∙ sym (ap (λ r. option_or r p) e)

@@ -5,7 +5,8 @@ use Rattle.std.specs.Option.{option_or}
 use Rattle.std.specs.List.{list_any}
 use Rattle.proj_desc.specs.declared.command.Command.{Command}
 use Rattle.proj_desc.specs.declared.cause.DescCause.TheVariants.{Outputs, Inputs}
-use Rattle.proj_desc.specs.Causes.{overlap, meets, outputs_from, inputs_from}
+use Rattle.proj_desc.specs.Causes.{meets, outputs_from, inputs_from}
+use Rattle.res_path.specs.Paths.{overlap}
 use Rattle.proj_desc.proofs.Order.{reached}
 
 -- the commands that are left, from the place i

@@ -16,7 +16,9 @@ use Rattle.res_path.specs.declared.error.PathError.TheVariants.{BadSegment, TooD
 use Rattle.res_path.proofs.Spelled.{both, parts_of-slashed, slashed-slice_split}
 use Rattle.proj_desc.specs.Described.{names, begins_with_slash, input_of}
 use Rattle.proj_desc.specs.Canonical.{inner_text}
-use Rattle.proj_desc.specs.Causes.{lies_in_none, is_path, is_inside, is_placed, when, told_path, Tells}
+use Rattle.proj_desc.specs.Causes.{lies_in_none, is_path, is_inside, is_placed, Tells}
+use Rattle.proj_desc.specs.Inside.Placing.{told_path}
+use Rattle.proj_desc.specs.FirstCause.{when}
 use Rattle.proj_desc.specs.declared.cause.DescCause.TheVariants.{BadPath}
 
 pub text_begins : (p : Names) → path_text p ≡ 47 ∷ inner_text p

@@ -8,7 +8,8 @@ use Rattle.res_path.proofs.Spelled.{both}
 use Rattle.proj_desc.specs.declared.cause.DescCause.{DescCause}
 use Rattle.proj_desc.specs.declared.cause.DescError.{DescError}
 use Rattle.proj_desc.specs.declared.cause.DescError.TheVariants.{Bad, Memory}
-use Rattle.proj_desc.specs.Causes.{when, Tells}
+use Rattle.proj_desc.specs.Causes.{Tells}
+use Rattle.proj_desc.specs.FirstCause.{when}
 use Rattle.proj_desc.proofs.Lists.{all_false, list_all-map}
 
 tested : (b d : Bool) (c told : DescCause) → (b ≡ false → d ≡ false) → when (not b) c ≡ Some told → when (not d) c ≡ Some told

@@ -11,7 +11,9 @@ use Rattle.res_path.proofs.Spelled.{both}
 use Rattle.proj_desc.specs.declared.command.Command.{Command}
 use Rattle.proj_desc.specs.declared.cause.DescCause.TheVariants as cause
 use Rattle.proj_desc.specs.declared.desc.Desc.{Desc}
-use Rattle.proj_desc.specs.Causes.{when, is_many, has_bad_name, has_places, first_double, is_foreign, overlap, meets, outputs_from, inputs_from, word_cause, link_cause, rule_cause}
+use Rattle.proj_desc.specs.Causes.{is_many, has_bad_name, has_places, first_double, is_foreign, meets, outputs_from, inputs_from, word_cause, link_cause, rule_cause}
+use Rattle.res_path.specs.Paths.{overlap}
+use Rattle.proj_desc.specs.FirstCause.{when}
 use Rattle.proj_desc.specs.Valid.{IsValid}
 use Rattle.proj_desc.proofs.Back.{first_none, second_none, applied}
 

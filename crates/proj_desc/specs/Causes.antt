@@ -1,16 +1,14 @@
 -- Why a text is no description of a project, the causes in their order.
 use Rattle.std.specs.Prelude.{◌≡◌, ℕ, ◌+◌, Bool, not, ◌&&◌, ◌||◌, nat_lt, nat_le, if◌then◌else◌, List, [], ◌∷◌, ◌++◌, length, codes, Option, Some, None, option_map, true, false}
 use Rattle.std.specs.Option.{option_or}
-use Rattle.std.specs.Ordering.{nat_cmp, is_lt}
+use Rattle.std.specs.Ordering.{nat_cmp, is_le}
 use Rattle.std.specs.Cmp.Lexicographic.{slice_cmp}
-use Rattle.std.specs.List.{list_all, list_any, filter, flat_map, position}
+use Rattle.std.specs.List.{list_all, list_any, filter, find, flat_map, position}
 use Rattle.std.specs.Str.{bytes_eq}
 use Rattle.serde_json.specs.Data.{Data}
 use Rattle.serde_json.specs.Find.{get}
 use Rattle.res_path.specs.Names.{is_name}
-use Rattle.res_path.specs.declared.error.PathError.{PathError}
-use Rattle.res_path.specs.declared.error.PathError.TheVariants as path
-use Rattle.res_path.specs.Paths.{Names, path_text, is_prefix}
+use Rattle.res_path.specs.Paths.{Names, path_text, overlap}
 use Rattle.proj_desc.specs.declared.input.Input.{Input}
 use Rattle.proj_desc.specs.declared.input.Input.TheVariants.{Own, Other}
 use Rattle.proj_desc.specs.declared.command.Command.{Command}
@@ -23,17 +21,9 @@ use Rattle.proj_desc.specs.declared.cause.DescCause.{DescCause}
 use Rattle.proj_desc.specs.declared.cause.DescCause.TheVariants as cause
 use Rattle.proj_desc.specs.declared.cause.DescError.{DescError}
 use Rattle.proj_desc.specs.declared.cause.DescError.TheVariants.{Bad, Memory}
+use Rattle.proj_desc.specs.FirstCause.{when, first_cause}
 use Rattle.proj_desc.specs.Values.{value_of, is_text, is_list, is_object, is_list_of_texts, is_such, keys, items_at}
 use Rattle.proj_desc.specs.Described.{desc_of}
-
--- the cause, where it applies
-abbrev pub when : {C : Type 0} → Bool → C → Option C
-when applies c = if applies then Some c else None
-
--- the first cause that applies
-abbrev pub first_of : {C : Type 0} → List (Option C) → Option C
-first_of [] = None
-first_of (c ∷ cs) = option_or c (first_of cs)
 
 -- ---- the value's shape
 
@@ -58,17 +48,13 @@ others l d = filter (λ k. not (is_member l k)) (keys d)
 abbrev pub strangers : Data → List (List ℕ)
 strangers d = others level.Description d ++ flat_map (others level.Command) (command_values d)
 
-abbrev pub lesser : List ℕ → List ℕ → List ℕ
-lesser a b = if is_lt (slice_cmp nat_cmp b a) then b else a
+-- none of the names is below this one, by their bytes
+abbrev pub is_least : List (List ℕ) → List ℕ → Bool
+is_least names name = list_all (λ other. is_le (slice_cmp nat_cmp name other)) names
 
-abbrev pub least_with : List ℕ → List (List ℕ) → List ℕ
-least_with name [] = name
-least_with name (k ∷ ks) = least_with (lesser name k) ks
-
--- the least of some names, by their bytes
+-- the least of some names
 abbrev pub least : List (List ℕ) → Option (List ℕ)
-least [] = None
-least (k ∷ ks) = Some (least_with k ks)
+least names = find (is_least names) names
 
 -- the value has a member of this name, and its value passes
 abbrev pub has : (Data → Bool) → List ℕ → Data → Bool
@@ -84,7 +70,7 @@ all_have test name d = list_all (has test name) (command_values d)
 
 -- the first member, by its name, that has another type somewhere, or that a command lacks
 abbrev pub wrong_member : Data → Option Member
-wrong_member d = first_of (
+wrong_member d = first_cause (
     when (not (all_have is_text (codes "builder") d)) Builder
     ∷ when (has_wrong is_list (codes "commands") d) Commands
     ∷ when (not (all_have is_list_of_texts (codes "inputs") d)) Inputs
@@ -94,7 +80,7 @@ wrong_member d = first_of (
 
 -- the causes of the value's shape
 abbrev pub shape_cause : Data → Option DescCause
-shape_cause d = first_of (
+shape_cause d = first_cause (
     when (is_no_object d) cause.NotObject
     ∷ option_map cause.Member (least (strangers d))
     ∷ option_map cause.Wrong (wrong_member d)
@@ -144,9 +130,6 @@ abbrev pub is_foreign : List (List ℕ) → Input → Bool
 is_foreign projects (Own path) = false
 is_foreign projects (Other path) = lies_in_none projects path
 
-abbrev pub overlap : Names → Names → Bool
-overlap p q = is_prefix p q || is_prefix q p
-
 -- the input is the project's own and overlaps the path
 abbrev pub meets : Names → Input → Bool
 meets path (Own own) = overlap own path
@@ -168,7 +151,7 @@ inputs_from at (c ∷ cs) = option_or
 
 -- the causes of the numbers, names and paths
 abbrev pub word_cause : List ℕ → Desc → Option DescCause
-word_cause project d = first_of (
+word_cause project d = first_cause (
     when (is_many d) cause.Many
     ∷ when (has_bad_name d) cause.BadName
     ∷ when (not (list_all (has_places project) d.commands)) cause.BadPath
@@ -176,7 +159,7 @@ word_cause project d = first_of (
 
 -- the causes of what refers to another, and of what overlaps
 abbrev pub link_cause : List ℕ → Desc → Option DescCause
-link_cause project d = first_of (
+link_cause project d = first_cause (
     when (list_any (bytes_eq project) d.references) cause.SelfReference
     ∷ option_map cause.Double (first_double d.references)
     ∷ option_map cause.Foreign (position (λ c. list_any (is_foreign d.references) c.inputs) d.commands)
@@ -205,15 +188,3 @@ desc_cause project text = read_cause project (value_of text)
 abbrev pub Tells : Option DescCause → DescError → Type 0
 Tells applies (Bad c) = applies ≡ Some c
 Tells applies Memory = Unit {0}
-
--- the path is that of the project of this name; for private clauses
-pub record IsBase (project : List ℕ) (path : Names) : Type 0 where
-  pub named : is_name project ≡ true
-  pub alone : path ≡ project ∷ []
-
--- what a fault of a path is told as; for private clauses
-abbrev pub told_path : PathError → DescError
-told_path path.Memory = Memory
-told_path (path.BadSegment at) = Bad cause.BadPath
-told_path path.TooDeep = Bad cause.BadPath
-told_path path.TooLong = Bad cause.BadPath

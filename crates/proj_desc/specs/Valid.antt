@@ -3,7 +3,8 @@ use Rattle.std.specs.Prelude.{◌≡◌, ◌≢◌, ◌<◌, ◌≤◌, ℕ, fal
 use Rattle.std.specs.List.{All, AllPass, AllPairs, list_any}
 use Rattle.proj_desc.specs.declared.command.Command.{Command}
 use Rattle.proj_desc.specs.declared.desc.Desc.{Desc}
-use Rattle.proj_desc.specs.Causes.{is_many, has_bad_name, has_places, is_foreign, overlap, meets}
+use Rattle.proj_desc.specs.Causes.{is_many, has_bad_name, has_places, is_foreign, meets}
+use Rattle.res_path.specs.Paths.{overlap}
 
 pub record IsValid (project : List ℕ) (d : Desc) : Type 0 where
   -- its numbers are within their limits, and its names are names

@@ -28,6 +28,3 @@ pub use desc::{Desc, References};
 pub use input::{Input, Inputs};
 pub use member::Member;
 pub use res_path::NoMemory;
-
-#[cfg(test)]
-mod tests;

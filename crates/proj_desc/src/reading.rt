@@ -5,7 +5,9 @@ ghost use Rattle.serde_json.specs.View.{view};
 ghost use Rattle.res_path.specs.Names.{is_name};
 ghost use Rattle.proj_desc.specs.Values.{text, text_at};
 ghost use Rattle.proj_desc.specs.Described.{names, begins_with_slash, input_of, command_of, desc_of};
-ghost use Rattle.proj_desc.specs.Causes.{Tells, when, has_many_inputs, is_inside, is_path, is_placed, has_places, word_cause, told_path, IsBase};
+ghost use Rattle.proj_desc.specs.Causes.{Tells, has_many_inputs, is_inside, is_path, is_placed, has_places, word_cause};
+ghost use Rattle.proj_desc.specs.Inside.Placing.{told_path, IsBase};
+ghost use Rattle.proj_desc.specs.FirstCause.{when};
 
 use crate::value::{items_at, text, text_at};
 use crate::{Command, Commands, Desc, DescCause, DescError, Input, Inputs, References};

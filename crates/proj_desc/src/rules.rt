@@ -5,7 +5,8 @@ ghost use Rattle.std.specs.Str.{bytes_eq};
 ghost use Rattle.res_path.specs.Parts.{is_slash};
 ghost use Rattle.res_path.specs.Paths.{Names};
 ghost use Rattle.proj_desc.specs.Described.{names};
-ghost use Rattle.proj_desc.specs.Causes.{first_double, is_foreign, lies_in_none, overlap, meets, outputs_from, inputs_from, link_cause};
+ghost use Rattle.proj_desc.specs.Causes.{first_double, is_foreign, lies_in_none, meets, outputs_from, inputs_from, link_cause};
+ghost use Rattle.res_path.specs.Paths.{overlap};
 
 use crate::writing::inner_text;
 use crate::{Command, Desc, DescCause, Input};

@@ -3,6 +3,7 @@ ghost use Rattle.std.specs.Prelude.{◌≡◌, ◌++◌, map, option_map, not, I
 ghost use Rattle.std.specs.List.{filter, list_all};
 ghost use Rattle.serde_json.specs.View.{view};
 ghost use Rattle.proj_desc.specs.Values.{is_object, is_text, is_list, is_list_of_texts};
+ghost use Rattle.proj_desc.specs.Inside.Lesser.{least_by_one};
 ghost use Rattle.proj_desc.specs.Causes.{is_no_object, is_member, others, strangers, least, has, has_wrong, all_have, wrong_member, shape_cause};
 
 use crate::member::Level;
@@ -91,8 +92,15 @@ fn push_other_keys(
     Ok(())
 }
 
+/// The least name.
 fn least(names: &[ByteStr]) -> Option<&ByteStr>
     ensures { option_map (λ name. name.now) result ≡ least names.now }
+{
+    least_by_one(names)
+}
+
+fn least_by_one(names: &[ByteStr]) -> Option<&ByteStr>
+    ensures { option_map (λ name. name.now) result ≡ least_by_one names.now }
 {
     let (first, rest) = names.split_first()?;
     let mut best = first;

@@ -9,7 +9,7 @@ use Rattle.std.specs.Str.{bytes_eq}
 use Rattle.std.proofs.lemmas.Bool.Decides.{nat_tests}
 use Rattle.res_path.specs.Names.{is_name_byte, IsName}
 use Rattle.res_path.specs.Paths.{Names, path_cmp, is_prefix, slashed}
-use Rattle.res_path.specs.Order.{rank, text_cmp, text_prefix}
+use Rattle.res_path.specs.Inside.Order.{rank, text_cmp, text_prefix}
 use Rattle.res_path.proofs.Spelled.{both, no_slash, form_bytes, true_form}
 
 then_then : (a b c : Ordering) → ordering_then a (ordering_then b c) ≡ ordering_then (ordering_then a b) c

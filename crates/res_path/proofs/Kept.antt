@@ -8,7 +8,7 @@ use Rattle.std.proofs.lemmas.List.Splits.{length-slice_split}
 use Rattle.std.proofs.lemmas.List.Sums.{sum_by-cons}
 use Rattle.res_path.specs.Paths.{Names, IsPath, path_cmp, is_prefix, slashed, path_text}
 use Rattle.res_path.specs.Parts.{is_slash, parts_of, path_fault, bad_segment, IsKept}
-use Rattle.res_path.specs.Order.{text_cmp, text_prefix}
+use Rattle.res_path.specs.Inside.Order.{text_cmp, text_prefix}
 use Rattle.res_path.specs.declared.error.PathError.{PathError}
 use Rattle.res_path.specs.declared.error.PathError.TheVariants.{BadSegment}
 use Rattle.res_path.proofs.Spelled.{kept_text, no_fault, same_text, path_text-parts_of, parts_of-slashed, unfaulted, begun}

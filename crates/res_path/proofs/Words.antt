@@ -12,7 +12,7 @@ use Rattle.std.proofs.lemmas.Bool.Decides.{nat_tests}
 use Rattle.std.proofs.lemmas.Cmp.{nat_cmp_total, tied_itself}
 use Rattle.std.proofs.lemmas.Nat.Bits.{bit_at_xor, bit_at-lt, bit_at-zero, bit_at-trailing_zeros, same_from_bits_below, bit_at_cat_low, bit_at_cat_high}
 use Rattle.std.proofs.Math.Seq.{take-add}
-use Rattle.res_path.specs.Order.{rank, text_cmp, word_of, DifferAt}
+use Rattle.res_path.specs.Inside.Order.{rank, text_cmp, word_of, DifferAt}
 
 -- each is a byte
 abbrev AreBytes : List ℕ → Type 0

@@ -2,4 +2,4 @@ pub mod Names
 pub mod Paths
 pub mod PathLaws
 pub mod Parts
-pub mod Order
+pub mod Inside

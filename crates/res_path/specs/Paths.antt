@@ -1,5 +1,5 @@
 -- Paths, as lists of names.
-use Rattle.std.specs.Prelude.{ℕ, ◌≤◌, Bool, true, false, ◌&&◌, List, [], ◌∷◌, length, Option, Some, None}
+use Rattle.std.specs.Prelude.{ℕ, ◌≤◌, Bool, true, false, ◌&&◌, ◌||◌, List, [], ◌∷◌, length, Option, Some, None}
 use Rattle.std.specs.declared.cmp.Ordering.{Ordering}
 use Rattle.std.specs.Ordering.{nat_cmp}
 use Rattle.std.specs.Cmp.Lexicographic.{slice_cmp, pointwise}
@@ -39,6 +39,10 @@ abbrev pub is_prefix : Names → Names → Bool
 is_prefix [] q = true
 is_prefix (name ∷ p) [] = false
 is_prefix (name ∷ p) (other ∷ q) = bytes_eq name other && is_prefix p q
+
+-- one of the paths is a prefix of the other
+abbrev pub overlap : Names → Names → Bool
+overlap p q = is_prefix p q || is_prefix q p
 
 -- all names but the last
 abbrev pub parent : Names → Names

@@ -20,6 +20,3 @@ use std::alloc::AllocError;
 
 /// Want of memory, as std tells it.
 pub type NoMemory = AllocError;
-
-#[cfg(test)]
-mod tests;

@@ -1,6 +1,6 @@
 //! The order and the prefixes of paths, each in one pass over the texts that they are kept in.
 ghost use Rattle.std.specs.Prelude.{◌≡◌, ◌⊎◌, ◌+◌, ◌≤◌, true, false, length, take, drop};
-ghost use Rattle.res_path.specs.Order.{rank, text_cmp, text_prefix, word_of, DifferAt};
+ghost use Rattle.res_path.specs.Inside.Order.{rank, text_cmp, text_prefix, word_of, DifferAt};
 
 use std::cmp::Ordering;
 

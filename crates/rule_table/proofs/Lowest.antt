@@ -4,7 +4,8 @@ use Rattle.std.proofs.lemmas.Bool.Decides.{nat_tests}
 use Rattle.std.specs.List.{filter, list_any}
 use Rattle.std.proofs.lemmas.List.Elements.{filter_more}
 use Rattle.rule_table.specs.declared.held.Held.{Held}
-use Rattle.rule_table.specs.Tables.{lower, lowest, lower_than_found}
+use Rattle.rule_table.specs.Tables.{lower, lowest}
+use Rattle.rule_table.specs.Inside.Found.{lower_than_found}
 
 -- which of three stays, the middle one being the lower of the last two or not
 three : {A : Type 0} (y z x : Held A) (xz zy xy : Bool) → nat_lt x.holder z.holder ≡ xz → nat_lt z.holder y.holder ≡ zy → nat_lt x.holder y.holder ≡ xy

@@ -51,11 +51,6 @@ abbrev pub lowest : {A : Type 0} → List (Held A) → Option (Held A)
 lowest [] = None
 lowest (held ∷ all) = lower held (lowest all)
 
--- what was found, or the one after it where that has a lower holder or nothing was found
-abbrev pub lower_than_found : {A : Type 0} → Option (Held A) → Held A → Option (Held A)
-lower_than_found None held = Some held
-lower_than_found (Some found) held = if nat_lt held.holder found.holder then Some held else Some found
-
 -- of the held rules that conflict with this one, those of the least holder, the one that was begun first
 abbrev pub first_conflict : {A : Type 0} → (A → A → Bool) → List (Held A) → List A → Option (Held A)
 first_conflict conflicts all rule = lowest (filter (λ held. rule_conflicts conflicts held.rule rule) all)

@@ -1,4 +1,7 @@
 //! Why a rule isn't begun, ended or handed over.
+ghost use Rattle.std.specs.Prelude.{◌≡◌, IfOk};
+
+use crate::NoMemory;
 use sched_rules::{Atom, Rule};
 use std::alloc::{AllocError, AllocFailed};
 
@@ -11,6 +14,24 @@ pub enum BeginError<A: Atom> {
     NotContained { outer: Rule<A> },
     /// Want of memory.
     Memory,
+}
+
+impl<A: Atom> BeginError<A> {
+    /// An equal error.
+    pub fn copy(&self) -> Result<BeginError<A>, NoMemory>
+        ensures { IfOk result (λ copy. copy ≡ self.now) }
+    {
+        Ok(match self {
+            BeginError::Conflict { holder, rule } => BeginError::Conflict {
+                holder: *holder,
+                rule: rule.copy()?,
+            },
+            BeginError::NotContained { outer } => BeginError::NotContained {
+                outer: outer.copy()?,
+            },
+            BeginError::Memory => BeginError::Memory,
+        })
+    }
 }
 
 /// Why a rule isn't ended, or the rules of a holder aren't handed over.

@@ -15,6 +15,3 @@ pub use error::{BeginError, EndError};
 pub use held::Held;
 pub use sched_rules::NoMemory;
 pub use table::RuleTable;
-
-#[cfg(test)]
-mod tests;

@@ -1,7 +1,8 @@
 //! Which of the held rules is asked for.
 ghost use Rattle.std.specs.Prelude.{◌≡◌, ◌<◌, length, Some, None, IfSome, IfNone, option_copied, slice_index_or, if◌then◌else◌};
 ghost use Rattle.std.specs.List.{remove, list_any};
-ghost use Rattle.rule_table.specs.Tables.{is_of, is_null, is_outer, newest, without_last, is_free, first_conflict, lower_than_found, rules_held, handed, moved, without};
+ghost use Rattle.rule_table.specs.Tables.{is_of, is_null, is_outer, newest, without_last, is_free, first_conflict, rules_held, handed, moved, without};
+ghost use Rattle.rule_table.specs.Inside.Found.{lower_than_found};
 ghost use Rattle.sched_rules.specs.Rules.{rule_conflicts};
 
 use crate::Held;

@@ -8,17 +8,17 @@ use Rattle.std.specs.Cmp.Lexicographic.{nat_list_cmp_total, nat_list_eq_equiv, l
 use Rattle.std.specs.FinMap.{IsAntisymmetric, nat_cmp-IsAntisymmetric, slice_cmp-IsAntisymmetric}
 use Rattle.std.specs.Str.{bytes_eq}
 use Rattle.std.proofs.lemmas.Cmp.{nat_cmp_total, on_total, then_total}
-use Rattle.res_path.specs.Paths.{Names, is_prefix, path_eq, path_cmp}
+use Rattle.res_path.specs.Paths.{Names, is_prefix, path_eq, path_cmp, overlap}
 use Rattle.res_path.specs.PathLaws.{path_cmp_total}
 use Rattle.res_path.proofs.Prefixes.{path_cmp_exact}
 use Rattle.res_path.proofs.Spelled.{both}
 use Rattle.sched_rules.specs.declared.ws_atom.WsAtom.{WsAtom}
 use Rattle.sched_rules.specs.declared.ws_atom.WsAtom.TheVariants.{Path, Mutex, Lines}
 use Rattle.sched_rules.specs.Laws.{IsLawful}
-use Rattle.sched_rules.specs.Ranges.{overlap, lies_within, share_a_line, range_cmp}
+use Rattle.sched_rules.specs.Ranges.{lies_within, share_a_line, range_cmp}
 use Rattle.sched_rules.specs.Atoms.{atom_contains, atom_conflicts, atom_cmp}
-use Rattle.sched_rules.specs.Prefixes.{prefix_itself, prefix_both, prefix_through, wider_overlap, or_left, or_back, name_itself, same_name}
-use Rattle.sched_rules.specs.RangeLaws.{range_contains, ranges_conflict, range_itself, range_contains_both, range_contains_through, ranges_conflict_back, range_contained_conflicts, wider_range_conflicts}
+use Rattle.sched_rules.specs.Inside.Prefixes.{prefix_itself, prefix_both, prefix_through, wider_overlap, or_left, or_back, name_itself, same_name}
+use Rattle.sched_rules.specs.Inside.RangeLaws.{range_contains, ranges_conflict, range_itself, range_contains_both, range_contains_through, ranges_conflict_back, range_contained_conflicts, wider_range_conflicts}
 
 path_itself : (p : Names) → path_eq p p ≡ true
 path_itself p = (lists_equiv nat_list_eq_equiv).refl p

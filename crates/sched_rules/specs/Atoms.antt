@@ -1,12 +1,12 @@
 -- The atoms of the workspace: paths, mutexes and ranges of lines.
 use Rattle.std.specs.Prelude.{Bool, false, ◌&&◌, ◌||◌}
 use Rattle.std.specs.Str.{bytes_eq}
-use Rattle.res_path.specs.Paths.{is_prefix, path_eq, path_cmp}
+use Rattle.res_path.specs.Paths.{is_prefix, path_eq, path_cmp, overlap}
 use Rattle.std.specs.declared.cmp.Ordering.{Ordering}
 use Rattle.std.specs.declared.cmp.Ordering.TheVariants.{Less, Greater}
 use Rattle.std.specs.Ordering.{nat_cmp}
 use Rattle.std.specs.Cmp.Lexicographic.{slice_cmp}
-use Rattle.sched_rules.specs.Ranges.{overlap, same_range, lies_within, share_a_line, range_cmp}
+use Rattle.sched_rules.specs.Ranges.{same_range, lies_within, share_a_line, range_cmp}
 use Rattle.sched_rules.specs.declared.ws_atom.WsAtom.{WsAtom}
 use Rattle.sched_rules.specs.declared.ws_atom.WsAtom.TheVariants.{Path, Mutex, Lines}
 

@@ -2,6 +2,5 @@ pub mod Laws
 pub mod Rules
 pub mod Ranges
 pub mod Atoms
-pub mod Prefixes
-pub mod RangeLaws
+pub mod Inside
 pub mod AtomLaws

@@ -1,12 +1,8 @@
--- Paths that overlap, and ranges of lines by their first and last number.
-use Rattle.std.specs.Prelude.{ℕ, Bool, ◌&&◌, ◌||◌, ◌==◌, nat_le}
+-- Ranges of lines by their first and last number.
+use Rattle.std.specs.Prelude.{ℕ, Bool, ◌&&◌, ◌==◌, nat_le}
 use Rattle.std.specs.declared.cmp.Ordering.{Ordering}
 use Rattle.std.specs.Ordering.{nat_cmp, on, then_cmp}
-use Rattle.res_path.specs.Paths.{Names, is_prefix, path_cmp}
-
--- one of the paths is a prefix of the other
-abbrev pub overlap : Names → Names → Bool
-overlap p q = is_prefix p q || is_prefix q p
+use Rattle.res_path.specs.Paths.{Names, path_cmp}
 
 abbrev pub same_range : ℕ → ℕ → ℕ → ℕ → Bool
 same_range from to first last = from == first && to == last

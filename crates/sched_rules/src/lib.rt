@@ -13,6 +13,3 @@ pub use atom::Atom;
 pub use res_path::NoMemory;
 pub use rule::Rule;
 pub use ws_atom::WsAtom;
-
-#[cfg(test)]
-mod tests;

@@ -1,6 +1,7 @@
 //! The atoms of the workspace.
 ghost use Rattle.std.specs.Prelude.{◌≡◌, ◌||◌};
-ghost use Rattle.sched_rules.specs.Ranges.{overlap, same_range, lies_within, share_a_line};
+ghost use Rattle.res_path.specs.Paths.{overlap};
+ghost use Rattle.sched_rules.specs.Ranges.{same_range, lies_within, share_a_line};
 
 use crate::{Atom, NoMemory};
 use res_path::{Name, Path};

@@ -7,8 +7,6 @@
 mod iter;
 mod syncs;
 mod table;
-#[cfg(test)]
-mod tests;
 
 pub use iter::Iter;
 use std::alloc::AllocError;

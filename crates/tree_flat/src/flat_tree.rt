@@ -1,5 +1,5 @@
 //! A tree over one ordered map.
-ghost use Rattle.std.specs.Prelude.{◌≡◌};
+ghost use Rattle.std.specs.Prelude.{◌≡◌, IfOk};
 
 use res_path::Path;
 use std::marker::Model;
@@ -46,6 +46,15 @@ impl FlatTree {
     {
         let FlatTree { elements } = self;
         elements
+    }
+
+    /// An equal tree, with the same room, whose elements share their texts.
+    pub fn copy(&self) -> Result<FlatTree, NoMemory>
+        ensures { IfOk result (λ copy. copy ≡ self.now) }
+    {
+        Ok(FlatTree {
+            elements: self.elements.copy()?,
+        })
     }
 }
 

@@ -4,7 +4,5 @@
 #![tactic(auto)]
 
 mod flat_tree;
-#[cfg(test)]
-mod tests;
 
 pub use flat_tree::FlatTree;

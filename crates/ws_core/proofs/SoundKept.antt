@@ -10,8 +10,8 @@ use Rattle.ws_elem.proofs.Fresh.{whole-fresh_tree}
 use Rattle.op_kind.specs.declared.op.Op.{Op}
 use Rattle.op_kind.specs.declared.refusal.OpRefusal.{OpRefusal}
 use Rattle.op_kind.specs.Refusals as ops
-use Rattle.ws_ops.proofs.SoundFresh as fresh_resources
-use Rattle.ws_ops.proofs.SoundKept as kept
+use Rattle.op_sound.proofs.SoundFresh as fresh_resources
+use Rattle.op_sound.proofs.SoundKept as kept
 use Rattle.core_event.specs.declared.event.Event.{Event}
 use Rattle.core_event.specs.declared.event.Event.TheVariants.{Enter, Leave, Schedule, Take, Finish, Begin, TryBegin, End, Batch, EndBatch, Checkpoint, Operation}
 use Rattle.core_event.specs.declared.reply.Answer.{Answer}

@@ -22,8 +22,6 @@ mod session;
 mod state;
 mod stepping;
 mod telling;
-#[cfg(test)]
-mod tests;
 
 pub use core_event::{
     Answer, Apart, Entry, Event, Notice, Numbers, Refusal, Reply, Waiting, WsRule,

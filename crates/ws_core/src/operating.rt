@@ -1,8 +1,8 @@
 //! Operations on the tree and what stands beside it.
 ghost use Rattle.std.specs.Prelude.{◌≡◌, IfOk, OnOk, OnErr};
 ghost use Rattle.delta_kind.specs.Deltas.{delta};
-ghost use Rattle.ws_ops.specs.Backs.{taken_back};
-ghost use Rattle.ws_ops.specs.Changes.{HasRooms};
+ghost use Rattle.op_plan.specs.Backs.{taken_back};
+ghost use Rattle.op_plan.specs.Changes.{HasRooms};
 ghost use Rattle.op_kind.specs.Refusals.{refusal};
 ghost use Rattle.op_kind.specs.Resources.{resources};
 ghost use Rattle.op_kind.specs.Sound.{IsSound};

@@ -3,7 +3,7 @@ use Rattle.std.proofs.Common.{◌≡◌, Bool, true, false, cond, ◌||◌, List
 use Rattle.std.specs.Prelude.{Option, Some, None, is_some, IfSome}
 use Rattle.std.specs.BTreeMap.{is_at}
 use Rattle.res_path.specs.Paths.{Names, path_cmp}
-use Rattle.ws_elem.specs.Slots.{is_among, one_and, is_kept_apart, SetsRoom}
+use Rattle.ws_elem.specs.Inside.Slots.{is_among, one_and, is_kept_apart, SetsRoom}
 use Rattle.ws_elem.proofs.Cuts.{same_at}
 use Rattle.ws_elem.proofs.Kept.{symm, sets_no_room}
 

@@ -17,7 +17,7 @@ use Rattle.res_path.specs.PathLaws.{path_cmp_total}
 use Rattle.res_path.proofs.Prefixes.{path_cmp_exact, prefix_le, prefix_between}
 use Rattle.ws_elem.specs.declared.element.Element.{Element}
 use Rattle.ws_elem.specs.Trees.{Tree, paths_below, without}
-use Rattle.ws_elem.specs.Walks.{first_below, without_all}
+use Rattle.ws_elem.specs.Inside.Walks.{first_below, without_all}
 
 -- ---- the first entry above a path
 

@@ -17,7 +17,8 @@ use Rattle.res_path.specs.Paths.{Names, path_cmp}
 use Rattle.res_path.specs.PathLaws.{path_cmp_total}
 use Rattle.res_path.proofs.Prefixes.{path_cmp_exact}
 use Rattle.ws_elem.specs.declared.element.Element.{Element}
-use Rattle.ws_elem.specs.Slots.{Slots, slot_at, set_at, tree_of, unless_empty, filled, agrees}
+use Rattle.ws_elem.specs.Inside.Slots.{Slots, slot_at, tree_of, unless_empty, filled, agrees}
+use Rattle.ws_elem.specs.Trees.{set_at}
 use Rattle.ws_elem.proofs.Cuts.{same_at}
 use Rattle.ws_elem.proofs.Ordered.{find_is, both}
 use Rattle.ws_elem.proofs.Kept.{get-tree_of}

@@ -12,8 +12,8 @@ use Rattle.res_path.specs.Paths.{Names, path_cmp}
 use Rattle.res_path.specs.PathLaws.{path_cmp_total}
 use Rattle.res_path.proofs.Prefixes.{path_cmp_exact}
 use Rattle.ws_elem.specs.declared.element.Element.{Element}
-use Rattle.ws_elem.specs.Trees.{Tree, with_new}
-use Rattle.ws_elem.specs.Slots.{Slots, slot_at, is_among, set_at, tree_of, agrees, SetsSlot, SetsRoom, emptied, opened, filled_by, closed, is_empty_slot, IsKept}
+use Rattle.ws_elem.specs.Trees.{Tree, set_at, with_new}
+use Rattle.ws_elem.specs.Inside.Slots.{Slots, slot_at, is_among, tree_of, agrees, SetsSlot, SetsRoom, emptied, opened, filled_by, closed, is_empty_slot, IsKept}
 use Rattle.ws_elem.proofs.Cuts.{same_at}
 
 -- ---- what is at a path

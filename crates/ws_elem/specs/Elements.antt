@@ -1,5 +1,6 @@
 -- Elements.
-use Rattle.std.specs.Prelude.{ℕ, false, []}
+use Rattle.std.specs.Prelude.{ℕ, false, if◌then◌else◌, List, [], Option, Some, None}
+use Rattle.ws_elem.specs.Kinds.{is_file}
 use Rattle.ws_elem.specs.Attached.{nothing_attached}
 use Rattle.ws_elem.specs.declared.kind.Kind.{Kind}
 use Rattle.ws_elem.specs.declared.element.Element.{Element}
@@ -16,3 +17,8 @@ bare kind node = record {
   bytes = [];
   attached = nothing_attached;
 }
+
+-- the contents of a file; what isn't there, or is no file, has none
+abbrev pub file_bytes : Option Element → Option (List ℕ)
+file_bytes None = None
+file_bytes (Some e) = if is_file e.kind then Some e.bytes else None

@@ -1,10 +1,9 @@
 pub mod Attached
-pub mod Kinds
 pub mod Depths
 pub mod Elements
-pub mod Trees
-pub mod Stamps
-pub mod Walks
+pub mod Inside
+pub mod Kinds
 pub mod Rooms
 pub mod RoomyTrees
-pub mod Slots
+pub mod Stamps
+pub mod Trees

@@ -1,7 +1,7 @@
 -- Trees, as finite maps from path to element.
-use Rattle.std.specs.Prelude.{◌≡◌, ◌≢◌, ◌↔◌, false, true, not, if◌then◌else◌, List, [], filter, find, length, Option, None, IfSome, IsSomeAnd}
+use Rattle.std.specs.Prelude.{◌≡◌, ◌≢◌, ◌↔◌, false, true, not, if◌then◌else◌, List, [], filter, find, length, Option, None, Some, IfSome, IsSomeAnd}
 use Rattle.std.specs.Ordering.{is_lt}
-use Rattle.std.specs.FinMap.{FinMap, empty, get, contains_key, insert, entries, keys, retain_keys}
+use Rattle.std.specs.FinMap.{FinMap, empty, get, contains_key, insert, remove, entries, keys, retain_keys}
 use Rattle.res_path.specs.Paths.{Names, path_cmp, parent, is_prefix}
 use Rattle.ws_elem.specs.declared.element.Element.{Element}
 use Rattle.ws_elem.specs.declared.kind.Kind.TheVariants.{File, Project, Root}
@@ -14,6 +14,11 @@ Tree = FinMap path_cmp Element
 -- the root alone, as node 1
 abbrev pub fresh_tree : Tree
 fresh_tree = insert empty [] (bare Root 1)
+
+-- the tree with this at p, an element or nothing
+abbrev pub set_at : Tree → Names → Option Element → Tree
+set_at t p None = remove t p
+set_at t p (Some e) = insert t p e
 
 -- the tree with e at p, unless something is there
 abbrev pub with_new : Tree → Names → Element → Tree

@@ -117,6 +117,13 @@ impl Attached {
         }
     }
 
+    /// Equal attachments, which share the texts. Where none were put it takes no memory.
+    pub fn copy(&self) -> Result<Attached, NoMemory>
+        ensures { IfOk result (λ copy. copy ≡ self.now) }
+    {
+        self.clone()
+    }
+
     /// What is attached, as a value of its own, which shares the texts.
     pub fn to_attachments(&self) -> Result<Attachments, NoMemory>
         ensures { IfOk result (λ copy. copy ≡ self.now) }

@@ -5,7 +5,7 @@ ghost use Rattle.std.specs.Map.Iter.{deref_pair};
 ghost use Rattle.std.specs.FinMap as map;
 ghost use Rattle.ws_elem.specs.Trees.{Whole, fresh_tree, entry_after, paths_below, with_new, without};
 ghost use Rattle.ws_elem.specs.Rooms.{no_room, has_room, with_room};
-ghost use Rattle.ws_elem.specs.Walks.{first_below, without_all};
+ghost use Rattle.ws_elem.specs.Inside.Walks.{first_below, without_all};
 
 use crate::entries::Entries;
 use crate::room::RoomSet;
@@ -35,7 +35,7 @@ pub struct ElemMap {
 impl Model for ElemMap {
     ghost use Rattle.std.specs.FinSet as set;
     ghost use Rattle.ws_elem.specs.RoomyTrees.{RoomyTree, roomy_code};
-    ghost use Rattle.ws_elem.specs.Slots.{tree_of, IsKept};
+    ghost use Rattle.ws_elem.specs.Inside.Slots.{tree_of, IsKept};
     ghost use Rattle.ws_elem.specs.contracts.element.Element as element;
 
     ghost Value = { RoomyTree };

@@ -1,6 +1,6 @@
 //! The entries of an ordered map of elements, one after another.
 ghost use Rattle.std.specs.Prelude.{◌≡◌};
-ghost use Rattle.ws_elem.specs.Slots.{filled};
+ghost use Rattle.ws_elem.specs.Inside.Slots.{filled};
 
 use crate::Element;
 use res_path::Path;
@@ -19,7 +19,7 @@ impl<'a> Model for Entries<'a> {
     ghost use Rattle.res_path.specs.Paths.{Names};
     ghost use Rattle.ws_elem.specs.declared.element.Element.{Element};
     ghost use Rattle.ws_elem.specs.RoomyTrees.{names_code};
-    ghost use Rattle.ws_elem.specs.Slots.{filled};
+    ghost use Rattle.ws_elem.specs.Inside.Slots.{filled};
     ghost use Rattle.ws_elem.specs.contracts.element.Element as element;
 
     ghost Value = { List (Names × Element) };

@@ -15,13 +15,7 @@ mod element;
 mod entries;
 mod kind;
 mod room;
-#[cfg(test)]
-mod room_tests;
 mod slots;
-#[cfg(test)]
-mod test_tools;
-#[cfg(test)]
-mod tests;
 mod tree_rep;
 
 pub use attached::{Attached, Attachments};

@@ -1,6 +1,6 @@
 //! The paths with room.
 ghost use Rattle.std.specs.Prelude.{◌≡◌, [], ◌∷◌, false, true, not, IfOk, OnOk, OnErr, IfSome, IfNone};
-ghost use Rattle.ws_elem.specs.Slots.{is_among, is_kept_apart, SetsRoom};
+ghost use Rattle.ws_elem.specs.Inside.Slots.{is_among, is_kept_apart, SetsRoom};
 
 use crate::NoMemory;
 use res_path::Path;
@@ -21,7 +21,7 @@ pub(crate) struct RoomSet {
 impl Model for RoomSet {
     ghost use Rattle.std.specs.Prelude.{◌≡◌, false, List, IfSome};
     ghost use Rattle.res_path.specs.Paths.{Names};
-    ghost use Rattle.ws_elem.specs.Slots.{one_and, is_among};
+    ghost use Rattle.ws_elem.specs.Inside.Slots.{one_and, is_among};
 
     ghost Value = { List Names };
 

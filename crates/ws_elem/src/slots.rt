@@ -1,7 +1,7 @@
 //! The slots of an ordered map of elements, one at a time.
 ghost use Rattle.std.specs.Prelude.{◌≡◌, ◌+◌, ◌<◌, ◌&&◌, true, not, length, IfOk, OnOk, OnErr, Some, IsSome, is_none};
 ghost use Rattle.std.specs.Option.{option_copied, option_flatten};
-ghost use Rattle.ws_elem.specs.Slots.{slot_at, is_among, emptied, opened, filled_by, closed, is_empty_slot, SetsSlot, SetsRoom};
+ghost use Rattle.ws_elem.specs.Inside.Slots.{slot_at, is_among, emptied, opened, filled_by, closed, is_empty_slot, SetsSlot, SetsRoom};
 
 use crate::room::RoomSet;
 use crate::{Element, NoMemory};

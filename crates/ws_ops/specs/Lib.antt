@@ -1,5 +1,1 @@
-pub mod Changes
-pub mod Walks
-pub mod Plans
-pub mod Backs
-pub mod AtOnce
+pub mod Inside

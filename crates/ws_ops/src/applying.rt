@@ -1,26 +1,25 @@
 //! Doing an operation, and taking it back.
 ghost use Rattle.std.specs.Prelude.{◌≡◌, None, Some, IfOk, IfErr, OnOk, OnErr};
 ghost use Rattle.ws_elem.specs.Trees.{Tree};
-ghost use Rattle.ws_ops.specs.AtOnce.{IsDone};
-ghost use Rattle.ws_ops.specs.Backs.{HasWay, taken_back};
-ghost use Rattle.ws_ops.specs.Changes.{HasRooms, KeepsRoom};
+ghost use Rattle.ws_ops.specs.Inside.AtOnce.{IsDone};
+ghost use Rattle.op_plan.specs.Backs.{HasWay, taken_back};
+ghost use Rattle.op_plan.specs.Changes.{HasRooms, KeepsRoom};
 ghost use Rattle.op_kind.specs.Effects.{effect};
 ghost use Rattle.op_kind.specs.Judging.{IfRefused};
 ghost use Rattle.op_kind.specs.Partners.{with_partner};
-ghost use Rattle.ws_ops.specs.Plans.{Plans, planned};
+ghost use Rattle.op_plan.specs.Inside.Plans.{Plans, planned};
 ghost use Rattle.op_kind.specs.Refusals.{refusal};
 ghost use Rattle.op_kind.specs.Resources.{resources};
 ghost use Rattle.op_kind.specs.Sound.{IsSound};
 ghost use Rattle.op_kind.specs.Stamps.{IsKnown};
 
 use crate::at_once::create_at_once;
-use crate::back::{Applied, Back};
-use crate::changes::room_for;
-use crate::plan::Plan;
 use crate::{
-    NoMemory, Op, OpAnswer, OpError, Side, contents, creation, deletion, marking, projects,
-    reading, syncing, transfer,
+    NoMemory, Op, OpError, Side, contents, creation, deletion, marking, projects, reading, syncing,
+    transfer,
 };
+use op_plan::changes::room_for;
+use op_plan::{Applied, Back, Plan};
 use res_path::Name;
 use std::alloc::Global;
 use ws_elem::TreeRep;
@@ -32,14 +31,13 @@ use ws_elem::TreeRep;
 /// `take_back`, and the caller drops it. Costs a few look-ups, and some more for each element that changes: never a walk
 /// of the whole tree. `ClearMarks` and `Flush` look at each element at and below the path, or at that of the path alone.
 /// Contents are shared, and never copied.
-#[tactic(auto, using(crate::proofs::Made::keeps_itself))]
+#[tactic(auto, using(op_plan::proofs::Made::keeps_itself))]
 pub fn apply<T: TreeRep>(
     alloc: Global,
     tree: &mut T,
     side: &mut Side,
     op: &Op,
 ) -> Result<Applied, OpError>
-    requires { IsSound (resources (T.tree tree.old) side.old) }
     // An operation that is done wasn't refused.
     ensures allowed { OnOk result (refusal (resources (T.tree tree.old) side.old) op.now ≡ None) }
     ensures resources { OnOk result (resources (T.tree tree.new) side.new ≡ (effect (resources (T.tree tree.old) side.old) op.now).0) }
@@ -49,9 +47,10 @@ pub fn apply<T: TreeRep>(
     // What had room has it still.
     ensures room { KeepsRoom (T.room tree.old) (T.room tree.new) }
     ensures shelf_room { KeepsRoom side.old.shelf.room side.new.shelf.room }
-    ensures sound { IsSound (resources (T.tree tree.new) side.new) }
+    // Sound resources stay so.
+    ensures sound { IsSound (resources (T.tree tree.old) side.old) → IsSound (resources (T.tree tree.new) side.new) }
     // A remembered tree still agrees with the contents that are there.
-    ensures known { (t : Tree) → IsKnown (resources (T.tree tree.old) side.old) t → IsKnown (resources (T.tree tree.new) side.new) t }
+    ensures known { IsSound (resources (T.tree tree.old) side.old) → (t : Tree) → IsKnown (resources (T.tree tree.old) side.old) t → IsKnown (resources (T.tree tree.new) side.new) t }
     ensures refused { IfErr result (IfRefused (λ r. refusal (resources (T.tree tree.old) side.old) op.now ≡ Some r)) }
     ensures same { OnErr result (resources (T.tree tree.new) side.new ≡ resources (T.tree tree.old) side.old) }
 {
@@ -126,7 +125,7 @@ fn plan<T: TreeRep>(alloc: Global, tree: &T, side: &Side, op: &Op) -> Result<Pla
 }
 
 /// Does what is planned. Where memory wants, nothing was done.
-#[tactic(auto, using(crate::proofs::Made::keeps_itself, crate::proofs::Made::keeps_same))]
+#[tactic(auto, using(op_plan::proofs::Made::keeps_itself, op_plan::proofs::Made::keeps_same))]
 fn perform<T: TreeRep>(
     alloc: Global,
     tree: &mut T,

@@ -1,13 +1,16 @@
 //! The plans of creations.
-ghost use Rattle.std.specs.Prelude.{◌≡◌, ◌+◌, [], ◌∷◌, None, Some, IfOk};
-ghost use Rattle.op_kind.specs.Effects.{new_file, new_project};
-ghost use Rattle.ws_ops.specs.Plans.{CanDraw, Plans};
+ghost use Rattle.std.specs.Prelude.{◌≡◌, ◌∷◌, not, IfOk, OnOk};
+ghost use Rattle.op_kind.specs.Effects.{new_file, new_folder, new_project};
+ghost use Rattle.op_kind.specs.Judging.{Judges};
+ghost use Rattle.op_kind.specs.Places.{is_member_path, is_project_path};
+ghost use Rattle.op_kind.specs.Refusals.{first_cause, when, creation_causes};
 ghost use Rattle.op_kind.specs.Resources.{resources};
+ghost use Rattle.op_plan.specs.Inside.Plans.{CanDraw, Plans, create_at};
 
-use crate::checks::{check_creation, check_member_path, check_project_path};
-use crate::plan::Plan;
-use crate::{NoMemory, Op, OpAnswer, OpError, Side};
+use crate::{NoMemory, Op, OpError, OpRefusal, Side};
 use bytes::Bytes;
+use op_plan::Plan;
+use op_plan::checks::{check_creation, check_member_path, check_project_path};
 use res_path::Path;
 use std::alloc::Global;
 use ws_elem::{Attached, Attachments, Element, Kind, TreeRep};
@@ -25,10 +28,8 @@ pub fn create_file<T: TreeRep>(
 ) -> Result<Plan, OpError>
     ensures { Plans (resources (T.tree tree.now) side.now) (Op.CreateFile path.now bytes.now) result }
 {
-    check_member_path(path)?;
-    check_creation(tree, side, path, 1)?;
-    let element = new_file(side, bytes)?;
-    Ok(plan_creation(alloc, side, path, element, 1)?)
+    check_new_member(tree, side, path, 1)?;
+    Ok(plan_file(alloc, side, path, bytes)?)
 }
 
 /// A folder.
@@ -40,10 +41,8 @@ pub fn create_folder<T: TreeRep>(
 ) -> Result<Plan, OpError>
     ensures { Plans (resources (T.tree tree.now) side.now) (Op.CreateFolder path.now) result }
 {
-    check_member_path(path)?;
-    check_creation(tree, side, path, 0)?;
-    let element = Element::bare(Kind::Folder, side.next_node);
-    Ok(plan_creation(alloc, side, path, element, 0)?)
+    check_new_member(tree, side, path, 0)?;
+    Ok(plan_folder(alloc, side, path)?)
 }
 
 /// An open project with the empty description.
@@ -55,10 +54,57 @@ pub fn create_project<T: TreeRep>(
 ) -> Result<Plan, OpError>
     ensures { Plans (resources (T.tree tree.now) side.now) (Op.CreateProject path.now) result }
 {
+    check_new_project(tree, side, path)?;
+    Ok(plan_project(alloc, side, path)?)
+}
+
+/// Refused where no file or folder can be created at the path, drawing so many stamps.
+fn check_new_member<T: TreeRep>(
+    tree: &T,
+    side: &Side,
+    path: &Path,
+    stamps: usize,
+) -> Result<(), OpError>
+    ensures judged { Judges (first_cause (when (not (is_member_path path.now)) (OpRefusal.WrongKind path.now)
+        ∷ creation_causes (resources (T.tree tree.now) side.now) path.now stamps)) result }
+    ensures drawn { OnOk result (CanDraw side.now 1 stamps) }
+{
+    check_member_path(path)?;
+    check_creation(tree, side, path, stamps)
+}
+
+/// Refused where no project can be created at the path.
+fn check_new_project<T: TreeRep>(tree: &T, side: &Side, path: &Path) -> Result<(), OpError>
+    ensures judged { Judges (first_cause (when (not (is_project_path path.now)) (OpRefusal.WrongKind path.now)
+        ∷ creation_causes (resources (T.tree tree.now) side.now) path.now 1)) result }
+    ensures drawn { OnOk result (CanDraw side.now 1 1) }
+{
     check_project_path(path)?;
-    check_creation(tree, side, path, 1)?;
+    check_creation(tree, side, path, 1)
+}
+
+fn plan_file(alloc: Global, side: &Side, path: &Path, bytes: &Bytes) -> Result<Plan, NoMemory>
+    requires { CanDraw side.now 1 1 }
+    ensures { IfOk result (λ plan. plan ≡ create_at side.now path.now (new_file side.now.next_node side.now.next_stamp bytes.now) 1) }
+{
+    let element = new_file(side, bytes)?;
+    Plan::create(alloc, side, path, element, 1)
+}
+
+fn plan_folder(alloc: Global, side: &Side, path: &Path) -> Result<Plan, NoMemory>
+    requires { CanDraw side.now 1 0 }
+    ensures { IfOk result (λ plan. plan ≡ create_at side.now path.now (new_folder side.now.next_node) 0) }
+{
+    let element = Element::bare(Kind::Folder, side.next_node);
+    Plan::create(alloc, side, path, element, 0)
+}
+
+fn plan_project(alloc: Global, side: &Side, path: &Path) -> Result<Plan, NoMemory>
+    requires { CanDraw side.now 1 1 }
+    ensures { IfOk result (λ plan. plan ≡ create_at side.now path.now (new_project side.now.next_node side.now.next_stamp) 1) }
+{
     let element = new_project(alloc, side)?;
-    Ok(plan_creation(alloc, side, path, element, 1)?)
+    Plan::create(alloc, side, path, element, 1)
 }
 
 /// The element of a new file.
@@ -82,27 +128,4 @@ fn new_project(alloc: Global, side: &Side) -> Result<Element, NoMemory>
     element.opened = true;
     element.attached = Attached::of(alloc, attachments)?;
     Ok(element)
-}
-
-/// The plan that puts a new element at the path, and draws a node and so many stamps.
-fn plan_creation(
-    alloc: Global,
-    side: &Side,
-    path: &Path,
-    element: Element,
-    stamps: u64,
-) -> Result<Plan, NoMemory>
-    requires { CanDraw side.now 1 stamps }
-    ensures tree { IfOk result (λ plan. plan.tree ≡ (path.now, Some element) ∷ []) }
-    ensures shelf { IfOk result (λ plan. plan.shelf ≡ []) }
-    ensures node { IfOk result (λ plan. plan.next_node ≡ side.now.next_node + 1) }
-    ensures stamp { IfOk result (λ plan. plan.next_stamp ≡ side.now.next_stamp + stamps) }
-    ensures marker { IfOk result (λ plan. plan.next_marker ≡ side.now.next_marker) }
-    ensures partner { IfOk result (λ plan. plan.partner ≡ None) }
-    ensures answer { IfOk result (λ plan. plan.answer ≡ OpAnswer.Done) }
-{
-    let mut plan = Plan::put(alloc, side, path, element)?;
-    plan.next_node += 1;
-    plan.next_stamp += stamps;
-    Ok(plan)
 }

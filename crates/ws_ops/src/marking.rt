@@ -1,24 +1,23 @@
 //! The plans of what changes markers.
-ghost use Rattle.std.specs.Prelude.{◌≡◌, not, true, Some, IsSome, IfOk};
+ghost use Rattle.std.specs.Prelude.{◌≡◌, ◌+◌, ◌<◌, ◌^◌, not, true, Some, IsSome, IfOk, OnOk};
 ghost use Rattle.std.specs.Option.{option_map};
-ghost use Rattle.std.specs.FinMap.{get};
+ghost use Rattle.std.specs.FinMap.{get, remove};
 ghost use Rattle.mark_set.specs.Causes.{marker_cause, change_cause};
-ghost use Rattle.op_kind.specs.Judging.{Judges};
-ghost use Rattle.op_kind.specs.Marking.{has_marker, with_marker, with_attribute_of};
-ghost use Rattle.ws_ops.specs.Plans.{Plans};
-ghost use Rattle.op_kind.specs.Refusals.{first_cause, when, marking_causes};
+ghost use Rattle.op_kind.specs.Judging.{Decides, Judges};
+ghost use Rattle.op_kind.specs.Marking.{has_marker, with_marks, with_marker, with_attribute_of, reached};
+ghost use Rattle.op_kind.specs.Refusals.{first_cause, when, marking_causes, mark_causes, attr_causes, unmark_causes};
 ghost use Rattle.op_kind.specs.Resources.{resources};
+ghost use Rattle.op_plan.specs.Inside.Plans.{Plans, put_at, unmark_at};
 
-use crate::checks::{check_marker_number, check_open, there};
-use crate::plan::Plan;
-use crate::{NoMemory, Op, OpAnswer, OpError, OpRefusal, Side, losing, walk};
+use crate::{NoMemory, Op, OpAnswer, OpError, OpRefusal, Side};
 use mark_set::{MarkError, RawAttrs, RawText, RawValue};
+use op_plan::checks::{check_marker_number, check_open, there};
+use op_plan::{Plan, losing, walk};
 use res_path::Path;
 use std::alloc::Global;
 use ws_elem::{Attachments, Depth, Element, TreeRep};
 
 /// A marker with the next id, of this type and with these attributes.
-#[tactic(auto, using(crate::proofs::Effected::change_there))]
 pub fn mark<T: TreeRep>(
     alloc: Global,
     tree: &T,
@@ -29,9 +28,36 @@ pub fn mark<T: TreeRep>(
 ) -> Result<Plan, OpError>
     ensures { Plans (resources (T.tree tree.now) side.now) (Op.Mark path.now mark_type.now attrs.now) result }
 {
+    let marked = markable(alloc, tree, side, path, mark_type, attrs)?;
+    Ok(plan_mark(alloc, side, path, marked)?)
+}
+
+/// What is at the path, with one more marker.
+fn markable<T: TreeRep>(
+    alloc: Global,
+    tree: &T,
+    side: &Side,
+    path: &Path,
+    mark_type: &RawText,
+    attrs: &RawAttrs,
+) -> Result<Element, OpError>
+    ensures judged { Judges (first_cause (mark_causes (resources (T.tree tree.now) side.now) path.now mark_type.now attrs.now)) result }
+    ensures element { IfOk result (λ e. option_map (with_marks (λ marks. with_marker marks side.now.next_marker mark_type.now attrs.now)) (get (T.tree tree.now) path.now) ≡ Some e) }
+    ensures drawn { OnOk result (side.now.next_marker + 1 < 2 ^ 64) }
+{
     let element = there_open(tree, path)?;
     let marked = with_marker(alloc, element, side.next_marker, mark_type, attrs)?;
     check_marker_number(side)?;
+    Ok(marked)
+}
+
+fn plan_mark(alloc: Global, side: &Side, path: &Path, marked: Element) -> Result<Plan, NoMemory>
+    requires { side.now.next_marker + 1 < 2 ^ 64 }
+    ensures { IfOk result (λ plan. plan ≡ record (put_at side.now path.now marked) {
+      next_marker = side.now.next_marker + 1;
+      answer = OpAnswer.Id side.now.next_marker;
+    }) }
+{
     let mut plan = Plan::put(alloc, side, path, marked)?;
     plan.next_marker += 1;
     plan.answer = OpAnswer::Id(side.next_marker);
@@ -39,7 +65,6 @@ pub fn mark<T: TreeRep>(
 }
 
 /// One attribute of the marker with this id gets this value, or goes.
-#[tactic(auto, using(crate::proofs::Effected::change_there))]
 pub fn set_attribute<T: TreeRep>(
     alloc: Global,
     tree: &T,
@@ -51,14 +76,27 @@ pub fn set_attribute<T: TreeRep>(
 ) -> Result<Plan, OpError>
     ensures { Plans (resources (T.tree tree.now) side.now) (Op.Attr path.now id name.now value.now) result }
 {
-    let element = there_open(tree, path)?;
-    check_marker(element, id)?;
-    let changed = with_attribute(alloc, element, id, name, value)?;
+    let changed = attributable(alloc, tree, path, id, name, value)?;
     Ok(Plan::put(alloc, side, path, changed)?)
 }
 
+/// What is at the path, with this value of one attribute of the marker, or without it.
+fn attributable<T: TreeRep>(
+    alloc: Global,
+    tree: &T,
+    path: &Path,
+    id: u64,
+    name: &RawText,
+    value: &Option<RawValue>,
+) -> Result<Element, OpError>
+    ensures judged { Judges (first_cause (attr_causes (T.tree tree.now) path.now id name.now value.now)) result }
+    ensures element { IfOk result (λ e. option_map (with_marks (λ marks. with_attribute_of marks id name.now value.now)) (get (T.tree tree.now) path.now) ≡ Some e) }
+{
+    let element = marker_at(tree, path, id)?;
+    with_attribute(alloc, element, id, name, value)
+}
+
 /// The marker with this id goes.
-#[tactic(auto, using(crate::proofs::Effected::change_there))]
 pub fn unmark<T: TreeRep>(
     alloc: Global,
     tree: &T,
@@ -68,12 +106,34 @@ pub fn unmark<T: TreeRep>(
 ) -> Result<Plan, OpError>
     ensures { Plans (resources (T.tree tree.now) side.now) (Op.Unmark path.now id) result }
 {
-    let there = there_open(tree, path)?;
-    check_marker(there, id)?;
-    let mut attachments = there.attached.to_attachments()?;
+    let element = marker_at(tree, path, id)?;
+    Ok(plan_unmark(alloc, side, path, element, id)?)
+}
+
+/// What is at the path, where it has a marker with this id.
+fn marker_at<'a, T: TreeRep>(tree: &'a T, path: &Path, id: u64) -> Result<&'a Element, OpError>
+    ensures judged { Judges (first_cause (unmark_causes (T.tree tree.now) path.now id)) result }
+    ensures element { IfOk result (λ e. get (T.tree tree.now) path.now ≡ Some e.now) }
+    ensures marker { IfOk result (λ e. has_marker id (Some e.now) ≡ true) }
+{
+    let element = there_open(tree, path)?;
+    check_marker(element, id)?;
+    Ok(element)
+}
+
+fn plan_unmark(
+    alloc: Global,
+    side: &Side,
+    path: &Path,
+    element: &Element,
+    id: u64,
+) -> Result<Plan, NoMemory>
+    ensures { IfOk result (λ plan. plan ≡ put_at side.now path.now (with_marks (λ marks. remove marks id) element.now)) }
+{
+    let mut attachments = element.attached.to_attachments()?;
     losing::remove(&mut attachments.marks, id);
-    let unmarked = there.with_attachments(alloc, attachments)?;
-    Ok(Plan::put(alloc, side, path, unmarked)?)
+    let unmarked = element.with_attachments(alloc, attachments)?;
+    Plan::put(alloc, side, path, unmarked)
 }
 
 /// The markers of this type go, at the path and below it to the depth.
@@ -88,6 +148,19 @@ pub fn clear_marks<T: TreeRep>(
     ensures { Plans (resources (T.tree tree.now) side.now) (Op.ClearMarks path.now mark_type.now depth) result }
 {
     there_open(tree, path)?;
+    Ok(plan_clearing(alloc, tree, side, path, mark_type, depth)?)
+}
+
+fn plan_clearing<T: TreeRep>(
+    alloc: Global,
+    tree: &T,
+    side: &Side,
+    path: &Path,
+    mark_type: &RawText,
+    depth: Depth,
+) -> Result<Plan, NoMemory>
+    ensures { IfOk result (λ plan. plan ≡ unmark_at side.now mark_type.now (reached (T.tree tree.now) path.now depth)) }
+{
     let reached = walk::reached(alloc, tree, path, depth)?;
     let mut plan = Plan::nothing(alloc, side);
     let count = losing::unmark_all(alloc, &reached, mark_type, &mut plan.tree)?;
@@ -106,12 +179,12 @@ pub fn there_open<'a, T: TreeRep>(tree: &'a T, path: &Path) -> Result<&'a Elemen
 }
 
 /// Refused where the element has no marker with the id.
-fn check_marker(element: &Element, id: u64) -> Result<(), OpError>
-    ensures { Judges (when (not (has_marker id (Some element.now))) (OpRefusal.MarkerUnknown id)) result }
+fn check_marker(element: &Element, id: u64) -> Result<(), OpRefusal>
+    ensures { Decides (when (not (has_marker id (Some element.now))) (OpRefusal.MarkerUnknown id)) result }
 {
     let nothing = Attachments::none();
     if element.attached.or(&nothing).marks.get(id).is_none() {
-        return Err(OpError::Refused(OpRefusal::MarkerUnknown(id)));
+        return Err(OpRefusal::MarkerUnknown(id));
     }
     Ok(())
 }
@@ -125,7 +198,7 @@ fn with_marker(
     attrs: &RawAttrs,
 ) -> Result<Element, OpError>
     ensures judged { Judges (option_map OpRefusal.BadValue (marker_cause mark_type.now attrs.now)) result }
-    ensures element { IfOk result (λ e. e ≡ record element.now { attached = record element.now.attached { marks = with_marker element.now.attached.marks id mark_type.now attrs.now } }) }
+    ensures element { IfOk result (λ e. e ≡ with_marks (λ marks. with_marker marks id mark_type.now attrs.now) element.now) }
 {
     let attachments = element.attached.to_attachments()?;
     let marked = marked(alloc, attachments, id, mark_type, attrs)?;
@@ -166,7 +239,7 @@ fn with_attribute(
 ) -> Result<Element, OpError>
     requires { has_marker id (Some element.now) ≡ true }
     ensures judged { Judges (option_map OpRefusal.BadValue (change_cause name.now value.now)) result }
-    ensures element { IfOk result (λ e. e ≡ record element.now { attached = record element.now.attached { marks = with_attribute_of element.now.attached.marks id name.now value.now } }) }
+    ensures element { IfOk result (λ e. e ≡ with_marks (λ marks. with_attribute_of marks id name.now value.now) element.now) }
 {
     let attachments = element.attached.to_attachments()?;
     let attributed = attributed(alloc, attachments, id, name, value)?;

@@ -1,27 +1,29 @@
 //! The plans of moves and copies.
-ghost use Rattle.std.specs.Prelude.{◌≡◌, ◌≤◌, ◌<◌, ◌+◌, ◌^◌, [], true, false, not, ◌||◌, length, Some, IfOk, IfErr, OnOk};
+ghost use Rattle.std.specs.Prelude.{◌≡◌, ◌≤◌, ◌<◌, ◌+◌, ◌^◌, ◌++◌, [], true, false, not, ◌||◌, length, Some, IfOk, IfErr, OnOk};
 ghost use Rattle.std.specs.Bool.{beq};
 ghost use Rattle.std.specs.FinMap.{get};
 ghost use Rattle.std.specs.List.{list_all};
 ghost use Rattle.res_path.specs.Paths.{is_prefix, path_text};
 ghost use Rattle.op_kind.specs.Effects.{copies, renumbered, stamped};
-ghost use Rattle.op_kind.specs.Judging.{Judges, IfRefused};
+ghost use Rattle.op_kind.specs.Judging.{Decides, Judges, IfRefused};
 ghost use Rattle.op_kind.specs.Members.{branch, carried, rebased};
 ghost use Rattle.op_kind.specs.Numbers.{has_stamp, stamps_of, stamps_of_all};
 ghost use Rattle.op_kind.specs.Places.{is_root_path, is_project_path, project_name};
-ghost use Rattle.ws_ops.specs.Plans.{Plans};
-ghost use Rattle.op_kind.specs.Refusals.{first_cause, when, standing_causes, fit_causes, transfer_causes, goes_too_deep, gets_too_long, description_cause};
+ghost use Rattle.op_plan.specs.Inside.Lists.{put, taken};
+ghost use Rattle.op_plan.specs.Inside.Plans.{CanDraw, Plans, no_change};
+ghost use Rattle.op_kind.specs.Refusals.{first_cause, when, standing_causes, fit_causes, transfer_causes, copy_causes, goes_too_deep, gets_too_long, description_cause};
 ghost use Rattle.op_kind.specs.Resources.{resources};
 
-use crate::checks::{check_numbers, check_open, check_place, name_of, there, wrong_kind};
-use crate::plan::Plan;
-use crate::{Entries, NoMemory, Op, OpError, OpRefusal, Side, walk};
+use crate::{Entries, NoMemory, Op, OpError, OpRefusal, Side};
+use op_plan::checks::{check_numbers, check_open, check_place, name_of, there, wrong_kind};
+use op_plan::{Plan, walk};
 use proj_desc::Desc;
 use res_path::{Path, PathError};
 use std::alloc::Global;
 use ws_elem::{Attached, Attachments, Element, TreeRep};
 
 /// The elements at or below a path, and the same at their places below another.
+#[derive(Drop)]
 struct Relocation {
     members: Entries,
     carried: Entries,
@@ -37,7 +39,14 @@ pub fn move_to<T: TreeRep>(
 ) -> Result<Plan, OpError>
     ensures { Plans (resources (T.tree tree.now) side.now) (Op.Move from.now to.now) result }
 {
-    let Relocation { members, carried } = transfer(alloc, tree, from, to)?;
+    let relocation = transfer(alloc, tree, from, to)?;
+    Ok(plan_move(alloc, side, relocation)?)
+}
+
+fn plan_move(alloc: Global, side: &Side, relocation: Relocation) -> Result<Plan, NoMemory>
+    ensures { IfOk result (λ plan. plan ≡ record (no_change side.now) { tree = taken relocation.members ++ put relocation.carried }) }
+{
+    let Relocation { members, carried } = relocation;
     let mut plan = Plan::nothing(alloc, side);
     plan.tree.take_all(&members)?;
     plan.tree.put_all(carried)?;
@@ -55,14 +64,45 @@ pub fn copy_to<T: TreeRep>(
 ) -> Result<Plan, OpError>
     ensures { Plans (resources (T.tree tree.now) side.now) (Op.Copy from.now to.now) result }
 {
-    let Relocation { members, carried } = transfer(alloc, tree, from, to)?;
-    let stamps = stamps_of_all(&members);
-    check_numbers(tree, side, members.len(), stamps)?;
+    let carried = copyable(alloc, tree, side, from, to)?;
+    Ok(plan_copy(alloc, side, &carried)?)
+}
+
+/// What is to be copied, at its places below `to`. Refused where it can't come to stand there, and where so many elements
+/// can't be made.
+fn copyable<T: TreeRep>(
+    alloc: Global,
+    tree: &T,
+    side: &Side,
+    from: &Path,
+    to: &Path,
+) -> Result<Entries, OpError>
+    ensures judged { Judges (first_cause (copy_causes (resources (T.tree tree.now) side.now) from.now to.now)) result }
+    ensures carried { IfOk result (λ es. es ≡ carried from.now to.now (branch (T.tree tree.now) from.now)) }
+    ensures drawn { IfOk result (λ es. CanDraw side.now (length es) (stamps_of_all es)) }
+{
+    let Relocation {
+        members: _members,
+        carried,
+    } = transfer(alloc, tree, from, to)?;
+    let stamps = stamps_of_all(&carried);
+    check_numbers(tree, side, carried.len(), stamps)?;
+    Ok(carried)
+}
+
+fn plan_copy(alloc: Global, side: &Side, carried: &Entries) -> Result<Plan, NoMemory>
+    requires { CanDraw side.now (length carried.now) (stamps_of_all carried.now) }
+    ensures { IfOk result (λ plan. plan ≡ record (no_change side.now) {
+      tree = put (copies side.now.next_node side.now.next_stamp carried.now);
+      next_node = side.now.next_node + length carried.now;
+      next_stamp = side.now.next_stamp + stamps_of_all carried.now;
+    }) }
+{
     let copies = copies(alloc, side.next_node, side.next_stamp, carried.as_slice())?;
     let mut plan = Plan::nothing(alloc, side);
     plan.tree.put_all(copies)?;
-    plan.next_node += members.len() as u64;
-    plan.next_stamp += stamps as u64;
+    plan.next_node += carried.len() as u64;
+    plan.next_stamp += stamps_of_all(carried) as u64;
     Ok(plan)
 }
 
@@ -121,15 +161,15 @@ fn standing<'a, T: TreeRep>(tree: &'a T, from: &Path, to: &Path) -> Result<&'a E
 }
 
 /// Refused where one of the two paths is the root's.
-fn check_no_root(from: &Path, to: &Path) -> Result<(), OpError>
-    ensures judged { Judges (when (is_root_path from.now || is_root_path to.now) (OpRefusal.WrongKind [])) result }
+fn check_no_root(from: &Path, to: &Path) -> Result<(), OpRefusal>
+    ensures judged { Decides (when (is_root_path from.now || is_root_path to.now) (OpRefusal.WrongKind [])) result }
     ensures named { OnOk result (1 ≤ length to.now) }
 {
     if from.depth() == 0 {
-        return Err(OpError::Refused(OpRefusal::WrongKind(Path::root())));
+        return Err(OpRefusal::WrongKind(Path::root()));
     }
     if to.depth() == 0 {
-        return Err(OpError::Refused(OpRefusal::WrongKind(Path::root())));
+        return Err(OpRefusal::WrongKind(Path::root()));
     }
     Ok(())
 }
@@ -146,12 +186,12 @@ fn check_alike(from: &Path, to: &Path) -> Result<(), OpError>
 }
 
 /// Refused where a path would be too deep.
-fn check_depth(members: &Entries, from: &Path, to: &Path) -> Result<(), OpError>
-    ensures judged { Judges (when (goes_too_deep from.now to.now members.now) OpRefusal.TooDeep) result }
+fn check_depth(members: &Entries, from: &Path, to: &Path) -> Result<(), OpRefusal>
+    ensures judged { Decides (when (goes_too_deep from.now to.now members.now) OpRefusal.TooDeep) result }
     ensures shallow { OnOk result (goes_too_deep from.now to.now members.now ≡ false) }
 {
     if go_too_deep(members.as_slice(), from, to) {
-        return Err(OpError::Refused(OpRefusal::TooDeep));
+        return Err(OpRefusal::TooDeep);
     }
     Ok(())
 }
@@ -176,7 +216,7 @@ fn go_too_deep(entries: &[(Path, Element)], from: &Path, to: &Path) -> bool
 }
 
 /// How many names the path has with `to` in the place of its beginning `from`.
-#[tactic(auto, using(crate::proofs::Carried::rebased_depth))]
+#[tactic(auto, using(op_plan::proofs::Carried::rebased_depth))]
 fn rebased_depth(path: &Path, from: &Path, to: &Path) -> usize
     ensures { result ≡ length (rebased from.now to.now path.now) }
 {
@@ -223,7 +263,7 @@ fn carry_path(alloc: Global, path: &Path, from: &Path, to: &Path) -> Result<Path
 }
 
 /// How many stamps copies of these elements draw.
-#[tactic(auto, using(crate::proofs::Carried::stamps_counted))]
+#[tactic(auto, using(op_plan::proofs::Carried::stamps_counted))]
 fn stamps_of_all(entries: &Entries) -> usize
     ensures { result ≡ stamps_of_all entries.now }
 {

@@ -12,7 +12,7 @@ use Rattle.ws_outside.specs.declared.contents.Which.TheVariants.{Left, Right}
 use Rattle.ws_outside.specs.declared.remnant.Remnant.{Remnant}
 use Rattle.ws_outside.specs.declared.remnant.Remnant.TheVariants.{Nothing, Whole, Front, Filled, Bytes}
 use Rattle.ws_outside.specs.Crashes.{happened, kept, left_after, left_in, left_by, left_of}
-use Rattle.ws_outside.specs.Laws.{torn_part}
+use Rattle.ws_outside.specs.Inside.Laws.{torn_part}
 use Rattle.ws_outside.specs.Replay.{is_same, reads_after, Leaves, LeftBy, MayLeave}
 
 -- no more is left than was written

@@ -1,20 +1,20 @@
 -- How a record of calls goes on.
-use Rattle.std.proofs.Common.{◌≡◌, ◌⊎◌, inl, inr, ⊎_elim, ℕ, ◌+◌, ◌≤◌, List, [], ◌∷◌, ◌++◌, length, refl, sym, ◌∙◌, ap, subst, arith, length-append}
+use Rattle.std.proofs.Common.{◌≡◌, ◌⊎◌, inl, inr, ⊎_elim, ℕ, ◌+◌, ◌-◌, ◌≤◌, List, [], ◌∷◌, ◌++◌, length, drop, refl, sym, ◌∙◌, ap, subst, arith, length-append}
 use Rattle.std.specs.Prelude.{if◌then◌else◌, nat_le, Bool, true, false, Option, None, Some, Result, Ok, Err, OnOk, OnErr}
 use Rattle.std.specs.Option.{MatchOption, option_map_or}
 use Rattle.std.proofs.lemmas.Bool.{cases_lt}
 use Rattle.std.proofs.lemmas.Bool.Decides.{nat_tests}
-use Rattle.std.proofs.lemmas.List.{take_all, take-append-le}
+use Rattle.std.proofs.lemmas.List.{take_all, take-append-le, drop-drop}
 use Rattle.ws_outside.specs.declared.call.Call.{Call}
 use Rattle.ws_outside.specs.declared.call.Request.{Request}
 use Rattle.ws_outside.specs.declared.call.Request.TheVariants.{Len, Read, Write, Cut, Sync}
 use Rattle.ws_outside.specs.declared.contents.Contents.{Contents}
 use Rattle.ws_outside.specs.declared.contents.Which.{Which}
 use Rattle.ws_outside.specs.declared.contents.Which.TheVariants.{Left, Right}
-use Rattle.ws_outside.specs.Disk.{held, beside, holding, InArea, Came, Elapses}
+use Rattle.ws_outside.specs.Disk.{held, beside, holding, Torn, InArea, Came, Elapses}
 use Rattle.ws_outside.specs.Replay.{Device, done, reads_after, reads_as, reads, Leaves, LeavesIn, LeftBy, MayLeave, LeftSince, called}
-use Rattle.ws_outside.specs.Laws.{torn_same, left_itself}
-use Rattle.ws_outside.specs.Stepping.{Stepped}
+use Rattle.ws_outside.specs.Inside.Laws.{torn_same, left_itself}
+use Rattle.ws_outside.specs.Inside.Stepping.{Stepped}
 
 -- one call more
 pub reads_push : (area : Which) (calls : List Call) (call : Call) (bytes : List ℕ) → reads_as area (calls ++ call ∷ []) bytes ≡ reads_after area call (reads_as area calls bytes)
@@ -83,8 +83,8 @@ elapses_same : (first : Contents) (calls : List Call) → Elapses (length calls)
 elapses_same first calls = record { later = omega arith; nothing_else = λ t c le left. inl left; keeps = λ t c le left. left }
 
 -- a call that was made
-pub stepped : (area : Which) (request : Request) (ok : Bool) (old new : Device) → new ≡ called area request ok old → Stepped area request ok old new
-stepped area request ok old new is = subst (Stepped area request ok old) (sym is) record {
+pub stepped : (area : Which) (request : Request) (ok : Bool) (room : ℕ) (old new : Device) → new ≡ called area request ok room old → Stepped area request ok old new
+stepped area request ok room old new is = subst (Stepped area request ok old) (sym is) record {
   seen = seen_push area request ok old.first old.calls;
   crash = came_push area request ok old.first old.calls;
   time = elapses_push old.first old.calls record { area = area; request = request; done = ok };
@@ -104,6 +104,26 @@ unstepped area request old new n is = subst (Stepped area request false old) (sy
   crash = λ c left. (c, left, record { here = leaves_same request (held area (reads old.first old.calls)) (held area c); there = refl });
   time = elapses_same old.first old.calls;
 }
+
+-- a write of which fewer bytes may have come through
+torn_more : (at few n : ℕ) (old new : List ℕ) → few ≤ n → Torn at few old new → Torn at n old new
+torn_more at few n old new le torn = record {
+  before = torn.before;
+  after = ap (λ (k : ℕ). drop k new) there
+      ∙ sym (drop-drop (n - few) (at + few) new)
+      ∙ ap (drop (n - few)) torn.after
+      ∙ drop-drop (n - few) (at + few) old
+      ∙ ap (λ (k : ℕ). drop k old) (sym there);
+  no_shorter = torn.no_shorter;
+  no_longer = omega (arith, torn.no_longer, le);
+}
+  where
+    there : at + n ≡ at + few + (n - few)
+    there = omega (arith, le)
+
+pub came_more : (area : Which) (at few n : ℕ) (from : Contents → Type 0) (c : Contents) → few ≤ n → Came from (InArea area (Torn at few)) c → Came from (InArea area (Torn at n)) c
+came_more area at few n from c le came =
+    (came.0, came.1, record { here = torn_more at few n (held area came.0) (held area c) le came.2.here; there = came.2.there })
 
 -- what the trait's clauses ask of a call
 pub either : {T E A B P : Type 0} (r : Result T E) → OnOk r A → OnErr r B → (A → P) → (B → P) → P

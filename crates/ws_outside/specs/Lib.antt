@@ -1,8 +1,7 @@
 pub mod Crashes
 pub mod Disk
 pub mod Faults
-pub mod Laws
+pub mod Inside
 pub mod Memory
 pub mod Replay
-pub mod Stepping
 pub mod Streams

@@ -19,6 +19,8 @@ pub record Device : Type 0 where
   pub calls : List Call
   -- the calls that are to fail, by their numbers from 0 on
   pub failing : List ℕ
+  -- how many calls it can remember before more memory is asked for
+  pub room : ℕ
   -- how many calls failed
   pub faults : ℕ
 
@@ -77,14 +79,34 @@ pub record MayLeave (first : Contents) (calls : List Call) (c : Contents) : Type
 abbrev pub LeftSince : Contents → List Call → ℕ → Contents → Type 0
 LeftSince first calls t c = (k : ℕ) × (t ≤ k) × (k ≤ length calls) × MayLeave first (take k calls) c
 
--- a disk after one call more
-abbrev pub called : Which → Request → Bool → Device → Device
-called area request ok old = record old {
+-- a disk after one call more, with the room that it has then
+abbrev pub called : Which → Request → Bool → ℕ → Device → Device
+called area request ok room old = record old {
   calls = old.calls ++ record { area = area; request = request; done = ok } ∷ [];
+  room = room;
   faults = if ok then old.faults else next old.faults;
 }
 
--- a disk after a call with this answer; one that failed for want of memory it doesn't remember
+-- a write without its bytes; another call as it is
+abbrev pub bare : Request → Request
+bare Len = Len
+bare (Read at len) = Read at len
+bare (Write at piece) = Write at []
+bare (Cut len) = Cut len
+bare Sync = Sync
+
+-- A disk after a call with this answer remembers it. A write for whose bytes there was no memory it remembers without
+-- them, and a call for which there was no room, and none to be had, not at all.
 abbrev pub Made : {T E : Type 0} → Which → Request → Result T E → Device → Device → Type 0
-Made area request (Ok _) old new = new ≡ called area request true old
-Made area request (Err _) old new = (new ≡ called area request false old) ⊎ (new ≡ record old { faults = next old.faults })
+Made area request (Ok _) old new = new ≡ called area request true new.room old
+Made area request (Err _) old new = (new ≡ called area request false new.room old)
+    ⊎ (new ≡ called area (bare request) false new.room old)
+    ⊎ ((old.room ≤ length old.calls) × (new ≡ record old { faults = next old.faults }))
+
+-- memory may want for a call: for remembering it where there is no room, and for what a write or a cut makes of an area
+abbrev pub MayWant : Request → Device → Type 0
+MayWant Len old = old.room ≤ length old.calls
+MayWant (Read _ _) old = old.room ≤ length old.calls
+MayWant (Write _ _) old = Unit {0}
+MayWant (Cut _) old = Unit {0}
+MayWant Sync old = old.room ≤ length old.calls

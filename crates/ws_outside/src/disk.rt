@@ -12,7 +12,7 @@ use crate::{Failed, Which};
 /// that failed is as one that is still under way.
 ///
 /// Each call fails exactly where the count of faults rises in it.
-pub trait Disk {
+pub trait Disk: Drop {
     /// What both areas read as. None tells nothing.
     ghost seen: { Self → Option Contents };
 

@@ -4,12 +4,11 @@
 //! which tells nothing of content.
 #![tactic(auto)]
 
+mod area_file;
 mod buffers;
 mod call;
 mod contents;
 mod disk;
-#[cfg(test)]
-mod disk_tests;
 mod faults;
 mod file_disk;
 mod mem_disk;
@@ -21,8 +20,6 @@ mod replay;
 mod sink;
 mod source;
 mod standard;
-#[cfg(test)]
-mod stream_tests;
 
 pub use call::{Call, Request};
 pub use contents::{Contents, Which};

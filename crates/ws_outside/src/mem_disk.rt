@@ -5,18 +5,19 @@ ghost use Rattle.ws_outside.specs.Disk.{held, beside, holding, written, Torn, In
 ghost use Rattle.ws_outside.specs.Disk as disk;
 ghost use Rattle.ws_outside.specs.Crashes.{left_of};
 ghost use Rattle.ws_outside.specs.Faults.{HasCause, next};
-ghost use Rattle.ws_outside.specs.Replay.{Made, reads, MayLeave, LeftSince};
-ghost use Rattle.ws_outside.specs.Stepping.{Stepped};
+ghost use Rattle.ws_outside.specs.Inside.Stepping.{Stepped, NeedsMemory};
+ghost use Rattle.ws_outside.specs.Replay.{Made, MayWant, reads, MayLeave, LeftSince};
 
 use crate::buffers::fill_from;
 use crate::faults::one_more;
-use crate::replay::{changed, crash_of, place};
+use crate::replay::{change, crash_of};
 use crate::{Call, Contents, Disk, Failed, NoMemory, Octets, Remnant, Request, Which};
 use std::alloc::Global;
 use std::marker::Model;
 
-/// A disk that has its areas in memory. Contracts see what it held at first, all its calls, those that are to fail, and
-/// the count of faults. What it reads as and what a crash may leave follow from these.
+/// A disk that has its areas in memory. Contracts see what it held at first, all its calls, those that are to fail, the
+/// room for more of them that is left without asking for memory, and the count of faults. What it reads as and what a
+/// crash may leave follow from these.
 #[derive(Drop)]
 pub struct MemDisk {
     alloc: Global,
@@ -28,12 +29,12 @@ pub struct MemDisk {
 }
 
 impl Model for MemDisk {
-    ghost use Rattle.std.specs.Prelude.{◌≡◌};
+    ghost use Rattle.std.specs.Prelude.{◌≡◌, vec_capacity};
     ghost use Rattle.ws_outside.specs.Replay.{Device, reads};
 
     ghost Value = { Device };
 
-    ghost view = { λ m. record { first = m.first; calls = m.calls.items; failing = m.failing.items; faults = m.faults } };
+    ghost view = { λ m. record { first = m.first; calls = m.calls.items; failing = m.failing.items; room = vec_capacity m.calls; faults = m.faults } };
 
     ghost invariant = { λ m. m.present ≡ reads m.first m.calls.items };
 }
@@ -41,7 +42,7 @@ impl Model for MemDisk {
 impl MemDisk {
     /// A disk that holds this. No call is to fail.
     pub fn new(alloc: Global, first: Contents) -> Result<MemDisk, NoMemory>
-        ensures { IfOk result (λ m. m ≡ record { first = first; calls = []; failing = []; faults = 0 }) }
+        ensures { IfOk result (λ m. m ≡ record { first = first; calls = []; failing = []; room = m.room; faults = 0 }) }
     {
         let present = first.copy(alloc)?;
         Ok(MemDisk {
@@ -101,49 +102,58 @@ impl MemDisk {
         crash_of(alloc, &self.first, &self.calls[..calls], remnants)
     }
 
-    /// Does a call unless it is to fail, and tells whether it did.
-    fn try_step(&mut self, area: Which, request: Request) -> Result<bool, NoMemory>
-        ensures ok { IfOk result (λ ok. self.new ≡ record self.old { calls = self.old.calls ++ record { area = area; request = request; done = ok } ∷ [] }) }
-        ensures listed { IfOk result (λ ok. (ok ≡ false) ↔ Contains self.old.failing (length self.old.calls)) }
-        ensures err { OnErr result (self.new ≡ self.old) }
+    /// Makes room for so many calls more, so that each of them is remembered.
+    pub fn reserve(&mut self, calls: usize) -> Result<(), NoMemory>
+        ensures room { OnOk result (length self.old.calls + calls ≤ self.new.room) }
+        ensures rest { self.new ≡ record self.old { room = self.new.room } }
     {
-        let next = changed(self.alloc, &request, self.present.of(area))?;
-        let fails = self.failing.contains(&(self.calls.len() as u64));
-        self.calls.push(Call {
-            area,
-            request,
-            done: !fails,
-        })?;
-        place(!fails, area, next, &mut self.present);
-        Ok(!fails)
+        self.calls.reserve(calls)
     }
 
-    fn step(&mut self, area: Which, request: Request) -> Result<(), Failed>
+    /// Remembers a call for which there is room, and does it unless it is to fail or can't be done. Tells whether it did.
+    fn try_step(&mut self, area: Which, request: Request, able: bool) -> bool
+        requires { length self.old.calls < self.old.room }
+        ensures made { self.new ≡ record self.old { calls = self.old.calls ++ record { area = area; request = request; done = result } ∷ [] } }
+        ensures fails { Contains self.old.failing (length self.old.calls) → result ≡ false }
+        ensures unable { able ≡ false → result ≡ false }
+        ensures only_so { result ≡ false → Contains self.old.failing (length self.old.calls) ⊎ (able ≡ false) ⊎ NeedsMemory request }
+    {
+        let fails = self.failing.contains(&(self.calls.len() as u64));
+        let done = change(self.alloc, area, &request, able, fails, &mut self.present);
+        self.calls.push_reserved(Call {
+            area,
+            request,
+            done,
+        });
+        done
+    }
+
+    fn step(&mut self, area: Which, request: Request, able: bool) -> Result<(), Failed>
         ensures made { Made area request result self.old self.new }
         ensures stepped { OnOk result (Stepped area request true self.old self.new) }
         ensures failed { OnErr result (Stepped area request false self.old self.new) }
         ensures fails { Contains self.old.failing (length self.old.calls) → IsErr result }
-        ensures only_so { OnErr result (Contains self.old.failing (length self.old.calls) ⊎ (self.new ≡ record self.old { faults = next self.old.faults })) }
+        ensures unable { able ≡ false → IsErr result }
+        ensures only_so { OnErr result (Contains self.old.failing (length self.old.calls) ⊎ (able ≡ false) ⊎ MayWant request self.old) }
         ensures cause { HasCause self.old.faults self.new.faults result }
     {
-        match self.try_step(area, request) {
-            Ok(true) => Ok(()),
-            Ok(false) => {
-                self.faults = one_more(self.faults);
-                Err(Failed)
-            }
-            Err(_) => {
-                self.faults = one_more(self.faults);
-                Err(Failed)
-            }
+        if self.calls.reserve(1).is_err() {
+            self.faults = one_more(self.faults);
+            return Err(Failed);
         }
+        if self.try_step(area, request, able) {
+            return Ok(());
+        }
+        self.faults = one_more(self.faults);
+        Err(Failed)
     }
 }
 
-/// A call fails where it is to fail, and for want of memory, and then it isn't remembered.
+/// A call fails where it is to fail, and for want of memory. It is remembered then too: a write for whose bytes there was no
+/// memory without them, and a call for whose record there was none not at all, which `reserve` rules out.
 impl Disk for MemDisk {
     ghost use Rattle.std.specs.Prelude.{Some, length};
-    ghost use Rattle.ws_outside.specs.Laws.{leaves_itself, counts_here, only_here};
+    ghost use Rattle.ws_outside.specs.Inside.Laws.{leaves_itself, counts_here, only_here};
     ghost use Rattle.ws_outside.specs.Replay.{reads, MayLeave, LeftSince};
 
     ghost seen = { λ m. Some (reads m.first m.calls) };
@@ -170,10 +180,10 @@ impl Disk for MemDisk {
         ensures cause { HasCause self.old.faults self.new.faults result }
 
         ensures fails { Contains self.old.failing (length self.old.calls) → IsErr result }
-        ensures only_so { OnErr result (Contains self.old.failing (length self.old.calls) ⊎ (self.new ≡ record self.old { faults = next self.old.faults })) }
+        ensures only_so { OnErr result (Contains self.old.failing (length self.old.calls) ⊎ MayWant Len self.old) }
         ensures made { Made area Len result self.old self.new }
     {
-        self.step(area, Request::Len)?;
+        self.step(area, Request::Len, true)?;
         Ok(self.present.of(area).len() as u64)
     }
 
@@ -186,11 +196,11 @@ impl Disk for MemDisk {
         ensures cause { HasCause self.old.faults self.new.faults result }
 
         ensures fails { Contains self.old.failing (length self.old.calls) → IsErr result }
-        ensures only_so { OnErr result (Contains self.old.failing (length self.old.calls) ⊎ (self.new ≡ record self.old { faults = next self.old.faults })) }
+        ensures only_so { OnErr result (Contains self.old.failing (length self.old.calls) ⊎ MayWant (Read at (length buf.old)) self.old) }
         ensures made { Made area (Read at (length buf.old)) result self.old self.new }
     {
         let len = buf.len() as u64;
-        self.step(area, Request::Read { at, len })?;
+        self.step(area, Request::Read { at, len }, true)?;
         Ok(fill_from(self.present.of(area), at, buf))
     }
 
@@ -203,14 +213,14 @@ impl Disk for MemDisk {
         ensures cause { HasCause self.old.faults self.new.faults result }
 
         ensures fails { Contains self.old.failing (length self.old.calls) → IsErr result }
-        ensures only_so { OnErr result (Contains self.old.failing (length self.old.calls) ⊎ (self.new ≡ record self.old { faults = next self.old.faults })) }
+        ensures only_so { OnErr result (Contains self.old.failing (length self.old.calls) ⊎ MayWant (Write at piece.now) self.old) }
         ensures made { Made area (Write at piece.now) result self.old self.new }
     {
         match Octets::of(self.alloc, piece) {
-            Ok(bytes) => self.step(area, Request::Write { at, bytes }),
+            Ok(bytes) => self.step(area, Request::Write { at, bytes }, true),
             Err(_) => {
-                self.faults = one_more(self.faults);
-                Err(Failed)
+                let bytes = Octets::empty(self.alloc);
+                self.step(area, Request::Write { at, bytes }, false)
             }
         }
     }
@@ -224,10 +234,10 @@ impl Disk for MemDisk {
         ensures cause { HasCause self.old.faults self.new.faults result }
 
         ensures fails { Contains self.old.failing (length self.old.calls) → IsErr result }
-        ensures only_so { OnErr result (Contains self.old.failing (length self.old.calls) ⊎ (self.new ≡ record self.old { faults = next self.old.faults })) }
+        ensures only_so { OnErr result (Contains self.old.failing (length self.old.calls) ⊎ MayWant (Cut len) self.old) }
         ensures made { Made area (Cut len) result self.old self.new }
     {
-        self.step(area, Request::Cut { len })
+        self.step(area, Request::Cut { len }, true)
     }
 
     fn sync(&mut self, area: Which) -> Result<(), Failed>
@@ -238,9 +248,9 @@ impl Disk for MemDisk {
         ensures cause { HasCause self.old.faults self.new.faults result }
 
         ensures fails { Contains self.old.failing (length self.old.calls) → IsErr result }
-        ensures only_so { OnErr result (Contains self.old.failing (length self.old.calls) ⊎ (self.new ≡ record self.old { faults = next self.old.faults })) }
+        ensures only_so { OnErr result (Contains self.old.failing (length self.old.calls) ⊎ MayWant Sync self.old) }
         ensures made { Made area Sync result self.old self.new }
     {
-        self.step(area, Request::Sync)
+        self.step(area, Request::Sync, true)
     }
 }

@@ -1,8 +1,9 @@
 // What a call makes of an area, and what a crash leaves of a call.
-ghost use Rattle.std.specs.Prelude.{◌≡◌, length, take, get_or, IfOk, OnOk, MatchOption, if◌then◌else◌, nat_le};
+ghost use Rattle.std.specs.Prelude.{◌≡◌, ◌⊎◌, true, false, length, take, get_or, IfOk, OnOk, OnErr, MatchOption, if◌then◌else◌, nat_le};
 ghost use Rattle.std.specs.Option.{option_map_or};
 ghost use Rattle.ws_outside.specs.declared.contents.Which.TheVariants.{Left, Right};
-ghost use Rattle.ws_outside.specs.Disk.{holding, written};
+ghost use Rattle.ws_outside.specs.Disk.{held, holding, written};
+ghost use Rattle.ws_outside.specs.Inside.Stepping.{NeedsMemory};
 ghost use Rattle.ws_outside.specs.Replay.{done, reads_after};
 ghost use Rattle.ws_outside.specs.Crashes.{kept as kept_of, left_after, left_in, left_of as left_of_both};
 ghost use Rattle.ws_outside.specs.declared.remnant.Remnant.TheVariants.{Nothing};
@@ -16,7 +17,8 @@ pub(crate) fn changed(
     request: &Request,
     bytes: &[u8],
 ) -> Result<Option<Octets>, NoMemory>
-    ensures { IfOk result (λ next. MatchOption next (done request.now bytes.now ≡ bytes.now) (λ octets. octets ≡ done request.now bytes.now)) }
+    ensures next { IfOk result (λ next. MatchOption next (done request.now bytes.now ≡ bytes.now) (λ octets. octets ≡ done request.now bytes.now)) }
+    ensures want { OnErr result (NeedsMemory request.now) }
 {
     match request {
         Request::Write { at, bytes: piece } => {
@@ -51,6 +53,35 @@ fn overwrite(alloc: Global, at: usize, piece: &[u8], bytes: &[u8]) -> Result<Vec
         next.extend_from_slice(&bytes[at + piece.len()..])?;
     }
     Ok(next)
+}
+
+/// Changes an area by a call on it, unless the call is to fail, can't be done, or memory wants. Tells whether it did.
+pub(crate) fn change(
+    alloc: Global,
+    area: Which,
+    request: &Request,
+    able: bool,
+    fails: bool,
+    both: &mut Contents,
+) -> bool
+    ensures both { both.new ≡ (if result then holding area (done request.now (held area both.old)) both.old else both.old) }
+    ensures fails { fails ≡ true → result ≡ false }
+    ensures unable { able ≡ false → result ≡ false }
+    ensures only_so { result ≡ false → (fails ≡ true) ⊎ (able ≡ false) ⊎ NeedsMemory request.now }
+{
+    if fails {
+        return false;
+    }
+    if !able {
+        return false;
+    }
+    match changed(alloc, request, both.of(area)) {
+        Ok(next) => {
+            place(true, area, next, both);
+            true
+        }
+        Err(_) => false,
+    }
 }
 
 /// Puts bytes into an area, where there are some.

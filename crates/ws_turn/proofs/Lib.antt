@@ -4,4 +4,3 @@ pub mod Queue
 pub mod Value
 pub mod Seats
 pub mod Passes
-pub mod Notes

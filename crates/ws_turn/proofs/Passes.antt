@@ -3,7 +3,7 @@ use Rattle.std.proofs.Common.{◌≡◌, ◌≢◌, ℕ, true, false, eqb, List,
 use Rattle.std.specs.List.{IsDistinct}
 use Rattle.ws_turn.specs.declared.view.View.{View}
 use Rattle.ws_turn.specs.Lists.{of, has, put_before, given, HasNoneOf}
-use Rattle.ws_turn.specs.Steps.{MayRaise, Agrees, handed_on, in_hand}
+use Rattle.ws_turn.specs.Inside.Steps.{MayRaise, Agrees, handed_on, in_hand}
 use Rattle.ws_turn.specs.Passes.{Known, IsOwn, GivesNew, IsNext, Enters}
 use Rattle.ws_turn.proofs.Lists.{some_same, by_bool, or_right, has_append, some_of, put_one}
 

@@ -10,8 +10,8 @@ use Rattle.atomic_table.specs.Table.{State, Me, step, Act, keeps, takes, gives, 
 use Rattle.atomic_table.proofs.Lists.{set_here, set_again, one_turn}
 use Rattle.ws_turn.specs.declared.view.View.{View}
 use Rattle.ws_turn.specs.Lists.{StartsWith, of, has, HasNoneOf}
-use Rattle.ws_turn.specs.Turn.{Fate, pending, lost, living, is_had, is_used, Now, Knows, Lives, Turn}
-use Rattle.ws_turn.specs.Steps.{queued, Draws, holding, Looks, handed_on, HandsOn}
+use Rattle.ws_turn.specs.Inside.Turn.{Fate, pending, lost, living, is_had, is_used, Now, Knows, Lives, Turn}
+use Rattle.ws_turn.specs.Inside.Steps.{queued, Draws, holding, Looks, handed_on, HandsOn}
 use Rattle.ws_turn.proofs.Lists.{some_same, none_some, by_bool, or_right, starts_here, has_append, none_within}
 use Rattle.ws_turn.proofs.Views.{one_changed, lives_here, lives_else, one_view, still_one, one_ticket, few}
 

@@ -10,8 +10,8 @@ use Rattle.atomic_table.specs.Table.{State, Me, step, keeps, Allows, Splits, Joi
 use Rattle.atomic_table.proofs.Lists.{at_longer, set_else, set_again}
 use Rattle.ws_turn.specs.declared.view.View.{View}
 use Rattle.ws_turn.specs.Lists.{StartsWith, of, has, put_before}
-use Rattle.ws_turn.specs.Turn.{Fate, unused, pending, living, joined, lost, is_had, is_used, Now, Knows, Lives, Turn}
-use Rattle.ws_turn.specs.Steps.{first_view, note, over, told_of, first_of, rest_of, fork, forked, merged, informed, Learns}
+use Rattle.ws_turn.specs.Inside.Turn.{Fate, unused, pending, living, joined, lost, is_had, is_used, Now, Knows, Lives, Turn}
+use Rattle.ws_turn.specs.Inside.Steps.{first_view, note, over, told_of, first_of, rest_of, fork, forked, merged, informed, Learns}
 use Rattle.ws_turn.proofs.Lists.{some_same, none_some, by_bool, or_right, starts_both, none_before, none_within, between, longer_is, has_append, eqb_same, some_of}
 use Rattle.ws_turn.proofs.Views.{at_end, one_changed, lives_here, lives_else, still_one, one_ticket, apart_from_joined, living_same}
 

@@ -6,8 +6,8 @@ use Rattle.std.proofs.lemmas.List.{append_cancel_left}
 use Rattle.atomic_table.specs.Table.{Me, step, keeps, Allows}
 use Rattle.ws_turn.specs.declared.view.View.{View}
 use Rattle.ws_turn.specs.Lists.{StartsWith, of, has, numbers, given}
-use Rattle.ws_turn.specs.Turn.{Fate, unused, pending, living, joined, lost, is_had, is_used, Now, Knows, Lives, Turn}
-use Rattle.ws_turn.specs.Steps.{own, MayRaise, raised, Raises}
+use Rattle.ws_turn.specs.Inside.Turn.{Fate, unused, pending, living, joined, lost, is_had, is_used, Now, Knows, Lives, Turn}
+use Rattle.ws_turn.specs.Inside.Steps.{own, MayRaise, raised, Raises}
 use Rattle.ws_turn.proofs.Lists.{some_same, by_bool, or_false, or_true, starts_here, starts_further, of_append, given_append, numbers_append, distinct_append}
 use Rattle.ws_turn.proofs.Views.{one_changed, lives_here, still_one, one_ticket, living_same, unused_is, apart_from_joined}
 

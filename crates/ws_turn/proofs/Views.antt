@@ -10,7 +10,7 @@ use Rattle.std.proofs.lemmas.Map.Steps.{length-le_from_distinct_below}
 use Rattle.atomic_table.specs.Table.{State}
 use Rattle.atomic_table.proofs.Lists.{at_set, set_here, set_else}
 use Rattle.ws_turn.specs.declared.view.View.{View}
-use Rattle.ws_turn.specs.Turn.{Fate, unused, pending, living, joined, lost, is_had, is_used, Lives, Turn, Now, Knows}
+use Rattle.ws_turn.specs.Inside.Turn.{Fate, unused, pending, living, joined, lost, is_had, is_used, Lives, Turn, Now, Knows}
 use Rattle.ws_turn.proofs.Lists.{some_same, by_bool}
 
 pub at_within : {A : Type 0} (l : List A) (i : ℕ) (a : A) → get_elem? l i ≡ some a → i < length l

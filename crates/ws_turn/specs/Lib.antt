@@ -1,4 +1,3 @@
 pub mod Lists
-pub mod Turn
-pub mod Steps
+pub mod Inside
 pub mod Passes

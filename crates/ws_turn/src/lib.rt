@@ -1,8 +1,8 @@
 //! A lock with a history: a value that stands for a list of entries, which one thread at a time takes in turn, and a pass
 //! for each thread, which knows what the thread has seen of the list.
-//! `Logged` is what the value is, `Pass` a thread's token, `Shared` the lock. The rule that holds at every step, whatever
-//! order the threads take, is `Turn` of `specs/Turn.antt`; `specs/Steps.antt` says what each step tells its thread, and
-//! `specs/Passes.antt` what contracts see.
+//! `Logged` is what the value is, `Pass` a thread's token, `Shared` the lock. `specs/Passes.antt` says what contracts see.
+//! The rule that holds at every step, whatever order the threads take, is `Turn` of `specs/Inside/Turn.antt`;
+//! `specs/Inside/Steps.antt` says what each step tells its thread.
 #![tactic(auto)]
 
 mod logged;
@@ -19,8 +19,3 @@ use std::alloc::AllocError;
 
 /// Memory ran out.
 pub type NoMemory = AllocError;
-
-#[cfg(test)]
-mod notebook;
-#[cfg(test)]
-mod tests;

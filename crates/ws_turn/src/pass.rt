@@ -1,6 +1,6 @@
 ghost use Rattle.std.specs.Prelude.{◌≡◌, ◌∷◌, [], false, length, is_some, Some};
 ghost use Rattle.ws_turn.specs.Lists.{of, has, HasNoneOf};
-ghost use Rattle.ws_turn.specs.Steps.{in_hand};
+ghost use Rattle.ws_turn.specs.Inside.Steps.{in_hand};
 
 use crate::logged::Logged;
 use crate::view::Chair;

@@ -10,7 +10,7 @@ use std::marker::{Brand, PhantomData};
 pub(crate) struct Draw;
 
 impl<S: Logged> Play<Option<S>, View<S, S::Entry, S::Base>> for Draw {
-    ghost use Rattle.ws_turn.specs.Steps.{Draws};
+    ghost use Rattle.ws_turn.specs.Inside.Steps.{Draws};
 
     ghost then = { Draws S.list S.base S.by S.gives };
 }
@@ -19,7 +19,7 @@ impl<S: Logged> Play<Option<S>, View<S, S::Entry, S::Base>> for Draw {
 pub(crate) struct Look;
 
 impl<S: Logged> Play<Option<S>, View<S, S::Entry, S::Base>> for Look {
-    ghost use Rattle.ws_turn.specs.Steps.{Looks};
+    ghost use Rattle.ws_turn.specs.Inside.Steps.{Looks};
 
     ghost then = { Looks S.list S.base S.by S.gives };
 }
@@ -41,7 +41,7 @@ pub(crate) struct Raise<B> {
 }
 
 impl<S: Logged, B: Told<S>> Play<Option<S>, View<S, S::Entry, S::Base>> for Raise<B> {
-    ghost use Rattle.ws_turn.specs.Steps.{Raises};
+    ghost use Rattle.ws_turn.specs.Inside.Steps.{Raises};
 
     ghost then = { Raises S.list S.base S.by S.gives B.told };
 }
@@ -50,7 +50,7 @@ impl<S: Logged, B: Told<S>> Play<Option<S>, View<S, S::Entry, S::Base>> for Rais
 pub(crate) struct HandOn;
 
 impl<S: Logged> Play<Option<S>, View<S, S::Entry, S::Base>> for HandOn {
-    ghost use Rattle.ws_turn.specs.Steps.{HandsOn};
+    ghost use Rattle.ws_turn.specs.Inside.Steps.{HandsOn};
 
     ghost then = { HandsOn S.list S.base S.by S.gives };
 }
@@ -59,7 +59,7 @@ impl<S: Logged> Play<Option<S>, View<S, S::Entry, S::Base>> for HandOn {
 pub(crate) struct Learn;
 
 impl<S: Logged> Play<Option<S>, View<S, S::Entry, S::Base>> for Learn {
-    ghost use Rattle.ws_turn.specs.Steps.{Learns};
+    ghost use Rattle.ws_turn.specs.Inside.Steps.{Learns};
 
     ghost then = { Learns S.list S.base S.by S.gives };
 }
@@ -68,7 +68,7 @@ impl<S: Logged> Play<Option<S>, View<S, S::Entry, S::Base>> for Learn {
 pub(crate) struct Fork;
 
 impl<S, E, B> Split<View<S, E, B>> for Fork {
-    ghost use Rattle.ws_turn.specs.Steps.{fork, forked};
+    ghost use Rattle.ws_turn.specs.Inside.Steps.{fork, forked};
 
     ghost left = { forked };
 
@@ -79,7 +79,7 @@ impl<S, E, B> Split<View<S, E, B>> for Fork {
 pub(crate) struct Note;
 
 impl<S, E, B> Split<View<S, E, B>> for Note {
-    ghost use Rattle.ws_turn.specs.Steps.{note};
+    ghost use Rattle.ws_turn.specs.Inside.Steps.{note};
 
     ghost left = { λ v. v };
 
@@ -87,7 +87,7 @@ impl<S, E, B> Split<View<S, E, B>> for Note {
 }
 
 impl<S, E, B> Join<View<S, E, B>> for Note {
-    ghost use Rattle.ws_turn.specs.Steps.{told_of, over};
+    ghost use Rattle.ws_turn.specs.Inside.Steps.{told_of, over};
 
     ghost both = { told_of };
 
@@ -98,7 +98,7 @@ impl<S, E, B> Join<View<S, E, B>> for Note {
 pub(crate) struct Merge;
 
 impl<S, E, B> Join<View<S, E, B>> for Merge {
-    ghost use Rattle.ws_turn.specs.Steps.{merged, over};
+    ghost use Rattle.ws_turn.specs.Inside.Steps.{merged, over};
 
     ghost both = { merged };
 

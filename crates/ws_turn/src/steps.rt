@@ -1,7 +1,7 @@
 //! The steps of a seat.
 ghost use Rattle.std.specs.Prelude.{◌≡◌, ◌≢◌, ℕ, ◌<◌, ◌%◌, ◌^◌, ◌++◌, ◌∷◌, [], false, true, List, Some, None, is_some};
 ghost use Rattle.ws_turn.specs.Lists.{StartsWith, HasNoneOf, longer, of, put_before};
-ghost use Rattle.ws_turn.specs.Steps.{queued, IsHanded, MayRaise, raised, handed_on, told_of, informed, Agrees};
+ghost use Rattle.ws_turn.specs.Inside.Steps.{queued, IsHanded, MayRaise, raised, handed_on, told_of, informed, Agrees};
 
 use crate::logged::Logged;
 use crate::plays::{Draw, HandOn, Learn, Look, Merge, Note, Raise, Told};

@@ -27,8 +27,8 @@ pub struct Turns<S> {
 }
 
 impl<S: Logged> TableRule<Option<S>, View<S, S::Entry, S::Base>, Snapshot<S>> for Turns<S> {
-    ghost use Rattle.ws_turn.specs.Turn.{Turn};
-    ghost use Rattle.ws_turn.specs.Steps.{first_view};
+    ghost use Rattle.ws_turn.specs.Inside.Turn.{Turn};
+    ghost use Rattle.ws_turn.specs.Inside.Steps.{first_view};
 
     ghost holds = { λ key. Turn S.list S.base S.by S.gives (S.base key.value) };
 

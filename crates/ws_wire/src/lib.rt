@@ -6,8 +6,6 @@
 
 mod input;
 mod output;
-#[cfg(test)]
-mod tests;
 
 pub use input::{In, Short};
 pub use output::Out;

@@ -1,7 +1,7 @@
 use Rattle.std.proofs.Common.{◌≡◌, ◌<◌, ◌++◌, [], ◌∷◌, length, map, Some, sym, ap, ◌∙◌, arith, append-nil, append_assoc}
 use Rattle.std.specs.Option.{option_copied}
 use Rattle.res_path.specs.Paths.{parent_of}
-use Rattle.delta_kind.specs.Rows.{is_above, new_above, untouched}
+use Rattle.delta_kind.specs.Inside.Passes.{is_above, new_above, untouched}
 use Rattle.delta_kind.proofs.Above.{parent_shorter, parent_is, new_below, new_more, untouched_push}
 use Rattle.delta_kind.proofs.making.+tell_above.Goals as goal
 

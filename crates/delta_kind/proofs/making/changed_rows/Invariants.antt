@@ -1,7 +1,7 @@
 use Rattle.std.proofs.Common.{◌≡◌, ◌++◌, map}
 use Rattle.std.specs.Prelude.{filter}
 use Rattle.delta_kind.specs.Rows.{shown}
-use Rattle.delta_kind.specs.Walks.{rows_left}
+use Rattle.delta_kind.specs.Inside.Walks.{rows_left}
 use Rattle.delta_kind.proofs.Merged.{row_differs, rows_between}
 use Rattle.delta_kind.proofs.making.changed_rows.Given as goal
 

@@ -3,11 +3,14 @@ use Rattle.std.proofs.lemmas.Result.{IfOk-weaker}
 use Rattle.std.specs.FinMap.{get}
 use Rattle.res_path.specs.Paths.{Names, path_eq, is_prefix}
 use Rattle.std.specs.List.{list_any}
+use Rattle.ws_elem.specs.Stamps.{SameContents}
 use Rattle.ws_elem.specs.Trees.{Whole}
 use Rattle.delta_kind.specs.Flags.{differs}
-use Rattle.delta_kind.specs.Deltas.{delta, changed, paths_of, TellsMoves}
+use Rattle.delta_kind.specs.Deltas.{delta, changed, paths_of, TellsMoves, TellsPaths, TellsContents}
 use Rattle.delta_kind.proofs.Same.{delta_has, tells_nothing, tells_no_change}
+use Rattle.delta_kind.proofs.Contents.{tells_contents}
 use Rattle.delta_kind.proofs.Elsewhere.{tells_moves}
+use Rattle.delta_kind.proofs.Flagged.{tells_paths}
 use Rattle.delta_kind.proofs.making.compare.Goals as goal
 
 pub returns-clause-paths : goal.returns-clause-paths
@@ -32,4 +35,16 @@ pub returns-clause-moves : goal.returns-clause-moves
 returns-clause-moves c = IfOk-weaker c.delta_between.result (λ d. d ≡ delta c.args.before.now.map c.args.after.now.map)
     (λ d. Whole c.args.before.now.map → Whole c.args.after.now.map → TellsMoves c.args.before.now.map c.args.after.now.map d)
     (λ d is wa wb. subst (TellsMoves c.args.before.now.map c.args.after.now.map) (sym is) (tells_moves c.args.before.now.map c.args.after.now.map wa wb))
+    c.delta_between.ensures
+
+pub returns-clause-tells : goal.returns-clause-tells
+returns-clause-tells c = IfOk-weaker c.delta_between.result (λ d. d ≡ delta c.args.before.now.map c.args.after.now.map)
+    (λ d. TellsPaths c.args.before.now.map c.args.after.now.map d)
+    (λ d is. subst (TellsPaths c.args.before.now.map c.args.after.now.map) (sym is) (tells_paths c.args.before.now.map c.args.after.now.map))
+    c.delta_between.ensures
+
+pub returns-clause-contents : goal.returns-clause-contents
+returns-clause-contents c = IfOk-weaker c.delta_between.result (λ d. d ≡ delta c.args.before.now.map c.args.after.now.map)
+    (λ d. SameContents c.args.before.now.map c.args.after.now.map → TellsContents c.args.before.now.map c.args.after.now.map d)
+    (λ d is same. subst (TellsContents c.args.before.now.map c.args.after.now.map) (sym is) (tells_contents c.args.before.now.map c.args.after.now.map same))
     c.delta_between.ensures

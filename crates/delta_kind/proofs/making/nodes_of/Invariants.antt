@@ -1,7 +1,8 @@
 use Rattle.std.proofs.Common.{◌≡◌, ◌++◌, None, drop, map}
 use Rattle.std.specs.FinMap.{get}
 use Rattle.std.specs.Option.{option_copied}
-use Rattle.delta_kind.specs.Rows.{shown, node_by, nodes_from}
+use Rattle.delta_kind.specs.Rows.{shown, node_by}
+use Rattle.delta_kind.specs.Inside.Passes.{nodes_from}
 use Rattle.delta_kind.proofs.making.nodes_of.Given as goal
 
 -- the nodes so far, and those of the rows that are left

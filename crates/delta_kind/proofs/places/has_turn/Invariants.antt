@@ -1,5 +1,6 @@
 use Rattle.std.proofs.Common.{◌≡◌, drop, map}
-use Rattle.delta_kind.specs.Rows.{shown, has_turn}
+use Rattle.delta_kind.specs.Rows.{shown}
+use Rattle.delta_kind.specs.Inside.Passes.{has_turn}
 use Rattle.delta_kind.proofs.places.has_turn.Given as goal
 
 -- no row so far loses a node, or none gains one

@@ -2,7 +2,7 @@ use Rattle.std.proofs.Common.{sym, ◌∙◌, subst}
 use Rattle.std.specs.Option.{option_copied}
 use Rattle.delta_kind.specs.Deltas.{InPathOrder, paths_of}
 use Rattle.delta_kind.specs.Rows.{shown}
-use Rattle.delta_kind.specs.Walks.{rows_left}
+use Rattle.delta_kind.specs.Inside.Walks.{rows_left}
 use Rattle.delta_kind.proofs.Merged.{rows_between}
 use Rattle.delta_kind.proofs.Unmoved.{telling_row, telling_moved, telling_ends}
 use Rattle.delta_kind.proofs.plain.unmoved_nodes.Goals as goal

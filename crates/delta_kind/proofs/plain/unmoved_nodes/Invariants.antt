@@ -1,6 +1,6 @@
 use Rattle.std.specs.Prelude.{filter}
 use Rattle.std.specs.Option.{option_copied}
-use Rattle.delta_kind.specs.Walks.{rows_left}
+use Rattle.delta_kind.specs.Inside.Walks.{rows_left}
 use Rattle.delta_kind.proofs.Merged.{row_differs, rows_between}
 use Rattle.delta_kind.proofs.Unmoved.{Telling}
 use Rattle.delta_kind.proofs.plain.unmoved_nodes.Given as goal

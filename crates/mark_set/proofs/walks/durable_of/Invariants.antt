@@ -2,7 +2,7 @@ use Rattle.std.proofs.Common.{nat_cmp, take}
 use Rattle.std.specs.Map.{keys_of}
 use Rattle.std.specs.FinMap as map
 use Rattle.mark_set.specs.Markers.{durable_marks}
-use Rattle.mark_set.specs.Builds.{Covers}
+use Rattle.mark_set.specs.Inside.Builds.{Covers}
 use Rattle.mark_set.proofs.walks.durable_of.Given as goal
 
 abbrev pub invariant-loop-i : goal.invariant-loop-i

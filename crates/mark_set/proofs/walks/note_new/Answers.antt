@@ -3,7 +3,7 @@ use Rattle.std.specs.Prelude.{Some, option_copied}
 use Rattle.std.specs.Map.{keys_of}
 use Rattle.std.specs.FinMap.{get, from_entries}
 use Rattle.std.proofs.Common.{◌++◌}
-use Rattle.mark_set.specs.Builds.{with_some}
+use Rattle.mark_set.specs.Inside.Builds.{with_some}
 use Rattle.mark_set.specs.Deltas.{difference, difference_at}
 use Rattle.mark_set.proofs.Builds.{covers_came, walked, walked_all, told_in_front}
 use Rattle.mark_set.proofs.Ids.{get_is}

@@ -1,7 +1,7 @@
 use Rattle.std.proofs.Common.{nat_cmp, take, ◌++◌}
 use Rattle.std.specs.Map.{keys_of}
 use Rattle.std.specs.FinMap as map
-use Rattle.mark_set.specs.Builds.{Covers}
+use Rattle.mark_set.specs.Inside.Builds.{Covers}
 use Rattle.mark_set.specs.Deltas.{difference_at}
 use Rattle.mark_set.proofs.walks.note_new.Given as goal
 

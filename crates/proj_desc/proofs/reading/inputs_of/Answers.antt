@@ -3,7 +3,8 @@ use Rattle.std.proofs.lemmas.Result.{err_from_is_err_and}
 use Rattle.proj_desc.specs.declared.cause.DescCause.TheVariants.{BadPath}
 use Rattle.proj_desc.specs.Values.{text}
 use Rattle.proj_desc.specs.Described.{input_of}
-use Rattle.proj_desc.specs.Causes.{when, Tells, is_placed}
+use Rattle.proj_desc.specs.Causes.{Tells, is_placed}
+use Rattle.proj_desc.specs.FirstCause.{when}
 use Rattle.proj_desc.proofs.Told.{told_of_values}
 use Rattle.proj_desc.proofs.reading.inputs_of.Goals as goal
 

@@ -3,7 +3,8 @@ use Rattle.std.proofs.lemmas.Result.{err_from_is_err_and}
 use Rattle.res_path.specs.Paths.{Names}
 use Rattle.proj_desc.specs.declared.cause.DescCause.TheVariants.{BadPath}
 use Rattle.proj_desc.specs.Described.{names}
-use Rattle.proj_desc.specs.Causes.{is_inside, is_path, when, Tells}
+use Rattle.proj_desc.specs.Causes.{is_inside, is_path, Tells}
+use Rattle.proj_desc.specs.FirstCause.{when}
 use Rattle.proj_desc.proofs.Paths.{not_within, some_part}
 use Rattle.proj_desc.proofs.Told.{told_by}
 use Rattle.proj_desc.proofs.reading.inside.Goals as goal

@@ -3,7 +3,8 @@ use Rattle.std.proofs.lemmas.Result.{err_from_is_err_and}
 use Rattle.res_path.specs.Names.{is_name}
 use Rattle.proj_desc.specs.declared.cause.DescCause.TheVariants.{BadName}
 use Rattle.proj_desc.specs.Values.{text}
-use Rattle.proj_desc.specs.Causes.{when, Tells}
+use Rattle.proj_desc.specs.Causes.{Tells}
+use Rattle.proj_desc.specs.FirstCause.{when}
 use Rattle.proj_desc.proofs.Told.{told_of_values}
 use Rattle.proj_desc.proofs.reading.names_of.Goals as goal
 

@@ -1,6 +1,6 @@
 use Rattle.std.proofs.Common.{◌∙◌, sym, ap, not, length}
 use Rattle.proj_desc.specs.declared.cause.DescCause.TheVariants.{BadPath}
-use Rattle.proj_desc.specs.Causes.{when}
+use Rattle.proj_desc.specs.FirstCause.{when}
 use Rattle.proj_desc.proofs.Paths.{read_path, root_text, told_fault}
 use Rattle.proj_desc.proofs.reading.path_of.Goals as goal
 

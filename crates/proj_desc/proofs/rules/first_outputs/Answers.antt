@@ -1,7 +1,7 @@
 use Rattle.std.proofs.Common.{◌≡◌, ◌+◌, ◌-◌, ◌∙◌, ap, drop, length, Some, None, arith}
 use Rattle.std.specs.Prelude.{position}
 use Rattle.std.proofs.lemmas.List.{take_all, length-drop}
-use Rattle.proj_desc.specs.Causes.{overlap}
+use Rattle.res_path.specs.Paths.{overlap}
 use Rattle.proj_desc.proofs.Pairs.{outputs_found, outputs_passed}
 use Rattle.proj_desc.proofs.rules.first_outputs.Goals as goal
 

@@ -1,6 +1,6 @@
 use Rattle.std.proofs.Common.{◌≡◌, ℕ, ◌<◌, ◌≤◌, List, length, drop, sym, ◌∙◌, refl, arith, drop-cons, Less, Greater}
 use Rattle.std.proofs.Math.ListN.{drop_of_length-le}
-use Rattle.res_path.specs.Order.{text_cmp}
+use Rattle.res_path.specs.Inside.Order.{text_cmp}
 use Rattle.res_path.proofs.order.compare_by_one.Goals as goal
 
 -- where the second text has ended and the first has not, the first comes after

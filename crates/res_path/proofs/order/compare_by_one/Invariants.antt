@@ -1,5 +1,5 @@
 use Rattle.std.proofs.Common.{◌≡◌, drop}
-use Rattle.res_path.specs.Order.{text_cmp}
+use Rattle.res_path.specs.Inside.Order.{text_cmp}
 use Rattle.res_path.proofs.order.compare_by_one.Given as goal
 
 -- what is left decides

@@ -1,6 +1,6 @@
 use Rattle.std.proofs.Common.{◌≡◌, ℕ, ◌<◌, ◌≤◌, false, List, length, drop, sym, ◌∙◌, refl, drop-cons}
 use Rattle.std.proofs.Math.ListN.{drop_of_length-le}
-use Rattle.res_path.specs.Order.{text_prefix}
+use Rattle.res_path.specs.Inside.Order.{text_prefix}
 use Rattle.res_path.proofs.order.is_prefix.Goals as goal
 
 -- the second text has ended and the first has not

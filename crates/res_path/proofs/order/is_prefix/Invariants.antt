@@ -1,5 +1,5 @@
 use Rattle.std.proofs.Common.{◌≡◌, ◌≤◌, drop, length}
-use Rattle.res_path.specs.Order.{text_prefix}
+use Rattle.res_path.specs.Inside.Order.{text_prefix}
 use Rattle.res_path.proofs.order.is_prefix.Given as goal
 
 -- what is left decides

@@ -1,6 +1,6 @@
 use Rattle.std.proofs.Common.{ap, sym, ◌∙◌}
 use Rattle.res_path.specs.PathLaws.{path_ties}
-use Rattle.ws_elem.specs.Slots.{is_kept_apart}
+use Rattle.ws_elem.specs.Inside.Slots.{is_kept_apart}
 use Rattle.ws_elem.proofs.room.is_kept_apart.Goals as goal
 
 pub returns-in-Some : goal.returns-in-Some

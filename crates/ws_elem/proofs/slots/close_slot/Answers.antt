@@ -1,5 +1,5 @@
 use Rattle.std.proofs.Common.{◌≡◌, true, false, refl, sym, ap, ◌∙◌}
-use Rattle.ws_elem.specs.Slots.{is_empty_slot}
+use Rattle.ws_elem.specs.Inside.Slots.{is_empty_slot}
 use Rattle.ws_elem.proofs.Kept.{sets_closed}
 use Rattle.ws_elem.proofs.slots.close_slot.Goals as goal
 

@@ -2,7 +2,7 @@ use Rattle.std.proofs.Common.{ap, sym, ◌∙◌, cond}
 use Rattle.std.specs.Prelude.{not, ◌&&◌}
 use Rattle.std.specs.BTreeMap.{is_at}
 use Rattle.res_path.specs.Paths.{path_cmp}
-use Rattle.ws_elem.specs.Slots.{is_among}
+use Rattle.ws_elem.specs.Inside.Slots.{is_among}
 use Rattle.ws_elem.proofs.Kept.{sets_no_room}
 use Rattle.ws_elem.proofs.slots.undo_room.Goals as goal
 

@@ -2,14 +2,14 @@ use Rattle.std.proofs.Common.{◌≡◌, sym, subst}
 use Rattle.std.specs.Prelude.{Result, Ok, Err, IfOk, IfSome, OnErr}
 use Rattle.ws_elem.specs.Rooms.{Room}
 use Rattle.ws_elem.specs.Trees.{Tree}
-use Rattle.ws_ops.specs.declared.back.Applied.{Applied}
+use Rattle.op_plan.specs.declared.back.Applied.{Applied}
 use Rattle.op_kind.specs.declared.op.Op.{Op}
 use Rattle.op_kind.specs.declared.refusal.OpError.{OpError}
-use Rattle.ws_ops.specs.AtOnce.{IsDone}
+use Rattle.ws_ops.specs.Inside.AtOnce.{IsDone}
 use Rattle.op_kind.specs.Resources.{Resources, resources}
 use Rattle.op_kind.specs.Sound.{IsSound}
 use Rattle.op_kind.specs.Stamps.{IsKnown}
-use Rattle.ws_ops.proofs.SoundKept.{effect_sound, effect_known}
+use Rattle.op_sound.proofs.SoundKept.{effect_sound, effect_known}
 use Rattle.ws_ops.proofs.applying.apply.Goals as goal
 
 module _ (before now : Resources) (op : Op) (room shelf_room : Room) (sound : IsSound before) where
@@ -29,35 +29,35 @@ module _ (before now : Resources) (op : Op) (room shelf_room : Room) (sound : Is
   known_after t (Err error) d e = subst (λ z. IsKnown z t) (sym e)
 
 pub returns-in-Some-clause-sound : goal.returns-in-Some-clause-sound
-returns-in-Some-clause-sound g c =
+returns-in-Some-clause-sound g c sound =
     let before : Resources = resources (g.T.TreeRep.tree c.args.tree.now) c.args.side.now in
     let now : Resources = resources (g.T.TreeRep.tree c.create_at_once.new.tree) c.create_at_once.new.side in
     let room = g.T.TreeRep.room c.create_at_once.new.tree in
     let shelf_room = c.create_at_once.new.side.shelf.room in
-    sound_done before now c.args.op.now room shelf_room c.requires c.in-Some.done
+    sound_done before now c.args.op.now room shelf_room sound c.in-Some.done
     (subst (λ x. IfSome x (IsDone before c.args.op.now room shelf_room now)) c.in-Some.is c.in_ok-done.ensures.done)
 
 pub returns-in-Some-clause-known : goal.returns-in-Some-clause-known
-returns-in-Some-clause-known g c t =
+returns-in-Some-clause-known g c sound t =
     let before : Resources = resources (g.T.TreeRep.tree c.args.tree.now) c.args.side.now in
     let now : Resources = resources (g.T.TreeRep.tree c.create_at_once.new.tree) c.create_at_once.new.side in
     let room = g.T.TreeRep.room c.create_at_once.new.tree in
     let shelf_room = c.create_at_once.new.side.shelf.room in
-    known_done before now c.args.op.now room shelf_room c.requires t c.in-Some.done
+    known_done before now c.args.op.now room shelf_room sound t c.in-Some.done
     (subst (λ x. IfSome x (IsDone before c.args.op.now room shelf_room now)) c.in-Some.is c.in_ok-done.ensures.done)
 
 pub returns-in-None-clause-sound : goal.returns-in-None-clause-sound
-returns-in-None-clause-sound g c =
+returns-in-None-clause-sound g c sound =
     let before : Resources = resources (g.T.TreeRep.tree c.create_at_once.new.tree) c.create_at_once.new.side in
     let now : Resources = resources (g.T.TreeRep.tree c.apply_planned.new.tree) c.apply_planned.new.side in
     let same : before ≡ resources (g.T.TreeRep.tree c.args.tree.now) c.args.side.now = c.in_ok-done.ensures.none c.in-None.is in
-    sound_after before now c.args.op.now (g.T.TreeRep.room c.apply_planned.new.tree) c.apply_planned.new.side.shelf.room (subst IsSound (sym same) c.requires)
+    sound_after before now c.args.op.now (g.T.TreeRep.room c.apply_planned.new.tree) c.apply_planned.new.side.shelf.room (subst IsSound (sym same) sound)
     c.apply_planned.result c.apply_planned.ensures.done c.apply_planned.ensures.same
 
 pub returns-in-None-clause-known : goal.returns-in-None-clause-known
-returns-in-None-clause-known g c t known =
+returns-in-None-clause-known g c sound t known =
     let before : Resources = resources (g.T.TreeRep.tree c.create_at_once.new.tree) c.create_at_once.new.side in
     let now : Resources = resources (g.T.TreeRep.tree c.apply_planned.new.tree) c.apply_planned.new.side in
     let same : before ≡ resources (g.T.TreeRep.tree c.args.tree.now) c.args.side.now = c.in_ok-done.ensures.none c.in-None.is in
-    known_after before now c.args.op.now (g.T.TreeRep.room c.apply_planned.new.tree) c.apply_planned.new.side.shelf.room (subst IsSound (sym same) c.requires) t
+    known_after before now c.args.op.now (g.T.TreeRep.room c.apply_planned.new.tree) c.apply_planned.new.side.shelf.room (subst IsSound (sym same) sound) t
     c.apply_planned.result c.apply_planned.ensures.done c.apply_planned.ensures.same (subst (λ z. IsKnown z t) (sym same) known)

@@ -1,12 +1,12 @@
 use Rattle.std.proofs.Common.{◌≡◌, take, sym, ap, subst, ◌∙◌}
 use Rattle.ws_elem.specs.Trees.{Tree}
 use Rattle.op_kind.specs.declared.side.Side.{Side}
-use Rattle.ws_ops.specs.Backs.{HasWay}
-use Rattle.ws_ops.specs.Changes.{HasRooms, changed}
+use Rattle.op_plan.specs.Backs.{HasWay}
+use Rattle.op_plan.specs.Changes.{HasRooms, changed}
 use Rattle.op_kind.specs.Partners.{with_partner}
 use Rattle.op_kind.specs.Resources.{resources}
-use Rattle.ws_ops.proofs.Effected.{undone}
-use Rattle.ws_ops.proofs.Made.{rooms_undoing, partners_back}
+use Rattle.op_plan.proofs.Effected.{undone}
+use Rattle.op_plan.proofs.Made.{rooms_undoing, partners_back}
 use Rattle.ws_ops.proofs.applying.perform.Goals as goal
 
 pub returns-clause-back : goal.returns-clause-back

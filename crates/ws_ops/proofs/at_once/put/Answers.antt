@@ -6,11 +6,11 @@ use Rattle.ws_elem.specs.Rooms.{has_room}
 use Rattle.ws_elem.specs.Trees.{Tree}
 use Rattle.ws_elem.proofs.Rooms.{room_added}
 use Rattle.op_kind.specs.declared.side.Side.{Side}
-use Rattle.ws_ops.specs.Backs.{HasWay, way_to}
-use Rattle.ws_ops.specs.Changes.{changed}
+use Rattle.op_plan.specs.Backs.{HasWay, way_to}
+use Rattle.op_plan.specs.Changes.{changed}
 use Rattle.op_kind.specs.Resources.{resources}
-use Rattle.ws_ops.proofs.Effected.{undone}
-use Rattle.ws_ops.proofs.Made.{keeps_itself, keeps_more, partners_back}
+use Rattle.op_plan.proofs.Effected.{undone}
+use Rattle.op_plan.proofs.Made.{keeps_itself, keeps_more, partners_back}
 use Rattle.ws_ops.proofs.at_once.put.Goals as goal
 
 was_free : (put there : Bool) → put ≡ not there → put ≡ true → there ≡ false

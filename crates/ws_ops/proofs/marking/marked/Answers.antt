@@ -1,7 +1,7 @@
 use Rattle.std.proofs.Common.{◌≡◌, ap, ◌∙◌}
 use Rattle.std.specs.Prelude.{Err}
 use Rattle.mark_set.specs.Causes.{marker_cause}
-use Rattle.ws_ops.proofs.BadValues.{unspoilt, spoilt}
+use Rattle.op_plan.proofs.BadValues.{unspoilt, spoilt}
 use Rattle.ws_ops.proofs.marking.marked.Goals as goal
 
 pub returns-in-Ok-clause-judged : goal.returns-in-Ok-clause-judged

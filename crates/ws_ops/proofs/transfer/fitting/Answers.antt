@@ -1,4 +1,4 @@
-use Rattle.ws_ops.proofs.Carried.{branch_under}
+use Rattle.op_plan.proofs.Carried.{branch_under}
 use Rattle.ws_ops.proofs.transfer.fitting.Goals as goal
 
 pub carry-requires-clause-under : goal.carry-requires-clause-under

@@ -1,7 +1,7 @@
 use Rattle.std.proofs.Common.{sym, subst}
 use Rattle.op_kind.specs.Judging.{Judges}
 use Rattle.op_kind.specs.Refusals.{first_cause, standing_causes, fit_causes}
-use Rattle.ws_ops.proofs.Causes.{stops, goes_on, handed_on}
+use Rattle.op_plan.proofs.Causes.{stops, goes_on, handed_on}
 use Rattle.ws_ops.proofs.transfer.transfer.Goals as goal
 
 pub returns-in_err-element-clause-judged : goal.returns-in_err-element-clause-judged

@@ -1,5 +1,5 @@
 use Rattle.std.proofs.Common.{ap, ◌∙◌, sym, subst}
-use Rattle.ws_turn.specs.Steps.{Agrees, handed_on}
+use Rattle.ws_turn.specs.Inside.Steps.{Agrees, handed_on}
 use Rattle.ws_turn.proofs.Passes.{agrees_on}
 use Rattle.ws_turn.proofs.steps.hand_back.Goals as goal
 

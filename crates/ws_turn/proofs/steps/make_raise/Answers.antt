@@ -1,8 +1,8 @@
 use Rattle.std.proofs.Common.{rules, subst, sym, Option}
 use Rattle.atomic_table.specs.Table.{Allows, step}
 use mathlib.Core.Option.{none}
-use Rattle.ws_turn.specs.Turn.{Turn}
-use Rattle.ws_turn.specs.Steps.{Raises}
+use Rattle.ws_turn.specs.Inside.Turn.{Turn}
+use Rattle.ws_turn.specs.Inside.Steps.{Raises}
 use Rattle.ws_turn.proofs.Value.{raises}
 use Rattle.ws_turn.proofs.steps.make_raise.Goals as goal
 

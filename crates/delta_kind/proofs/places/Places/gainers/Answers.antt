@@ -1,7 +1,7 @@
 use Rattle.std.proofs.Common.{map, ap, sym, subst, ◌∙◌}
 use Rattle.delta_kind.specs.declared.row.Turn.TheVariants.{Gained}
 use Rattle.delta_kind.specs.Rows.{shown}
-use Rattle.delta_kind.specs.Tables.{known}
+use Rattle.delta_kind.specs.Inside.Tables.{known}
 use Rattle.delta_kind.proofs.Table.{KeepingKnown, known_begins, known_row}
 use Rattle.delta_kind.proofs.places.Places.gainers.Goals as goal
 

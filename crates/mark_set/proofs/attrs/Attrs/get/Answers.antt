@@ -1,9 +1,10 @@
 use Rattle.std.proofs.Common.{ap, sym, ◌∙◌}
-use Rattle.std.specs.Cmp.Lexicographic.{nat_list_cmp_total}
-use Rattle.std.specs.FinMap.{slice_cmp-IsAntisymmetric, nat_cmp-IsAntisymmetric}
 use Rattle.std.specs.FinMap as map
-use Rattle.mark_set.proofs.Maps.{get_is}
+use Rattle.std.specs.FinMap.{find, get-from_sorted}
+use Rattle.mark_set.specs.Attributes.{text_cmp}
 use Rattle.mark_set.proofs.attrs.Attrs.get.Goals as goal
 
 pub returns : goal.returns
-returns c = c.get.ensures.value ∙ sym (get_is nat_list_cmp_total (slice_cmp-IsAntisymmetric nat_cmp-IsAntisymmetric) c.self.inside.values.entries c.args.name.now) ∙ ap (λ m. map.get m c.args.name.now) c.self.view_is
+returns c =
+    c.found.ensures ∙ ap (find text_cmp c.args.name.now) c.as_slice.ensures.value
+    ∙ sym (get-from_sorted text_cmp c.self.inside.values.items c.args.name.now c.self.invariant) ∙ ap (λ m. map.get m c.args.name.now) c.self.view_is

@@ -1,5 +1,5 @@
 use Rattle.std.proofs.Common.{◌∙◌}
-use Rattle.res_path.specs.Order.{text_prefix}
+use Rattle.res_path.specs.Inside.Order.{text_prefix}
 use Rattle.res_path.proofs.Compared.{text_prefix-slashed}
 use Rattle.res_path.proofs.path.Path.is_prefix_of.Goals as goal
 

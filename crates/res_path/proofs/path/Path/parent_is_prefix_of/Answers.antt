@@ -1,6 +1,6 @@
 use Rattle.std.proofs.Common.{◌∙◌}
 use Rattle.res_path.specs.Paths.{parent}
-use Rattle.res_path.specs.Order.{text_prefix}
+use Rattle.res_path.specs.Inside.Order.{text_prefix}
 use Rattle.res_path.proofs.Compared.{text_prefix-slashed}
 use Rattle.res_path.proofs.path.Path.parent_is_prefix_of.Goals as goal
 

@@ -1,5 +1,5 @@
 use Rattle.std.proofs.Common.{◌∙◌}
-use Rattle.res_path.specs.Order.{text_cmp}
+use Rattle.res_path.specs.Inside.Order.{text_cmp}
 use Rattle.res_path.proofs.Compared.{text_cmp-slashed}
 use Rattle.res_path.proofs.path.PathOrd.cmp.Goals as goal
 

@@ -4,7 +4,7 @@ use Rattle.std.specs.BTreeMap.Range.{range_contains}
 use Rattle.std.specs.declared.ops.Bound.TheVariants.{Included, Unbounded}
 use Rattle.std.proofs.lemmas.Result.{IfOk-weaker}
 use Rattle.res_path.specs.Paths.{path_cmp, is_prefix}
-use Rattle.ws_elem.specs.Slots.{filled}
+use Rattle.ws_elem.specs.Inside.Slots.{filled}
 use Rattle.ws_elem.specs.Trees.{paths_below}
 use Rattle.ws_elem.proofs.Cuts.{below_is}
 use Rattle.ws_elem.proofs.Filled.{sorted_filled, keys-tree_of, filled_filter}

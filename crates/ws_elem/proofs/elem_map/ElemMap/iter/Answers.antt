@@ -1,6 +1,6 @@
 use Rattle.std.proofs.Common.{ap, sym, ◌∙◌}
 use Rattle.std.specs.FinMap as map
-use Rattle.ws_elem.specs.Slots.{filled}
+use Rattle.ws_elem.specs.Inside.Slots.{filled}
 use Rattle.ws_elem.proofs.Filled.{entries-tree_of, filter_all}
 use Rattle.ws_elem.proofs.elem_map.ElemMap.iter.Goals as goal
 

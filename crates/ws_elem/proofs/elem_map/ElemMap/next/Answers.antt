@@ -3,7 +3,7 @@ use Rattle.std.specs.Prelude.{find}
 use Rattle.std.specs.BTreeMap.Range.{range_contains}
 use Rattle.std.specs.declared.ops.Bound.TheVariants.{Excluded, Unbounded}
 use Rattle.res_path.specs.Paths.{path_cmp}
-use Rattle.ws_elem.specs.Slots.{filled}
+use Rattle.ws_elem.specs.Inside.Slots.{filled}
 use Rattle.ws_elem.specs.Trees.{entry_after}
 use Rattle.ws_elem.proofs.Cuts.{next_is}
 use Rattle.ws_elem.proofs.Filled.{entries-tree_of, filled_filter}

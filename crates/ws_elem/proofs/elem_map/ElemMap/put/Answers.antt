@@ -3,7 +3,7 @@ use Rattle.std.specs.Option.{option_flatten}
 use Rattle.std.specs.Prelude.{Result, Ok, Err, OnErr}
 use Rattle.std.specs.FinMap as map
 use Rattle.ws_elem.specs.Rooms.{has_room}
-use Rattle.ws_elem.specs.Slots.{IsKept}
+use Rattle.ws_elem.specs.Inside.Slots.{IsKept}
 use Rattle.ws_elem.proofs.Kept.{get-tree_of, after_put, kept_new, kept_over, no_slot, never_none}
 use Rattle.ws_elem.proofs.Filled.{len-tree_of}
 use Rattle.ws_elem.proofs.elem_map.ElemMap.put.Goals as goal

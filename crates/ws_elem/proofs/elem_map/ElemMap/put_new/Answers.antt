@@ -2,7 +2,7 @@ use Rattle.std.proofs.Common.{◌≡◌, ◌≤◌, ◌<◌, ◌+◌, ℕ, arith
 use Rattle.std.specs.Prelude.{not}
 use Rattle.std.specs.FinMap as map
 use Rattle.ws_elem.specs.Rooms.{with_room}
-use Rattle.ws_elem.specs.Slots.{IsKept}
+use Rattle.ws_elem.specs.Inside.Slots.{IsKept}
 use Rattle.ws_elem.specs.Trees.{with_new}
 use Rattle.ws_elem.proofs.Kept.{after_fill, kept_filled, kept_unfilled, kept_same, fills_is, room_undone, room_added, room_same}
 use Rattle.ws_elem.proofs.Filled.{len-tree_of}

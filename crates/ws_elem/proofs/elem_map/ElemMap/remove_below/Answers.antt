@@ -1,5 +1,5 @@
 use Rattle.std.proofs.Common.{ap, ◌∙◌}
-use Rattle.ws_elem.specs.Walks.{without_all}
+use Rattle.ws_elem.specs.Inside.Walks.{without_all}
 use Rattle.ws_elem.proofs.Cuts.{without_is}
 use Rattle.ws_elem.proofs.elem_map.ElemMap.remove_below.Goals as goal
 

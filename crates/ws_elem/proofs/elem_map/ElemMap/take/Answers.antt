@@ -1,6 +1,6 @@
 use Rattle.std.proofs.Common.{ap, sym, subst, ◌∙◌}
 use Rattle.std.specs.FinMap as map
-use Rattle.ws_elem.specs.Slots.{SetsSlot, emptied}
+use Rattle.ws_elem.specs.Inside.Slots.{SetsSlot, emptied}
 use Rattle.ws_elem.proofs.Kept.{get-tree_of, after_take, kept_taken, kept_none, some_taken}
 use Rattle.ws_elem.proofs.elem_map.ElemMap.take.Goals as goal
 

@@ -1,5 +1,5 @@
 use Rattle.std.proofs.Common.{◌≡◌, drop}
-use Rattle.ws_elem.specs.Walks.{without_all}
+use Rattle.ws_elem.specs.Inside.Walks.{without_all}
 use Rattle.ws_elem.proofs.elem_map.ElemMap.take_all.Given as goal
 
 -- the tree without the paths that are left

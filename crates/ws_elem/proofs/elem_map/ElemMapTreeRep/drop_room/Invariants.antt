@@ -1,5 +1,5 @@
 use Rattle.std.proofs.Common.{◌≡◌, length}
-use Rattle.ws_elem.specs.Slots.{tree_of, IsKept}
+use Rattle.ws_elem.specs.Inside.Slots.{tree_of, IsKept}
 use Rattle.ws_elem.proofs.elem_map.ElemMapTreeRep.drop_room.Given as goal
 
 abbrev pub invariant-loop-path : goal.invariant-loop-path

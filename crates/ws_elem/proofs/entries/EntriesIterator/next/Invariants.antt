@@ -1,5 +1,5 @@
 use Rattle.std.proofs.Common.{◌≡◌, length}
-use Rattle.ws_elem.specs.Slots.{filled}
+use Rattle.ws_elem.specs.Inside.Slots.{filled}
 use Rattle.ws_elem.proofs.entries.EntriesIterator.next.Given as goal
 
 abbrev pub invariant-loop-path : goal.invariant-loop-path

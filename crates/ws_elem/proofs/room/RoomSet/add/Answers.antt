@@ -1,6 +1,6 @@
 use Rattle.std.proofs.Common.{true, ◌∷◌, ap, sym, ◌∙◌, subst}
 use Rattle.std.specs.Prelude.{not}
-use Rattle.ws_elem.specs.Slots.{one_and, SetsRoom}
+use Rattle.ws_elem.specs.Inside.Slots.{one_and, SetsRoom}
 use Rattle.ws_elem.proofs.Apart.{sets_again, sets_one}
 use Rattle.ws_elem.proofs.room.RoomSet.add.Goals as goal
 

@@ -1,6 +1,6 @@
 use Rattle.std.proofs.Common.{◌≡◌, false, ◌∷◌, sym, ap, ◌∙◌, subst}
 use Rattle.std.specs.Prelude.{IfSome}
-use Rattle.ws_elem.specs.Slots.{is_among, one_and, SetsRoom}
+use Rattle.ws_elem.specs.Inside.Slots.{is_among, one_and, SetsRoom}
 use Rattle.ws_elem.proofs.Apart.{takes_one}
 use Rattle.ws_elem.proofs.room.RoomSet.pop.Goals as goal
 

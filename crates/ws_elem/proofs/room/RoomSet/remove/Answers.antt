@@ -1,5 +1,5 @@
 use Rattle.std.proofs.Common.{false, sym, ◌∙◌, subst}
-use Rattle.ws_elem.specs.Slots.{one_and, SetsRoom}
+use Rattle.ws_elem.specs.Inside.Slots.{one_and, SetsRoom}
 use Rattle.ws_elem.proofs.Apart.{takes_apart, takes_other}
 use Rattle.ws_elem.proofs.room.RoomSet.remove.Goals as goal
 

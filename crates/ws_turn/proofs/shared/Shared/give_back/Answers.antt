@@ -1,5 +1,5 @@
 use Rattle.std.proofs.Common.{rules, ◌≡◌, ℕ, List, [], ◌++◌, false, length, is_some, ap, ◌∙◌, sym, Some, append-nil}
-use Rattle.ws_turn.specs.Steps.{in_hand, own}
+use Rattle.ws_turn.specs.Inside.Steps.{in_hand, own}
 use Rattle.ws_turn.specs.Passes.{Known}
 use Rattle.ws_turn.proofs.Passes.{may_raise, hand_of, sight}
 use Rattle.ws_turn.proofs.shared.Shared.give_back.Goals as goal

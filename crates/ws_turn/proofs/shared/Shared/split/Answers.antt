@@ -2,7 +2,7 @@ use Rattle.std.proofs.Common.{rules, ◌≡◌, Bool, true, List, ◌∷◌, ◌
 use Rattle.std.proofs.lemmas.List.{append_cancel_left}
 use Rattle.ws_turn.specs.Lists.{of, put_before}
 use Rattle.ws_turn.proofs.Seats.{forks}
-use Rattle.ws_turn.specs.Steps.{own, forked}
+use Rattle.ws_turn.specs.Inside.Steps.{own, forked}
 use Rattle.ws_turn.specs.Passes.{Known}
 use Rattle.ws_turn.proofs.Passes.{may_raise, entered, one_of_one, sight}
 use Rattle.ws_turn.proofs.shared.Shared.split.Goals as goal

@@ -1,0 +1,4 @@
+pub mod Cases
+pub mod ChangedWhere
+pub mod Looks
+pub mod PathsBelow

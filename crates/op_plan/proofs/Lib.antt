@@ -1,0 +1,13 @@
+pub mod Above
+pub mod BadValues
+pub mod Carried
+pub mod Causes
+pub mod Effected
+pub mod Lost
+pub mod Made
+pub mod Named
+pub mod Opened
+pub mod Planned
+pub mod Reached
+pub mod Skipped
+pub mod Walked

@@ -1,0 +1,13 @@
+pub mod SoundCarried
+pub mod SoundChange
+pub mod SoundCopy
+pub mod SoundCreate
+pub mod SoundFresh
+pub mod SoundGrafts
+pub mod SoundKept
+pub mod SoundMove
+pub mod SoundNotes
+pub mod SoundOpen
+pub mod SoundParts
+pub mod SoundStamps
+pub mod SoundSteps

@@ -1,0 +1,3 @@
+-- Lemmas on which the laws of atoms rest.
+pub mod Prefixes
+pub mod RangeLaws

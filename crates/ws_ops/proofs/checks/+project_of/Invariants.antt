@@ -1,5 +1,0 @@
-use Rattle.std.proofs.Common.{length}
-use Rattle.ws_ops.proofs.checks.+project_of.Given as goal
-
-abbrev pub decreases-project_of : goal.decreases-project_of
-decreases-project_of l = length l.path.now

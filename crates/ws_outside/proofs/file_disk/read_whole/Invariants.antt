@@ -1,5 +1,0 @@
-use Rattle.std.proofs.Common.{◌≤◌, length}
-use Rattle.ws_outside.proofs.file_disk.read_whole.Given as goal
-
-abbrev pub invariant-loop : goal.invariant-loop
-invariant-loop l = l.count ≤ length l.buf
