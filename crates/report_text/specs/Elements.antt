@@ -10,7 +10,7 @@ use Rattle.mark_set.specs.declared.value.Value.TheVariants.{Int, Bool, Text}
 use Rattle.sync_set.specs.Syncs.{Syncs}
 use Rattle.ws_elem.specs.Kinds.{kind_word}
 use Rattle.ws_elem.specs.declared.element.Element.{Element}
-use Rattle.script_lang.specs.Words.{word_text}
+use Rattle.script_words.specs.Words.{word_text}
 
 abbrev pub switch : Truth → List ℕ
 switch on = if on then codes "on" else codes "off"

@@ -3,7 +3,7 @@ use Rattle.std.specs.Prelude.{ℕ, List, [], ◌∷◌, ◌++◌, codes, decimal
 use Rattle.std.specs.List.{flat_map}
 use Rattle.sched_rules.specs.declared.ws_atom.WsAtom.{WsAtom}
 use Rattle.sched_rules.specs.declared.ws_atom.WsAtom.TheVariants.{Path, Mutex, Lines}
-use Rattle.script_lang.specs.Words.{word_text}
+use Rattle.script_words.specs.Words.{word_text}
 use Rattle.report_text.specs.Words.{path_word}
 
 -- an atom as a script has it

@@ -7,7 +7,7 @@ use Rattle.res_path.specs.Paths.{Names, is_prefix, path_text}
 use Rattle.ws_elem.specs.Kinds.{kind_word, is_file}
 use Rattle.ws_elem.specs.Trees.{Tree}
 use Rattle.ws_elem.specs.declared.element.Element.{Element}
-use Rattle.script_lang.specs.Words.{word_text}
+use Rattle.script_words.specs.Words.{word_text}
 use Rattle.report_text.specs.Words.{hexadecimal}
 
 -- names joined by slashes, a full stop where there are none

@@ -10,7 +10,7 @@ ghost use Rattle.report_text.specs.Trees.{names_text, relative_text, contents_wo
 use crate::NoMemory;
 use crate::put::{put_counted, put_hexadecimal, put_text};
 use res_path::Path;
-use script_lang::put_word;
+use script_words::put_word;
 use sha2::{Digest, Sha256};
 use std::alloc::Global;
 use ws_elem::{ElemMap, Element};

@@ -4,7 +4,7 @@ ghost use Rattle.std.specs.FinMap.{get, entries};
 ghost use Rattle.std.specs.List.{flat_map};
 ghost use Rattle.std.specs.Option.{option_copied};
 ghost use Rattle.mark_set.specs.declared.value.Value.TheVariants as value;
-ghost use Rattle.script_lang.specs.Words.{word_text};
+ghost use Rattle.script_words.specs.Words.{word_text};
 ghost use Rattle.report_text.specs.Elements.{switch, contents_text, switches_text, counts_text, value_text, attribute_text, marker_text, marks_text, partner_name, syncs_text, shown_text};
 
 use crate::NoMemory;

@@ -15,8 +15,6 @@ mod delta_text;
 mod element_text;
 mod put;
 mod rule_text;
-#[cfg(test)]
-mod tests;
 
 pub use branch_text::{digest_text, put_tree_line, tree_lines, tree_text};
 pub use delta_text::{delta_lines, put_node};

@@ -1,29 +1,18 @@
 //! Texts are gathered.
-ghost use Rattle.std.specs.Prelude.{◌≡◌, ◌<◌, ◌++◌, decimal, OnOk};
-ghost use Rattle.std.specs.Char.{digit_char};
-ghost use Rattle.script_lang.specs.Words.{word_text};
+ghost use Rattle.std.specs.Prelude.{◌≡◌, ◌++◌, decimal, OnOk};
+ghost use Rattle.script_words.specs.Words.{word_text};
 ghost use Rattle.report_text.specs.Words.{path_word, hexadecimal};
 
 use crate::NoMemory;
 use itoa::Buffer;
 use res_path::Path;
-use script_lang::put_word;
-
-/// Appends the bytes.
-pub(crate) fn put(out: &mut Vec<u8>, bytes: &[u8]) -> Result<(), NoMemory>
-    ensures { OnOk result (out.new.items ≡ out.old.items ++ bytes.now) }
-{
-    match out.extend_from_slice(bytes) {
-        Ok(_) => Ok(()),
-        Err(error) => Err(error),
-    }
-}
+use script_words::{hex_digit, put_bytes, put_word};
 
 /// Appends the text.
 pub fn put_text(out: &mut Vec<u8>, text: &str) -> Result<(), NoMemory>
     ensures { OnOk result (out.new.items ≡ out.old.items ++ text.now) }
 {
-    put(out, text.as_bytes())
+    put_bytes(out, text.as_bytes())
 }
 
 /// Appends the number in decimal.
@@ -62,14 +51,7 @@ pub(crate) fn put_hexadecimal(out: &mut Vec<u8>, bytes: &[u8]) -> Result<(), NoM
     ensures { OnOk result (out.new.items ≡ out.old.items ++ hexadecimal bytes.now) }
 {
     for b in bytes {
-        put(out, &[hex_digit(b / 16), hex_digit(b % 16)])?;
+        put_bytes(out, &[hex_digit(b / 16), hex_digit(b % 16)])?;
     }
     Ok(())
-}
-
-fn hex_digit(d: u8) -> u8
-    requires { d < 16 }
-    ensures { result ≡ digit_char d }
-{
-    if d < 10 { b'0' + d } else { 87 + d }
 }

@@ -15,12 +15,12 @@ use Rattle.op_kind.specs.declared.op.Want.{Want}
 use Rattle.op_kind.specs.declared.op.Want.TheVariants.{Show, Cat, Tree, Digest}
 use Rattle.op_kind.specs.declared.refusal.OpRefusal.{OpRefusal}
 use Rattle.op_kind.specs.declared.refusal.OpRefusal.TheVariants as ops
-use Rattle.script_lang.specs.Words.{word_text}
+use Rattle.script_words.specs.Words.{word_text}
 use Rattle.report_text.specs.Words.{path_word}
 use Rattle.report_text.specs.Elements.{shown_text}
 use Rattle.report_text.specs.Rules.{rule_words}
 use Rattle.report_text.specs.Trees.{digest_text}
-use Rattle.script_lang.specs.Scripts.{operation_text}
+use Rattle.script_ops.specs.Operations.{operation_text}
 use Rattle.core_event.specs.declared.event.Event.{Event}
 use Rattle.core_event.specs.declared.event.Event.TheVariants.{Enter, Leave, Schedule, Take, Finish, Begin, TryBegin, End, Batch, EndBatch, Checkpoint, Operation}
 use Rattle.core_event.specs.declared.reply.Refusal.{Refusal}

@@ -8,7 +8,7 @@ use crate::read_text::put_seen;
 use crate::refusal_text::put_refused;
 use core_event::{Answer, Entry, Event};
 use report_text::{put_counted, put_text};
-use script_lang::put_word;
+use script_words::put_word;
 
 fn put_answer(out: &mut Vec<u8>, event: &Event, answer: &Answer) -> Result<(), NoMemory>
     ensures { OnOk result (out.new.items ≡ out.old.items ++ answer_text event.now answer.now) }

@@ -2,12 +2,12 @@
 ghost use Rattle.std.specs.Prelude.{◌≡◌, ◌++◌, codes, decimal, OnOk};
 ghost use Rattle.report_text.specs.Rules.{rule_words};
 ghost use Rattle.run_text.specs.Replies.{event_text};
-ghost use Rattle.script_lang.specs.Words.{word_text};
+ghost use Rattle.script_words.specs.Words.{word_text};
 
 use crate::NoMemory;
 use core_event::{Event, WsRule};
 use report_text::{put_counted, put_named, put_rule, put_text};
-use script_lang::put_operation;
+use script_ops::put_operation;
 
 /// Appends a text and the words of a rule.
 pub(crate) fn put_ruled(out: &mut Vec<u8>, before: &str, rule: &WsRule) -> Result<(), NoMemory>

@@ -10,7 +10,7 @@ use core_event::Event;
 use op_kind::{Entries, Op, Partners, Want};
 use report_text::{digest_text, put_number, put_path, put_shown, put_text};
 use res_path::{Name, Path};
-use script_lang::put_word;
+use script_words::put_word;
 use ws_elem::Element;
 
 /// Appends what was asked of an element and its path.

@@ -1,21 +1,7 @@
-pub mod Items
-pub mod Tokens
-pub mod Lined
-pub mod Grown
-pub mod Quoting
-pub mod Printed
-pub mod Taking
 mod Worked
-pub mod Fitting
-pub mod Numbers
 pub mod Coded
-pub mod Fronts
 pub mod Begun
-pub mod Verbs
-pub mod Ruled
 pub mod Runs
 pub mod Spelling
 pub mod Whole
 pub mod Texts
-pub mod Spaced
-pub mod Places

@@ -15,7 +15,7 @@ use Rattle.script_lang.specs.declared.progress.Place.{Place}
 use Rattle.script_lang.specs.declared.progress.Place.TheVariants.{Outside, BeforeJob, WithinJob, AfterJob}
 use Rattle.script_lang.specs.declared.progress.Progress.{Progress}
 use Rattle.script_lang.specs.Scripts.{job_lines, phase_lines, HasOneJob}
-use Rattle.script_lang.specs.Reading.{goes, place_lines, read_lines}
+use Rattle.script_lang.specs.inside.Reading.{goes, place_lines, read_lines}
 
 -- a phase begins with a job
 pub no_job : (phases : List Phase) (line : Line) → ((name : List ℕ) (priority : Priority) (rule : List WsAtom) → line ≡ BeginJob name priority rule → ⊥)

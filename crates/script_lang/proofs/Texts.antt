@@ -1,28 +1,21 @@
 -- The texts that are printed.
-use Rattle.std.proofs.Common.{◌≡◌, ℕ, ◌≤◌, List, [], ◌∷◌, ◌++◌, map, length, take, refl, sym, ◌∙◌, ap, subst, append_assoc, arith}
+use Rattle.std.proofs.Common.{◌≡◌, ℕ, List, [], ◌∷◌, ◌++◌, map, refl, sym, ◌∙◌, ap, subst, append_assoc}
 use Rattle.std.specs.Prelude.{IsTrue}
 use Rattle.std.specs.List.{flat_map, AllByRecursion}
 use Rattle.std.proofs.lemmas.Grind.{flat_map-append}
-use Rattle.std.proofs.Math.Seq.{take-length}
 use Rattle.script_lang.specs.declared.script.Command.{Command}
 use Rattle.script_lang.specs.declared.script.Job.{Job}
 use Rattle.script_lang.specs.declared.script.Phase.{Phase}
 use Rattle.script_lang.specs.declared.script.Script.{Script}
 use Rattle.script_lang.specs.declared.line.Line.{Line}
 use Rattle.script_lang.specs.declared.line.Line.TheVariants.{BeginPhase, BeginJob, InJob, EndJob, EndPhase}
-use Rattle.script_lang.specs.Lines.{lines_of, SpellsLines}
+use Rattle.script_words.specs.Lines.{lines_of, SpellsLines}
 use Rattle.script_lang.specs.Commands.{line_parts}
-use Rattle.script_lang.specs.Scripts.{HasOneJob, job_lines, phase_lines, script_lines, script_text, line_text, part_word, IsScript}
-use Rattle.script_lang.specs.Printed.{ended, IsLine, AreLines}
-use Rattle.script_lang.proofs.Printed.{has_no_line_feed, line_no_feed, lines_back}
+use Rattle.script_lang.specs.Scripts.{HasOneJob, job_lines, phase_lines, script_lines, script_text, line_text, IsScript}
+use Rattle.script_parts.specs.Parts.{part_word}
+use Rattle.script_lang.specs.inside.Printed.{ended, IsLine, AreLines}
+use Rattle.script_words.proofs.Printed.{has_no_line_feed, line_no_feed, lines_back}
 use Rattle.script_lang.proofs.Spelling.{line_tokens, spells_printed, says_printed}
-
--- what a loop has taken at its end
-pub whole_taken : {X : Type 0} (n : ℕ) (xs all : List X) → length xs ≤ n → n ≤ length xs → xs ≡ all → take n xs ≡ all
-whole_taken n xs all h g e = let end : n ≡ length xs = omega (arith, h, g) in ap (λ (n : ℕ). take n xs) end ∙ take-length xs ∙ e
-
-pub all_taken : {X : Type 0} (n : ℕ) (xs : List X) → length xs ≤ n → n ≤ length xs → take n xs ≡ xs
-all_taken n xs h g = whole_taken n xs xs h g refl
 
 ended-append : (a b : List Line) → ended (a ++ b) ≡ ended a ++ ended b
 ended-append a b = flat_map-append (λ (line : Line). line_text line ++ 10 ∷ []) a b

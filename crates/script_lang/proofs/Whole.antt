@@ -1,5 +1,5 @@
 -- What the reading of a text shows of its scripts and of its first bad line.
-use Rattle.std.proofs.Common.{◌≡◌, ◌⊎◌, inl, inr, ℕ, ◌+◌, ◌-◌, Bool, true, false, List, [], ◌∷◌, ◌++◌, map, length, take, Some, None, Result, Err, refl, sym, ◌∙◌, ap, subst, append_assoc, append-nil, lit<, arith}
+use Rattle.std.proofs.Common.{◌≡◌, ◌⊎◌, inl, inr, ℕ, ◌+◌, ◌-◌, Bool, true, false, List, [], ◌∷◌, ◌++◌, map, length, take, Some, None, Result, Err, refl, sym, ◌∙◌, ap, subst, append_assoc, append-nil, arith}
 use Rattle.std.specs.Prelude.{MatchResult}
 use Rattle.std.specs.List.{flat_map, AllByRecursion}
 use Rattle.std.proofs.lemmas.List.{length-append}
@@ -7,22 +7,24 @@ use Rattle.std.proofs.Math.Seq.{take-append_seam, take-length}
 use Rattle.res_path.specs.Names.{IsName}
 use Rattle.script_lang.specs.declared.script.Phase.{Phase}
 use Rattle.script_lang.specs.declared.script.Script.{Script}
-use Rattle.script_lang.specs.declared.error.ScriptError.{ScriptError}
-use Rattle.script_lang.specs.declared.error.ScriptError.TheVariants.{BadLine, Memory}
+use Rattle.script_words.specs.declared.error.ScriptError.{ScriptError}
+use Rattle.script_words.specs.declared.error.ScriptError.TheVariants.{BadLine, Memory}
 use Rattle.script_lang.specs.declared.line.Line.{Line}
 use Rattle.script_lang.specs.declared.progress.Place.{Place}
 use Rattle.script_lang.specs.declared.progress.Place.TheVariants.{Outside, BeforeJob, WithinJob, AfterJob}
 use Rattle.script_lang.specs.declared.progress.Progress.{Progress}
-use Rattle.script_lang.specs.Words.{Token, SpellsLine}
-use Rattle.script_lang.specs.Lines.{lines_of, unskipped, SpellsEach, SpellsLines, TakesLine, next_number, Skips}
+use Rattle.script_words.specs.declared.words.Token.{Token}
+use Rattle.script_words.specs.Words.{SpellsLine}
+use Rattle.script_words.specs.Lines.{lines_of, unskipped, SpellsEach, SpellsLines}
+use Rattle.script_words.specs.inside.Passing.{TakesLine, next_number, Skips}
 use Rattle.script_lang.specs.Commands.{FitsLine}
 use Rattle.script_lang.specs.Scripts.{FitsLines, HasOneJob, phase_lines, script_lines, IsScriptOf, IsBeginning, IsFirstBad, line_text}
-use Rattle.script_lang.specs.Reading.{goes, place_lines, read_lines, SaysNext, Steps, IsStuck, IsWhole}
-use Rattle.script_lang.specs.Printed.{AreLines}
+use Rattle.script_lang.specs.inside.Reading.{goes, place_lines, read_lines, SaysNext, Steps, IsStuck, IsWhole}
+use Rattle.script_lang.specs.inside.Printed.{AreLines}
 use Rattle.script_lang.proofs.Runs.{runs, begun, runs-append, runs_script, runs_read, read_more, jobs_kept, closing, closes}
 use Rattle.script_lang.proofs.Coded.{same_line}
-use Rattle.script_lang.proofs.Lined.{keeps_line, unskipped_append}
-use Rattle.script_lang.proofs.Taking.{taken_kept, taken_tokens, spells_append, spells_rest, spells_none}
+use Rattle.script_words.proofs.Lined.{keeps_line, unskipped_append}
+use Rattle.script_words.proofs.Taking.{taken_kept, taken_tokens, spells_append, spells_rest, spells_none}
 use Rattle.script_lang.proofs.Spelling.{fits_append, fits_rest, AllSkipped, OneNext, next_line, line_tokens, spells_printed, says_printed}
 
 -- ---- what was read

@@ -1,10 +1,7 @@
--- The definitions at worked words.
-use Rattle.std.proofs.Common.{◌≡◌, true, false, [], ◌∷◌, refl, lit≤, arith}
+-- The definitions at worked scripts.
+use Rattle.std.proofs.Common.{◌≡◌, true, false, [], ◌∷◌, refl, arith}
 use Rattle.std.specs.Prelude.{codes, pos}
 use Rattle.std.specs.Fmt.{digits}
-use Rattle.std.specs.Str.Lossy.{utf8_valid_len}
-use Rattle.std.specs.Str.{is_utf8, chars}
-use lib.Utf8.{encode}
 use Rattle.sched_rules.specs.declared.ws_atom.WsAtom.TheVariants.{Path, Mutex, Lines}
 use Rattle.mark_set.specs.declared.value.RawValue.TheVariants.{Int}
 use Rattle.op_kind.specs.declared.op.Op.TheVariants.{CreateFile, CreateProject, Derived, Move, Describe, Mark, Read}
@@ -13,58 +10,10 @@ use Rattle.script_lang.specs.declared.script.Command.TheVariants.{Operation, Bat
 use Rattle.script_lang.specs.declared.script.Job.{Job}
 use Rattle.script_lang.specs.declared.script.Priority.TheVariants.{Long}
 use Rattle.script_lang.specs.declared.line.Line.TheVariants.{BeginPhase}
-use Rattle.script_lang.specs.Commands.{a_path, a_number, FitsPart, FitsParts, line_parts, rule_read}
+use Rattle.script_parts.specs.Parts.{a_path, a_number, FitsPart, FitsParts, rule_read}
+use Rattle.script_lang.specs.Commands.{line_parts}
 use Rattle.script_lang.specs.Scripts.{script_text, IsScript}
-use Rattle.script_lang.specs.Words.{Token, hexadecimal, SpellsLine, word_text}
-
--- ---- what lines spell
-
-two_bare : SpellsLine (codes "a b") (record { bare = true; word = codes "a" } ∷ record { bare = true; word = codes "b" } ∷ [])
-two_bare = record { texts = codes "a" ∷ codes "b" ∷ []; line_is = refl; spelled = ((refl, refl), ((refl, refl), tt)); some = λ e. cc }
-
-an_empty_word : SpellsLine (34 ∷ 34 ∷ []) (record { bare = false; word = [] } ∷ [])
-an_empty_word = record {
-  texts = (34 ∷ 34 ∷ []) ∷ [];
-  line_is = refl;
-  spelled = (([], refl, record { items = []; each = tt; inner_is = refl; word_is = refl }), tt);
-  some = λ e. cc;
-}
-
-two_bytes : SpellsLine (34 ∷ 92 ∷ 120 ∷ 48 ∷ 48 ∷ 92 ∷ 120 ∷ 102 ∷ 102 ∷ 34 ∷ []) (record { bare = false; word = 0 ∷ 255 ∷ [] } ∷ [])
-two_bytes = record {
-  texts = (34 ∷ 92 ∷ 120 ∷ 48 ∷ 48 ∷ 92 ∷ 120 ∷ 102 ∷ 102 ∷ 34 ∷ []) ∷ [];
-  line_is = refl;
-  spelled = ((92 ∷ 120 ∷ 48 ∷ 48 ∷ 92 ∷ 120 ∷ 102 ∷ 102 ∷ [], refl, record { items = hexadecimal 48 48 ∷ hexadecimal 102 102 ∷ []; each = ((refl, refl), ((refl, refl), tt)); inner_is = refl; word_is = refl }), tt);
-  some = λ e. cc;
-}
-
--- ---- what words are printed as
-
-bare : word_text (codes "a") ≡ codes "a"
-bare = refl
-
-empty : word_text [] ≡ 34 ∷ 34 ∷ []
-empty = refl
-
-spaced : word_text (codes "a b") ≡ 34 ∷ 97 ∷ 32 ∷ 98 ∷ 34 ∷ []
-unfolding utf8_valid_len is_utf8 chars encode
-spaced = refl
-
-bytes : word_text (0 ∷ 255 ∷ []) ≡ 34 ∷ 92 ∷ 120 ∷ 48 ∷ 48 ∷ 92 ∷ 120 ∷ 102 ∷ 102 ∷ 34 ∷ []
-unfolding utf8_valid_len is_utf8 chars encode
-bytes = refl
-
-accent : word_text (195 ∷ 169 ∷ []) ≡ 34 ∷ 195 ∷ 169 ∷ 34 ∷ []
-unfolding utf8_valid_len is_utf8 chars encode
-accent = refl
-
-quote : word_text (34 ∷ []) ≡ 34 ∷ 92 ∷ 34 ∷ 34 ∷ []
-unfolding utf8_valid_len is_utf8 chars encode
-quote = refl
-
-cut_short : word_text (226 ∷ 130 ∷ 110 ∷ 10 ∷ []) ≡ 34 ∷ 92 ∷ 120 ∷ 101 ∷ 50 ∷ 92 ∷ 120 ∷ 56 ∷ 50 ∷ 110 ∷ 92 ∷ 110 ∷ 34 ∷ []
-unfolding utf8_valid_len is_utf8 chars encode
-cut_short = refl
+use Rattle.script_words.specs.declared.words.Token.{Token}
 
 -- ---- scripts
 

@@ -1,9 +1,3 @@
-pub mod Words
-pub mod Quoted
-pub mod Tokens
-pub mod Lines
 pub mod Commands
-pub mod RuleLines
 pub mod Scripts
-pub mod Reading
-pub mod Printed
+pub mod inside

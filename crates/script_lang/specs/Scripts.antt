@@ -1,18 +1,16 @@
 -- Scripts, the texts that spell them, and the first bad line of a text that spells none.
-use Rattle.std.specs.Prelude.{◌≡◌, ℕ, ◌+◌, ◌-◌, ◌≤◌, List, [], ◌∷◌, ◌++◌, map, length, take, decimal}
-use Rattle.std.specs.Fmt.{signed_decimal}
-use Rattle.std.specs.List.{flat_map, join_with_byte, AllByRecursion}
-use Rattle.res_path.specs.Paths.{path_text}
-use Rattle.op_kind.specs.declared.op.Op.{Op}
+use Rattle.std.specs.Prelude.{◌≡◌, ℕ, ◌+◌, ◌-◌, ◌≤◌, List, [], ◌∷◌, ◌++◌, map, length, take}
+use Rattle.std.specs.List.{flat_map, AllByRecursion}
 use Rattle.script_lang.specs.declared.script.Command.{Command}
 use Rattle.script_lang.specs.declared.script.Job.{Job}
 use Rattle.script_lang.specs.declared.script.Phase.{Phase}
 use Rattle.script_lang.specs.declared.script.Script.{Script}
 use Rattle.script_lang.specs.declared.line.Line.{Line}
 use Rattle.script_lang.specs.declared.line.Line.TheVariants.{BeginPhase, BeginJob, InJob, EndJob, EndPhase}
-use Rattle.script_lang.specs.Words.{Word, Token, word_text}
-use Rattle.script_lang.specs.Lines.{lines_of, SpellsLines}
-use Rattle.script_lang.specs.Commands.{Part, keyword, a_number, an_integer, a_name, a_path, a_text, a_word, FitsLine, line_parts, command_parts, operation_parts}
+use Rattle.script_words.specs.declared.words.Token.{Token}
+use Rattle.script_words.specs.Lines.{lines_of, SpellsLines}
+use Rattle.script_lang.specs.Commands.{FitsLine, line_parts, command_parts}
+use Rattle.script_parts.specs.Parts.{parts_text}
 
 -- ---- the lines of a script
 
@@ -67,30 +65,12 @@ pub record IsFirstBad (bytes : List ℕ) (number : ℕ) : Type 0 where
 
 -- ---- how it is printed
 
--- the word that a part is
-abbrev pub part_word : Part → Word
-part_word (keyword text) = text
-part_word (a_number bits least number) = decimal number
-part_word (an_integer integer) = signed_decimal integer
-part_word (a_name name) = name
-part_word (a_path path) = path_text path
-part_word (a_text text) = text
-part_word (a_word word) = word
-
--- the words of the parts, with one space between
-abbrev pub parts_text : List Part → List ℕ
-parts_text parts = join_with_byte 32 (map word_text (map part_word parts))
-
 abbrev pub line_text : Line → List ℕ
 line_text line = parts_text (line_parts line)
 
 -- each line, with LF after it
 abbrev pub script_text : Script → List ℕ
 script_text script = flat_map (λ line. line_text line ++ 10 ∷ []) (script_lines script)
-
--- an operation's line, without its end
-abbrev pub operation_text : Op → List ℕ
-operation_text op = parts_text (operation_parts op)
 
 -- a command's line, without its end
 abbrev pub command_text : Command → List ℕ

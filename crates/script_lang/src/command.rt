@@ -2,17 +2,19 @@
 ghost use Rattle.std.specs.Prelude.{◌≡◌, ◌≢◌, [], true, IfOk, MatchOption};
 ghost use Rattle.script_lang.specs.declared.line.Line.TheVariants.{InJob};
 ghost use Rattle.script_lang.specs.declared.script.Command.TheVariants.{Operation};
-ghost use Rattle.script_lang.specs.Reading.{IsLineOf, begun_with, stands_alone, begins_operation};
+ghost use Rattle.script_lang.specs.inside.Reading.{IsLineOf};
+ghost use Rattle.script_lang.specs.Commands.{priority_word};
+ghost use Rattle.script_parts.specs.Parts.{keyword};
+ghost use Rattle.script_parts.specs.inside.Found.{IsPartFound};
+ghost use Rattle.script_ops.specs.inside.Verbs.{begun_with, stands_alone, begins_operation};
 
 use crate::NoMemory;
 use crate::line::Line;
-use crate::operations::operation_with;
-use crate::parts::{name_of, priority_of};
-use crate::rules::rule_of;
-use crate::script::Command;
-use crate::verb::{Verb, verb_of};
-use crate::words::Token;
+use crate::script::{Command, Priority};
 use op_kind::Op;
+use script_ops::{Verb, operation_with, verb_of};
+use script_parts::{is_key, name_of, rule_of};
+use script_words::Token;
 use std::alloc::Global;
 
 /// What a line of these words says, where a script may have it.
@@ -131,4 +133,26 @@ fn doing(op: Op) -> Line
     ensures { result ≡ InJob (Operation op) }
 {
     Line::InJob(Command::Operation(op))
+}
+
+/// The priority that the token is.
+fn priority_of(token: &Token) -> Option<Priority>
+    ensures { IsPartFound (λ priority. keyword (priority_word priority)) token.now result }
+{
+    if is_key(token, b"10") {
+        return Some(Priority::Interactive);
+    }
+    if is_key(token, b"20") {
+        return Some(Priority::Short);
+    }
+    if is_key(token, b"30") {
+        return Some(Priority::Long);
+    }
+    if is_key(token, b"40") {
+        return Some(Priority::Build);
+    }
+    if is_key(token, b"50") {
+        return Some(Priority::Decorate);
+    }
+    None
 }

@@ -1,29 +1,41 @@
 //! The script that a text spells.
 ghost use Rattle.std.specs.Prelude.{◌≡◌, ℕ, Err, IfOk, OnOk, MatchResult, IsTrue, ◌↔◌};
-ghost use Rattle.script_lang.specs.declared.error.ScriptError.TheVariants.{BadLine, Memory};
+ghost use Rattle.script_words.specs.declared.error.ScriptError.TheVariants.{BadLine, Memory};
 ghost use Rattle.script_lang.specs.declared.script.Script.{Script};
 ghost use Rattle.script_lang.specs.declared.progress.Progress.{Progress};
-ghost use Rattle.script_lang.specs.Lines.{lines_of, next_number, Skips};
+ghost use Rattle.script_words.specs.Lines.{lines_of};
+ghost use Rattle.script_words.specs.inside.Passing.{next_number, Skips};
 ghost use Rattle.script_lang.specs.Scripts.{IsScript, IsFirstBad};
-ghost use Rattle.script_lang.specs.Reading.{Advances, SaysNext, Steps, IsStuck, IsWhole};
+ghost use Rattle.script_words.specs.inside.Counts.{Advances};
+ghost use Rattle.script_lang.specs.inside.Reading.{SaysNext, Steps, IsStuck, IsWhole};
 
 use crate::ScriptError;
 use crate::command::line_of;
 use crate::line::Line;
 use crate::progress::Progress;
-use crate::reader::Reader;
 use crate::script::Script;
-use crate::words::Token;
 use bytes::Bytes;
+use script_words::{Reader, Token};
 use std::alloc::Global;
 
 /// The script that the text spells. Refused with the number of the first bad line where it spells none: the first
 /// one at which no continuation could make the lines so far the beginning of a script; one past the last where the
-/// text ends too early. Lines are counted from 1, also those that are skipped. The words share the text's bytes but
-/// for those with escapes, for a few common ones before a space, which take no memory, and for the texts of markers,
+/// text ends too early. Lines are counted from 1, also those that are skipped. The text is copied once; costs as
+/// `parse_shared`.
+pub fn parse(alloc: Global, text: &[u8]) -> Result<Script, ScriptError>
+    ensures found { IfOk result (IsScript text.now) }
+    ensures all { (script : Script) → IsScript text.now script → MatchResult result (λ found. found ≡ script) (λ e. e ≡ Memory) }
+    ensures bad { (number : ℕ) → result ≡ Err (BadLine number) → IsFirstBad text.now number }
+{
+    let text = Bytes::copy_from_slice(alloc, text)?;
+    parse_shared(alloc, text)
+}
+
+/// The script that the text spells, as by `parse`, without a copy of the text. The words share its bytes but for those
+/// with escapes, for a few common ones before a space, which take no memory, and for the texts of markers,
 /// which are copied. Costs one pass over the text, and for each atom of a rule one over the rule of the atoms
 /// before it.
-pub fn parse(alloc: Global, text: Bytes) -> Result<Script, ScriptError>
+pub fn parse_shared(alloc: Global, text: Bytes) -> Result<Script, ScriptError>
     ensures found { IfOk result (IsScript text) }
     ensures all { (script : Script) → IsScript text script → MatchResult result (λ found. found ≡ script) (λ e. e ≡ Memory) }
     ensures bad { (number : ℕ) → result ≡ Err (BadLine number) → IsFirstBad text number }

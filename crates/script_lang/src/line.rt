@@ -1,10 +1,10 @@
 //! What one line of a script says.
-use crate::ScriptRule;
 use crate::script::{Command, Priority};
 use res_path::Name;
+use script_parts::ScriptRule;
 
 /// What one line of a script says.
-#[derive(Debug, Drop)]
+#[derive(Drop)]
 pub enum Line {
     /// A phase begins.
     BeginPhase,

@@ -1,18 +1,18 @@
 //! The text of a script.
 ghost use Rattle.std.specs.Prelude.{◌≡◌, ◌++◌, [], ◌∷◌, IfOk, OnOk};
 ghost use Rattle.script_lang.specs.declared.line.Line.TheVariants.{BeginJob, InJob};
-ghost use Rattle.script_lang.specs.Words.{Grows};
-ghost use Rattle.script_lang.specs.Commands.{keyword, rule_parts, rule_read, command_parts, command_read};
-ghost use Rattle.script_lang.specs.Scripts.{IsScript, parts_text, script_text, operation_text, command_text, line_text, phase_lines, job_lines, HasOneJob};
-ghost use Rattle.script_lang.specs.Printed.{ended, AreParts, AreLines, IsLine};
+ghost use Rattle.script_words.specs.Words.{Grows};
+ghost use Rattle.script_lang.specs.Commands.{command_parts, command_read, priority_word};
+ghost use Rattle.script_lang.specs.Scripts.{IsScript, script_text, command_text, line_text, phase_lines, job_lines, HasOneJob};
+ghost use Rattle.script_parts.specs.Parts.{keyword, parts_text, rule_parts, rule_read};
+ghost use Rattle.script_lang.specs.inside.Printed.{ended, AreLines, IsLine};
+ghost use Rattle.script_parts.specs.inside.Printed.{AreParts};
 
-use crate::op_text::put_doing;
-use crate::part_text::{name_word, priority_word, put, put_three};
-use crate::rule_text::put_rule;
-use crate::script::{Command, Job, Phase, Script};
-use crate::word_text::put_word;
+use crate::script::{Command, Job, Phase, Priority, Script};
 use crate::{NoMemory, ScriptRule};
-use op_kind::Op;
+use script_ops::put_doing;
+use script_parts::{name_word, put_rule, put_three};
+use script_words::{put_bytes, put_word};
 use std::alloc::Global;
 
 /// The script's text, each line ended by LF. `parse` reads it as this script.
@@ -32,11 +32,11 @@ fn put_phase(out: &mut Vec<u8>, phase: &Phase) -> Result<(), NoMemory>
     ensures parts { OnOk result (AreLines (phase_lines phase.now)) }
     ensures single { OnOk result (HasOneJob phase.now) }
 {
-    put(out, b"phase\n")?;
+    put_bytes(out, b"phase\n")?;
     for job in phase.jobs.as_slice() {
         put_job(out, job)?;
     }
-    put(out, b"endphase\n")?;
+    put_bytes(out, b"endphase\n")?;
     Ok(())
 }
 
@@ -48,7 +48,7 @@ fn put_job(out: &mut Vec<u8>, job: &Job) -> Result<(), NoMemory>
     for command in job.commands.as_slice() {
         put_line(out, command)?;
     }
-    put(out, b"endjob\n")?;
+    put_bytes(out, b"endjob\n")?;
     Ok(())
 }
 
@@ -64,7 +64,7 @@ fn put_head(out: &mut Vec<u8>, job: &Job) -> Result<(), NoMemory>
         priority_word(job.priority),
     )?;
     put_rule(out, &job.rule)?;
-    put(out, b"\n")?;
+    put_bytes(out, b"\n")?;
     Ok(())
 }
 
@@ -74,7 +74,7 @@ fn put_line(out: &mut Vec<u8>, command: &Command) -> Result<(), NoMemory>
     ensures parts { OnOk result (IsLine (InJob command.now)) }
 {
     put_commanding(out, command)?;
-    put(out, b"\n")
+    put_bytes(out, b"\n")
 }
 
 /// Appends a command as a script has it, without an end of line. After want of memory a part of it may have been
@@ -86,15 +86,6 @@ pub fn put_command(out: &mut Vec<u8>, command: &Command) -> Result<(), NoMemory>
     put_commanding(out, command)
 }
 
-/// Appends an operation's command as a script has it, without an end of line. After want of memory a part of it may
-/// have been appended, and what stood there before stays in front.
-pub fn put_operation(out: &mut Vec<u8>, op: &Op) -> Result<(), NoMemory>
-    ensures text { OnOk result (out.new.items ≡ out.old.items ++ operation_text op.now) }
-    ensures kept { Grows out.old.items out.new.items }
-{
-    put_doing(out, op)
-}
-
 fn put_commanding(out: &mut Vec<u8>, command: &Command) -> Result<(), NoMemory>
     ensures text { OnOk result (out.new.items ≡ out.old.items ++ command_text command.now) }
     ensures kept { Grows out.old.items out.new.items }
@@ -103,9 +94,9 @@ fn put_commanding(out: &mut Vec<u8>, command: &Command) -> Result<(), NoMemory>
 {
     match command {
         Command::Operation(op) => put_doing(out, op),
-        Command::Batch => put(out, b"batch"),
-        Command::EndBatch => put(out, b"endbatch"),
-        Command::Checkpoint => put(out, b"checkpoint"),
+        Command::Batch => put_bytes(out, b"batch"),
+        Command::EndBatch => put_bytes(out, b"endbatch"),
+        Command::Checkpoint => put_bytes(out, b"checkpoint"),
         Command::Begin(rule) => put_ruled(out, b"begin", rule),
         Command::TryBegin(rule) => put_ruled(out, b"trybegin", rule),
         Command::End(rule) => put_ruled(out, b"end", rule),
@@ -122,4 +113,16 @@ fn put_ruled(out: &mut Vec<u8>, verb: &[u8], rule: &ScriptRule) -> Result<(), No
     put_word(out, verb)?;
     put_rule(out, rule)?;
     Ok(())
+}
+
+fn priority_word(priority: Priority) -> &'static [u8]
+    ensures { result.now ≡ priority_word priority }
+{
+    match priority {
+        Priority::Interactive => b"10",
+        Priority::Short => b"20",
+        Priority::Long => b"30",
+        Priority::Build => b"40",
+        Priority::Decorate => b"50",
+    }
 }

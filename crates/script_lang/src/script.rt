@@ -1,15 +1,16 @@
 //! Scripts: phases of jobs of commands.
-ghost use Rattle.std.specs.Prelude.{◌≡◌, ◌++◌, ◌∷◌, [], length, IfOk, OnOk};
+ghost use Rattle.std.specs.Prelude.{◌≡◌, ◌++◌, ◌∷◌, [], length, IfOk, OnOk, OnErr};
 ghost use Rattle.script_lang.specs.Commands.{priority_number};
 
-use crate::{NoMemory, ScriptRule};
+use crate::NoMemory;
 use op_kind::Op;
 use res_path::Name;
+use script_parts::ScriptRule;
 use std::alloc::Global;
 use std::marker::Model;
 
 /// One command of a job.
-#[derive(Debug, Drop)]
+#[derive(Drop)]
 pub enum Command {
     /// An operation on resources is done.
     Operation(Op),
@@ -28,7 +29,7 @@ pub enum Command {
 }
 
 /// Commands in the order in which they are run. A contract sees the list.
-#[derive(Debug, Drop)]
+#[derive(Drop)]
 pub struct Commands {
     items: Vec<Command>,
 }
@@ -52,9 +53,10 @@ impl Commands {
         }
     }
 
-    /// One more command, after the others.
+    /// One more command, after the others. After want of memory the commands are as they were.
     pub fn push(&mut self, command: Command) -> Result<(), NoMemory>
-        ensures { OnOk result (self.new ≡ self.old ++ command ∷ []) }
+        ensures ok { OnOk result (self.new ≡ self.old ++ command ∷ []) }
+        ensures err { OnErr result (self.new ≡ self.old) }
     {
         self.items.push(command)?;
         Ok(())
@@ -74,10 +76,19 @@ impl Commands {
         let Commands { items } = self;
         items
     }
+
+    /// Equal commands, which share their texts.
+    pub fn copy(&self) -> Result<Commands, NoMemory>
+        ensures { IfOk result (λ copy. copy ≡ self.now) }
+    {
+        Ok(Commands {
+            items: self.items.clone()?,
+        })
+    }
 }
 
 /// How urgent a job is: the less its number, the sooner it is taken.
-#[derive(Clone, Copy, Debug, PartialEq, Eq)]
+#[derive(Clone, Copy)]
 pub enum Priority {
     /// 10 (`Job.INTERACTIVE`).
     Interactive,
@@ -107,7 +118,7 @@ impl Priority {
 }
 
 /// A job: its name, its priority, the rule that it asks for and its commands.
-#[derive(Debug, Drop)]
+#[derive(Drop)]
 pub struct Job {
     pub name: Name,
     pub priority: Priority,
@@ -116,7 +127,7 @@ pub struct Job {
 }
 
 /// The jobs of a phase, in the order in which they are scheduled: one job. A contract sees the list.
-#[derive(Debug, Drop)]
+#[derive(Drop)]
 pub struct Jobs {
     items: Vec<Job>,
 }
@@ -158,16 +169,25 @@ impl Jobs {
         let Jobs { items } = self;
         items
     }
+
+    /// Equal jobs, which share their texts.
+    pub fn copy(&self) -> Result<Jobs, NoMemory>
+        ensures { IfOk result (λ copy. copy ≡ self.now) }
+    {
+        Ok(Jobs {
+            items: self.items.clone()?,
+        })
+    }
 }
 
 /// A phase: jobs that are run beside one another.
-#[derive(Debug, Drop)]
+#[derive(Drop)]
 pub struct Phase {
     pub jobs: Jobs,
 }
 
 /// The phases of a script, in the order in which they are run. A contract sees the list.
-#[derive(Debug, Drop)]
+#[derive(Drop)]
 pub struct Phases {
     items: Vec<Phase>,
 }
@@ -191,9 +211,10 @@ impl Phases {
         }
     }
 
-    /// One more phase, after the others.
+    /// One more phase, after the others. After want of memory the phases are as they were.
     pub fn push(&mut self, phase: Phase) -> Result<(), NoMemory>
-        ensures { OnOk result (self.new ≡ self.old ++ phase ∷ []) }
+        ensures ok { OnOk result (self.new ≡ self.old ++ phase ∷ []) }
+        ensures err { OnErr result (self.new ≡ self.old) }
     {
         self.items.push(phase)?;
         Ok(())
@@ -213,10 +234,19 @@ impl Phases {
         let Phases { items } = self;
         items
     }
+
+    /// Equal phases, which share their texts.
+    pub fn copy(&self) -> Result<Phases, NoMemory>
+        ensures { IfOk result (λ copy. copy ≡ self.now) }
+    {
+        Ok(Phases {
+            items: self.items.clone()?,
+        })
+    }
 }
 
 /// A script: phases, one after another.
-#[derive(Debug, Drop)]
+#[derive(Drop)]
 pub struct Script {
     pub phases: Phases,
 }

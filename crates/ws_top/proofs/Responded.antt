@@ -2,8 +2,8 @@
 use Rattle.std.proofs.Common.{◌≡◌, ◌≢◌, ◌⊎◌, inl, inr, ℕ, List, [], ◌∷◌, ◌++◌, map, Option, refl, sym, ◌∙◌, ap, subst}
 use Rattle.std.specs.Prelude.{Result, Ok, Err, MatchResult}
 use Rattle.script_lang.specs.declared.script.Script.{Script}
-use Rattle.script_lang.specs.declared.error.ScriptError.{ScriptError}
-use Rattle.script_lang.specs.declared.error.ScriptError.TheVariants.{BadLine, Memory}
+use Rattle.script_words.specs.declared.error.ScriptError.{ScriptError}
+use Rattle.script_words.specs.declared.error.ScriptError.TheVariants.{BadLine, Memory}
 use Rattle.script_lang.specs.Scripts.{IsScript, IsFirstBad}
 use Rattle.core_event.specs.declared.entry.Entry.{Entry}
 use Rattle.ws_core.specs.Sessions.{Session}

@@ -10,7 +10,7 @@ use crate::report::write_run;
 use bytes::Bytes;
 use report_text::{put_counted, put_text};
 use run_text::{Unwritten, write_all};
-use script_lang::{Script, ScriptError, parse};
+use script_lang::{Script, ScriptError, parse_shared};
 use std::alloc::Global;
 use ws_core::{Core, History};
 use ws_outside::Sink;
@@ -39,7 +39,7 @@ pub fn respond<K: Sink>(alloc: Global, sink: &mut K, bytes: Vec<u8>) -> Outcome
 fn respond_to<K: Sink>(alloc: Global, sink: &mut K, text: Bytes) -> Outcome
     ensures responds { Responds opened_state text (K.written sink.old) (K.written sink.new) (K.faults sink.old) (K.faults sink.new) result.status result.history }
 {
-    match parse(alloc, text) {
+    match parse_shared(alloc, text) {
         Ok(script) => perform(alloc, sink, script),
         Err(ScriptError::BadLine(line)) => say_bad_line(alloc, sink, line),
         Err(ScriptError::Memory) => want(alloc, sink),

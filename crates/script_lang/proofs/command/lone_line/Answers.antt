@@ -1,7 +1,7 @@
 use Rattle.std.proofs.Common.{refl}
 use Rattle.script_lang.specs.declared.line.Line.TheVariants.{BeginPhase, InJob, EndJob, EndPhase}
 use Rattle.script_lang.specs.declared.script.Command.TheVariants.{Batch, EndBatch, Checkpoint}
-use Rattle.script_lang.specs.declared.verb.Verb.TheVariants as verb
+use Rattle.script_ops.specs.declared.verb.Verb.TheVariants as verb
 use Rattle.script_lang.proofs.Begun.{alone_found, of_verb}
 use Rattle.script_lang.proofs.command.lone_line.Goals as goal
 

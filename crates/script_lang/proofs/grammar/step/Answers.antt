@@ -1,7 +1,7 @@
 use Rattle.std.proofs.Common.{Err, ap, sym, ◌∙◌}
 use Rattle.std.proofs.lemmas.Result.{err_from_is_err_and}
-use Rattle.script_lang.specs.declared.error.ScriptError.TheVariants.{BadLine}
-use Rattle.script_lang.specs.Lines.{lines_of}
+use Rattle.script_words.specs.declared.error.ScriptError.TheVariants.{BadLine}
+use Rattle.script_words.specs.Lines.{lines_of}
 use Rattle.script_lang.proofs.Whole.{barred, err_same, same_number}
 use Rattle.script_lang.proofs.grammar.step.Goals as goal
 

@@ -2,8 +2,9 @@ use Rattle.std.proofs.Common.{◌≡◌, ap, subst, sym, ◌∙◌}
 use Rattle.std.specs.List.{flat_map, AllByRecursion}
 use Rattle.script_lang.specs.declared.script.Phase.{Phase}
 use Rattle.script_lang.specs.Scripts.{phase_lines, script_text, HasOneJob}
-use Rattle.script_lang.specs.Printed.{ended, AreLines}
-use Rattle.script_lang.proofs.Texts.{whole_taken, whole_text, reads_back}
+use Rattle.script_lang.specs.inside.Printed.{ended, AreLines}
+use Rattle.script_parts.proofs.Spaced.{whole_taken}
+use Rattle.script_lang.proofs.Texts.{whole_text, reads_back}
 use Rattle.script_lang.proofs.printing.print.Goals as goal
 
 pub returns-clause-text : goal.returns-clause-text

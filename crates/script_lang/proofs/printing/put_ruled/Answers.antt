@@ -1,5 +1,5 @@
-use Rattle.script_lang.specs.Commands.{rule_parts}
-use Rattle.script_lang.proofs.Spaced.{one_word}
+use Rattle.script_parts.specs.Parts.{rule_parts}
+use Rattle.script_parts.proofs.Spaced.{one_word}
 use Rattle.script_lang.proofs.printing.put_ruled.Goals as goal
 
 pub returns-clause-text : goal.returns-clause-text

@@ -10,8 +10,8 @@ returns-in-Ok g c = record {
 pub returns-in-Err-BadLine : goal.returns-in-Err-BadLine
 returns-in-Err-BadLine g c = let bad = c.in-Err-BadLine.is ∙ ap Err c.in-Err-BadLine.field-0-is in record {
   responds = responds_bad c.args.text c.in-Err-BadLine.line (g.K.Sink.written c.args.sink.now) (g.K.Sink.written c.say_bad_line.new.sink) (g.K.Sink.faults c.args.sink.now) (g.K.Sink.faults c.say_bad_line.new.sink) c.say_bad_line.result.status c.say_bad_line.result.history
-      (none_spelled c.args.text c.parse.result c.in-Err-BadLine.line bad c.parse.ensures.all)
-      (c.parse.ensures.bad c.in-Err-BadLine.line bad)
+      (none_spelled c.args.text c.parse_shared.result c.in-Err-BadLine.line bad c.parse_shared.ensures.all)
+      (c.parse_shared.ensures.bad c.in-Err-BadLine.line bad)
       c.say_bad_line.ensures.told;
 }
 

@@ -1,4 +1,0 @@
-use Rattle.script_lang.proofs.op_text.put_clear_marks.Goals as goal
-
-pub returns-clause-text : goal.returns-clause-text
-returns-clause-text c = rw (← c.path_word.ensures.text, ← c.text_word.ensures.text, ← c.depth_word.ensures) c.in_ok-put_four.ensures.text

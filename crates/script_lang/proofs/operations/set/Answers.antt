@@ -1,5 +1,0 @@
-use Rattle.script_lang.proofs.Verbs.{no_change}
-use Rattle.script_lang.proofs.operations.set.Goals as goal
-
-pub returns-in-None : goal.returns-in-None
-returns-in-None c = no_change c.args.rest.now (rw c.in-None.is at c.in_ok-path_id_change.ensures)

@@ -1,6 +1,0 @@
-use Rattle.std.proofs.Common.{subst}
-use Rattle.script_lang.specs.Tokens.{StartsWithNone}
-use Rattle.script_lang.proofs.words.take_quoted.Goals as goal
-
-pub returns-in_default : goal.returns-in_default
-returns-in_default c = subst StartsWithNone c.replace-whole.ensures.value (rw c.in_default.is at c.in_ok-token.ensures)

@@ -1,0 +1,97 @@
+//! The words that lines begin with.
+ghost use Rattle.std.specs.Prelude.{◌≡◌, MatchOption};
+ghost use Rattle.script_ops.specs.declared.verb.Verb.{Verb};
+ghost use Rattle.script_parts.specs.Parts.{keyword};
+ghost use Rattle.script_parts.specs.inside.Found.{IsPartFound};
+ghost use Rattle.script_ops.specs.inside.Verbs.{verb_word};
+
+use script_words::Token;
+
+/// The word that a line begins with.
+#[derive(Clone, Copy)]
+pub enum Verb {
+    Phase,
+    EndPhase,
+    Job,
+    EndJob,
+    Batch,
+    EndBatch,
+    Checkpoint,
+    Begin,
+    TryBegin,
+    End,
+    Create,
+    Delete,
+    Write,
+    Touch,
+    Derived,
+    Move,
+    Copy,
+    Open,
+    Close,
+    Describe,
+    Mark,
+    Attr,
+    Unmark,
+    ClearMarks,
+    Partner,
+    Sync,
+    NoSync,
+    Flush,
+    Show,
+    Cat,
+    Tree,
+    Digest,
+}
+
+/// The verb that the token is.
+pub fn verb_of(token: &Token) -> Option<Verb>
+    ensures { IsPartFound (λ verb. keyword (verb_word verb)) token.now result }
+{
+    if token.bare {
+        verb_named(token.word.as_slice())
+    } else {
+        None
+    }
+}
+
+/// The verb with this name.
+fn verb_named(word: &[u8]) -> Option<Verb>
+    ensures { MatchOption result ((verb : Verb) → word.now ≡ verb_word verb → ⊥) (λ verb. word.now ≡ verb_word verb) }
+{
+    match word {
+        b"phase" => Some(Verb::Phase),
+        b"endphase" => Some(Verb::EndPhase),
+        b"job" => Some(Verb::Job),
+        b"endjob" => Some(Verb::EndJob),
+        b"batch" => Some(Verb::Batch),
+        b"endbatch" => Some(Verb::EndBatch),
+        b"checkpoint" => Some(Verb::Checkpoint),
+        b"begin" => Some(Verb::Begin),
+        b"trybegin" => Some(Verb::TryBegin),
+        b"end" => Some(Verb::End),
+        b"create" => Some(Verb::Create),
+        b"delete" => Some(Verb::Delete),
+        b"write" => Some(Verb::Write),
+        b"touch" => Some(Verb::Touch),
+        b"derived" => Some(Verb::Derived),
+        b"move" => Some(Verb::Move),
+        b"copy" => Some(Verb::Copy),
+        b"open" => Some(Verb::Open),
+        b"close" => Some(Verb::Close),
+        b"describe" => Some(Verb::Describe),
+        b"mark" => Some(Verb::Mark),
+        b"attr" => Some(Verb::Attr),
+        b"unmark" => Some(Verb::Unmark),
+        b"clearmarks" => Some(Verb::ClearMarks),
+        b"partner" => Some(Verb::Partner),
+        b"sync" => Some(Verb::Sync),
+        b"nosync" => Some(Verb::NoSync),
+        b"flush" => Some(Verb::Flush),
+        b"show" => Some(Verb::Show),
+        b"cat" => Some(Verb::Cat),
+        b"tree" => Some(Verb::Tree),
+        b"digest" => Some(Verb::Digest),
+        _ => None,
+    }
+}
