@@ -1,5 +1,5 @@
 -- A path without a node holds the same file bytes, or no file.
-use Rattle.std.proofs.Common.{◌≡◌, ℕ, ◌+◌, Bool, true, false, cond, not, ◌&&◌, List, [], ◌∷◌, refl, sym, ap, ◌∙◌, rules, arith}
+use Rattle.std.proofs.Common.{◌≡◌, ℕ, ◌+◌, Bool, true, false, cond, not, ◌&&◌, ◌||◌, List, [], ◌∷◌, refl, sym, ap, ◌∙◌, rules, arith}
 use Rattle.std.specs.Prelude.{Option, Some, None, IfSome, ◌==◌}
 use Rattle.std.specs.List.{list_any}
 use Rattle.std.specs.FinMap.{get}
@@ -19,11 +19,12 @@ use Rattle.delta_kind.proofs.Same.{untold_same}
 
 no_node : (p : Names) (nodes : List DeltaNode) → node_with p nodes ≡ None → list_any (path_eq p) (paths_of nodes) ≡ false
 no_node p [] h = refl
-no_node p (node ∷ nodes) h = by (path_eq p node.path) refl h
+no_node p (node ∷ nodes) h = by (λ k. no_node p nodes k) (path_eq p node.path) refl h
   where
-    by : (b : Bool) → path_eq p node.path ≡ b → cond b (Some node) (node_with p nodes) ≡ None → list_any (path_eq p) (paths_of (node ∷ nodes)) ≡ false
-    by true e g = cc
-    by false e g = ap (λ b. cond b true (list_any (path_eq p) (paths_of nodes))) e ∙ no_node p nodes g
+    by : (node_with p nodes ≡ None → list_any (path_eq p) (paths_of nodes) ≡ false)
+        → (b : Bool) → path_eq p node.path ≡ b → cond b (Some node) (node_with p nodes) ≡ None → list_any (path_eq p) (paths_of (node ∷ nodes)) ≡ false
+    by rest true e g = cc
+    by rest false e g = ap (λ b. b || list_any (path_eq p) (paths_of nodes)) e ∙ rest g
 
 -- ---- where a path doesn't differ, its contents stay
 

@@ -1,5 +1,6 @@
-//! One area of a disk: a gate, a header, an image and its records. Writing it leaves it readable, or closed, at every
-//! moment; reading it gives what it stands for, or its damage with its place.
+//! One area of a disk: a gate, a header, an image and its records. What is written is laid behind a shut gate, which is
+//! opened last, so that it is read whole or not at all after a crash; the write that shuts the gate of an area may leave
+//! any byte there, and else what stood. Reading an area gives what it stands for, or its damage with its place.
 #![tactic(auto)]
 
 mod damage;

@@ -11,8 +11,8 @@ use crate::image::{append, rewrite};
 use ws_outside::{Disk, Failed, Which};
 
 /// Writes a save with this number and image over an area. It closes the gate, lays the image behind it, cuts what stands
-/// behind that, and opens the gate, each followed by a sync: four syncs, and each byte is written once. With `closed` it
-/// leaves out the first write and its sync, which asks that every crash leaves a byte other than 01 at 0.
+/// behind that, and opens the gate, each followed by a sync: four syncs, and each byte behind the gate is written once.
+/// With `closed` it leaves out the first write and its sync, which asks that every crash leaves a byte other than 01 at 0.
 ///
 /// At every moment since the call began a crash leaves the other area as it would have been, and this one closed, or as
 /// this save, or, without `closed`, as it was but for its gate. After Ok it leaves this save. Fails exactly where the
