@@ -16,7 +16,7 @@ use ws_core::{Core, History};
 use ws_outside::Sink;
 
 /// What a run ended with.
-#[derive(Debug, Drop)]
+#[derive(Drop)]
 pub struct Outcome {
     /// 0; or 2 for words of no form, 3 for a failed read, 9 for too long a script, 6 for bytes that spell no script,
     /// 8 for want of memory, 4 for a failed write; the first of these that applies.
