@@ -6,7 +6,7 @@ use std::alloc::{AllocError, Global};
 use std::marker::Model;
 
 /// A value that is kept apart, so that what holds it is small. A contract sees the value.
-#[derive(Debug, Drop)]
+#[derive(Drop)]
 pub struct Apart<T> {
     value: Box<T>,
 }

@@ -8,7 +8,7 @@ use op_kind::Op;
 use res_path::{Name, NoMemory};
 
 /// What a pass may ask of the core.
-#[derive(Clone, Debug, Drop)]
+#[derive(Drop)]
 pub enum Event {
     /// A new pass enters, with the next number.
     Enter,
@@ -63,8 +63,59 @@ impl Event {
     pub fn copy(&self) -> Result<Event, NoMemory>
         ensures { IfOk result (λ copy. copy ≡ self.now) }
     {
-        self.clone()
+        match self {
+            Event::Enter => Ok(Event::Enter),
+            Event::Leave => Ok(Event::Leave),
+            Event::Schedule(name, priority, rule) => schedule(name, *priority, rule),
+            Event::Take => Ok(Event::Take),
+            Event::Finish => Ok(Event::Finish),
+            Event::Begin(rule) => begin(rule),
+            Event::TryBegin(rule) => try_begin(rule),
+            Event::End(rule) => end(rule),
+            Event::Batch => Ok(Event::Batch),
+            Event::EndBatch => Ok(Event::EndBatch),
+            Event::Checkpoint => Ok(Event::Checkpoint),
+            Event::Operation(op) => operation(op),
+        }
     }
+}
+
+impl Clone for Event {
+    ghost is_clone = { λ event copy. copy ≡ event };
+
+    fn clone(&self) -> Result<Event, NoMemory> {
+        self.copy()
+    }
+}
+
+fn schedule(name: &Name, priority: u8, rule: &WsRule) -> Result<Event, NoMemory>
+    ensures { IfOk result (λ copy. copy ≡ Event.Schedule name.now priority rule.now) }
+{
+    Ok(Event::Schedule(name.copy()?, priority, rule.copy()?))
+}
+
+fn begin(rule: &WsRule) -> Result<Event, NoMemory>
+    ensures { IfOk result (λ copy. copy ≡ Event.Begin rule.now) }
+{
+    Ok(Event::Begin(rule.copy()?))
+}
+
+fn try_begin(rule: &WsRule) -> Result<Event, NoMemory>
+    ensures { IfOk result (λ copy. copy ≡ Event.TryBegin rule.now) }
+{
+    Ok(Event::TryBegin(rule.copy()?))
+}
+
+fn end(rule: &WsRule) -> Result<Event, NoMemory>
+    ensures { IfOk result (λ copy. copy ≡ Event.End rule.now) }
+{
+    Ok(Event::End(rule.copy()?))
+}
+
+fn operation(op: &Op) -> Result<Event, NoMemory>
+    ensures { IfOk result (λ copy. copy ≡ Event.Operation op.now) }
+{
+    Ok(Event::Operation(op.copy()?))
 }
 
 /// The operation, unless it only reads.

@@ -6,10 +6,12 @@
 //! - `entry`: an `Entry`, one event with its reply.
 //! - `apart`: an `Apart`, a value that is kept apart from what holds it.
 //! - `numbers`: `Numbers`, passes by their numbers.
+//! - `batches`: `Batches`, how many batches each pass has open.
 //! - `waiting`: the job that waits.
 #![tactic(auto)]
 
 mod apart;
+mod batches;
 mod entry;
 mod event;
 mod notice;
@@ -18,6 +20,7 @@ mod reply;
 mod waiting;
 
 pub use apart::Apart;
+pub use batches::Batches;
 pub use entry::Entry;
 pub use event::Event;
 pub use notice::Notice;

@@ -1,5 +1,5 @@
 //! What an event tells.
-ghost use Rattle.std.specs.Prelude.{◌≡◌, IfOk, None as nothing};
+ghost use Rattle.std.specs.Prelude.{◌≡◌, IfOk, Some, None as nothing};
 ghost use Rattle.std.specs.Option.{option_copied};
 ghost use Rattle.core_event.specs.Replies.{some_nodes};
 
@@ -12,7 +12,7 @@ use std::marker::Model;
 /// optional list of nodes.
 ///
 /// Most events tell nothing, so a delta is kept apart: without one a notice is small and takes no memory.
-#[derive(Debug, Drop)]
+#[derive(Drop)]
 pub struct Notice {
     delta: Option<Box<Delta>>,
 }
@@ -60,4 +60,23 @@ impl Notice {
             Some(delta) => Some(delta.as_ref()),
         }
     }
+
+    /// An equal notice, whose paths share their texts.
+    pub fn copy(&self) -> Result<Notice, NoMemory>
+        ensures { IfOk result (λ copy. copy ≡ self.now) }
+    {
+        match &self.delta {
+            None => Ok(Notice::none()),
+            Some(delta) => copy_of(delta),
+        }
+    }
+}
+
+/// The notice of an equal delta.
+fn copy_of(delta: &Box<Delta>) -> Result<Notice, NoMemory>
+    ensures { IfOk result (λ copy. copy ≡ Some delta.now.value) }
+{
+    Ok(Notice {
+        delta: Some(delta.clone()?),
+    })
 }

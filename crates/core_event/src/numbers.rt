@@ -1,14 +1,13 @@
 //! Passes by their numbers.
-ghost use Rattle.std.specs.Prelude.{◌≡◌, ◌<◌, ◌==◌, [], ◌∷◌, ◌++◌, length, IfOk, IfSome, OnOk, OnErr};
-ghost use Rattle.std.specs.List.{list_all, position};
-ghost use Rattle.core_event.specs.Numbers.{has_number, without_number, without_newest, without_oldest, without_place};
+ghost use Rattle.std.specs.Prelude.{◌≡◌, ◌==◌, [], ◌∷◌, ◌++◌, length, IfOk, OnOk, OnErr};
+ghost use Rattle.core_event.specs.Numbers.{has_number, without_number};
 
 use res_path::NoMemory;
 use std::alloc::Global;
 use std::marker::Model;
 
 /// Numbers of passes, the oldest first; a number may come more than once. A contract sees the list.
-#[derive(Clone, Debug, Drop)]
+#[derive(Drop)]
 pub struct Numbers {
     numbers: Vec<u64>,
 }
@@ -59,13 +58,6 @@ impl Numbers {
         self.numbers.iter().any(|n| *n == number)
     }
 
-    /// Whether no other number is among them.
-    pub fn has_no_other(&self, number: u64) -> bool
-        ensures { result ≡ list_all (λ n. n == number) self.now }
-    {
-        self.numbers.iter().all(|n| *n == number)
-    }
-
     /// Adds the number as the newest.
     pub fn push(&mut self, number: u64) -> Result<(), NoMemory>
         ensures ok { OnOk result (self.new ≡ self.old ++ number ∷ []) }
@@ -82,45 +74,20 @@ impl Numbers {
         self.numbers.retain(|n| *n != number);
     }
 
-    /// Takes the newest of this number out, if there is one. It takes no memory.
-    pub fn remove_newest(&mut self, number: u64)
-        ensures { self.new ≡ without_newest number self.old }
-    {
-        self.numbers.reverse();
-        remove_first(&mut self.numbers, number);
-        self.numbers.reverse();
-    }
-
     /// Equal numbers.
     pub fn copy(&self) -> Result<Numbers, NoMemory>
         ensures { IfOk result (λ copy. copy ≡ self.now) }
     {
-        self.clone()
+        Ok(Numbers {
+            numbers: self.numbers.clone()?,
+        })
     }
 }
 
-/// Takes the first of this number out, if there is one.
-fn remove_first(numbers: &mut Vec<u64>, number: u64)
-    ensures { numbers.new.items ≡ without_oldest number numbers.old.items }
-{
-    let at = place_of(numbers.as_slice(), number);
-    remove_at(numbers, at);
-}
+impl Clone for Numbers {
+    ghost is_clone = { λ numbers copy. copy ≡ numbers };
 
-/// Where the first of this number stands.
-fn place_of(numbers: &[u64], number: u64) -> Option<usize>
-    ensures place { result ≡ position (λ n. n == number) numbers.now }
-    ensures inside { IfSome result (λ i. i < length numbers.now) }
-{
-    numbers.iter().position(|n| *n == number)
-}
-
-/// Takes the number at the place out, if one is given.
-fn remove_at(numbers: &mut Vec<u64>, at: Option<usize>)
-    requires { IfSome at (λ i. i < length numbers.old.items) }
-    ensures { numbers.new.items ≡ without_place numbers.old.items at }
-{
-    if let Some(at) = at {
-        numbers.remove(at);
+    fn clone(&self) -> Result<Numbers, NoMemory> {
+        self.copy()
     }
 }

@@ -8,7 +8,7 @@ use res_path::Name;
 use std::alloc::Global;
 
 /// Why an event is refused. A refused event changes nothing.
-#[derive(Clone, Debug, Drop)]
+#[derive(Drop)]
 pub enum Refusal {
     /// The operation is refused.
     Operation(OpRefusal),
@@ -43,10 +43,51 @@ impl Refusal {
             Refusal::NoBatch => 44,
         }
     }
+
+    /// An equal refusal, which shares its texts.
+    pub fn copy(&self) -> Result<Refusal, NoMemory>
+        ensures { IfOk result (λ copy. copy ≡ self.now) }
+    {
+        match self {
+            Refusal::Operation(refusal) => operation(refusal),
+            Refusal::NotContained(outer) => not_contained(outer),
+            Refusal::Conflict(holder, rule) => conflict(*holder, rule),
+            Refusal::NotLast(held) => Ok(Refusal::NotLast(*held)),
+            Refusal::HoldsNothing => Ok(Refusal::HoldsNothing),
+            Refusal::NumbersUsed => Ok(Refusal::NumbersUsed),
+            Refusal::NoBatch => Ok(Refusal::NoBatch),
+        }
+    }
+}
+
+impl Clone for Refusal {
+    ghost is_clone = { λ refusal copy. copy ≡ refusal };
+
+    fn clone(&self) -> Result<Refusal, NoMemory> {
+        self.copy()
+    }
+}
+
+fn operation(refusal: &OpRefusal) -> Result<Refusal, NoMemory>
+    ensures { IfOk result (λ copy. copy ≡ Refusal.Operation refusal.now) }
+{
+    Ok(Refusal::Operation(refusal.copy()?))
+}
+
+fn not_contained(outer: &WsRule) -> Result<Refusal, NoMemory>
+    ensures { IfOk result (λ copy. copy ≡ Refusal.NotContained outer.now) }
+{
+    Ok(Refusal::NotContained(outer.copy()?))
+}
+
+fn conflict(holder: u64, rule: &WsRule) -> Result<Refusal, NoMemory>
+    ensures { IfOk result (λ copy. copy ≡ Refusal.Conflict holder rule.now) }
+{
+    Ok(Refusal::Conflict(holder, rule.copy()?))
 }
 
 /// What an event is answered. What few answers have is kept apart, so that each answer is small.
-#[derive(Clone, Debug, Drop)]
+#[derive(Drop)]
 pub enum Answer {
     Done,
     /// The new pass's number, or the new marker's id.
@@ -90,11 +131,64 @@ impl Answer {
         let refusal = Apart::of(alloc, refusal)?;
         Ok(Answer::Refused(refusal))
     }
+
+    /// An equal answer, which shares its texts.
+    pub fn copy(&self) -> Result<Answer, NoMemory>
+        ensures { IfOk result (λ copy. copy ≡ self.now) }
+    {
+        match self {
+            Answer::Done => Ok(Answer::Done),
+            Answer::Id(id) => Ok(Answer::Id(*id)),
+            Answer::Count(count) => Ok(Answer::Count(*count)),
+            Answer::None => Ok(Answer::None),
+            Answer::Job(name) => job(name),
+            Answer::Seen(seen) => what_was_seen(seen),
+            Answer::Refused(refusal) => refused(refusal),
+        }
+    }
+}
+
+impl Clone for Answer {
+    ghost is_clone = { λ answer copy. copy ≡ answer };
+
+    fn clone(&self) -> Result<Answer, NoMemory> {
+        self.copy()
+    }
+}
+
+fn job(name: &Apart<Name>) -> Result<Answer, NoMemory>
+    ensures { IfOk result (λ copy. copy ≡ Answer.Job name.now) }
+{
+    Ok(Answer::Job(name.clone()?))
+}
+
+fn what_was_seen(seen: &Apart<(Entries, Partners)>) -> Result<Answer, NoMemory>
+    ensures { IfOk result (λ copy. copy ≡ Answer.Seen seen.now) }
+{
+    Ok(Answer::Seen(seen.clone()?))
+}
+
+fn refused(refusal: &Apart<Refusal>) -> Result<Answer, NoMemory>
+    ensures { IfOk result (λ copy. copy ≡ Answer.Refused refusal.now) }
+{
+    Ok(Answer::Refused(refusal.clone()?))
 }
 
 /// What an event is answered, and what it tells: what changed in the tree since it was last told, where anything did.
-#[derive(Debug, Drop)]
+#[derive(Drop)]
 pub struct Reply {
     pub answer: Answer,
     pub notice: Notice,
+}
+
+impl Reply {
+    /// An equal reply, which shares its texts.
+    pub fn copy(&self) -> Result<Reply, NoMemory>
+        ensures { IfOk result (λ copy. copy ≡ self.now) }
+    {
+        Ok(Reply {
+            answer: self.answer.copy()?,
+            notice: self.notice.copy()?,
+        })
+    }
 }

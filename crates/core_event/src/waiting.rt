@@ -5,7 +5,7 @@ use crate::{Apart, NoMemory, WsRule};
 use res_path::Name;
 
 /// A job that waits to be run.
-#[derive(Clone, Debug, Drop)]
+#[derive(Drop)]
 pub struct Waiting {
     /// Kept apart, as the answer to who takes the job has it.
     pub name: Apart<Name>,
@@ -18,6 +18,17 @@ impl Waiting {
     pub fn copy(&self) -> Result<Waiting, NoMemory>
         ensures { IfOk result (λ copy. copy ≡ self.now) }
     {
-        self.clone()
+        Ok(Waiting {
+            name: self.name.clone()?,
+            rule: self.rule.copy()?,
+        })
+    }
+}
+
+impl Clone for Waiting {
+    ghost is_clone = { λ job copy. copy ≡ job };
+
+    fn clone(&self) -> Result<Waiting, NoMemory> {
+        self.copy()
     }
 }

@@ -1,7 +1,11 @@
+pub mod Areas
 pub mod Bytes
+pub mod Chain
 pub mod Lay
 pub mod Moments
+pub mod Numbers
 pub mod ReadingBack
+pub mod Reached
 pub mod Readings
 pub mod Recorded
 pub mod Staging

@@ -9,12 +9,14 @@ use Rattle.byteorder.specs.Endian.{big_bytes, big_number}
 use Rattle.byteorder.specs.Numbers.{big_number-reads_back}
 use Rattle.sha2.specs.Sha256.{sha256}
 use Rattle.sha2.proofs.Facts256.{length-sha256}
+use Rattle.ws_wire.specs.Fields.{number_field}
 use Rattle.disk_area.specs.Area.{header, record_header, behind_gate, record_behind}
 use Rattle.disk_area.specs.Moments.{Saving, Growing}
 use Rattle.disk_area.specs.Reading.{is_open, IsClosedAt, head_from, head_of, frame_in, piece_in, piece_from, piece_at, some_piece, ReadsAsSave, ReadsAsRecord}
 use Rattle.disk_area.specs.Writes.{KeepsFront, IsShut, Appended, Recording, Rewriting}
 use Rattle.disk_area.specs.declared.pieces.Frame.{Frame}
 use Rattle.disk_area.specs.declared.pieces.Piece.{Piece}
+use Rattle.disk_area.proofs.Chain.{save_is_area, keeps_pieces}
 use Rattle.disk_area.proofs.Staging.{length-header, length-record_header, length-behind}
 use Rattle.ws_outside.specs.declared.contents.Contents.{Contents}
 use Rattle.ws_outside.specs.declared.contents.Which.{Which}
@@ -65,8 +67,8 @@ piece_back at bytes front b z zs size small is =
         nothing (x ∷ xs) = ap (λ l. x ∷ l) (nothing xs)
 
 -- an area by its fields
-fields : (number : ℕ) (image tail : List ℕ) → header number image ++ image ++ tail ≡ codes "WSAREA" ++ (0 ∷ 1 ∷ (big_bytes 8 number ++ (big_bytes 8 (length image) ++ (sha256 image ++ (image ++ tail)))))
-unfolding header
+pub fields : (number : ℕ) (image tail : List ℕ) → header number image ++ image ++ tail ≡ codes "WSAREA" ++ (0 ∷ 1 ∷ (big_bytes 8 number ++ (big_bytes 8 (length image) ++ (sha256 image ++ (image ++ tail)))))
+unfolding header number_field
 fields number image tail =
     append_assoc (header number image) image tail
     ∙ append_assoc (codes "WSAREA" ++ big_bytes 2 1 ++ big_bytes 8 number ++ big_bytes 8 (length image)) (sha256 image) (image ++ tail)
@@ -77,12 +79,12 @@ head_from_is size number image small low high = grind (arith, nat_tests)
 long_enough : (n : ℕ) → 57 ≤ n → nat_le 57 n ≡ true
 long_enough n le = grind (arith, nat_tests)
 
-head_back : (number : ℕ) (image tail : List ℕ) → 58 + length image ≤ 2 ^ 30 → 1 ≤ number → number < 2 ^ 63 → length tail ≡ 1
+pub head_back : (number : ℕ) (image tail : List ℕ) → 57 + length image + length tail ≤ 2 ^ 30 → 1 ≤ number → number < 2 ^ 63
     → head_of (1 ∷ (codes "WSAREA" ++ (0 ∷ 1 ∷ (big_bytes 8 number ++ (big_bytes 8 (length image) ++ (sha256 image ++ (image ++ tail))))))) ≡ Ok (Some record { number = number; version = 1; length = length image })
-head_back number image tail small low high one =
+head_back number image tail small low high =
     let rest = sha256 image ++ (image ++ tail) in
     let bytes = 1 ∷ (codes "WSAREA" ++ (0 ∷ 1 ∷ (big_bytes 8 number ++ (big_bytes 8 (length image) ++ rest)))) in
-    let rests : length rest ≡ 32 + length image + 1 = omega (arith, length-sha256 image, one, length-append (sha256 image) (image ++ tail), length-append image tail) in
+    let rests : length rest ≡ 32 + length image + length tail = omega (arith, length-sha256 image, length-append (sha256 image) (image ++ tail), length-append image tail) in
     let long : nat_le 57 (length (take 57 bytes)) ≡ true = long_enough (length (take 57 bytes)) (omega (arith, length-take 57 bytes, rests)) in
     let n : big_number 8 (big_bytes 8 number) ≡ number = big_number-reads_back 8 number [] (omega (arith, high)) in
     let l : big_number 8 (big_bytes 8 (length image)) ≡ length image = big_number-reads_back 8 (length image) [] (omega (arith, small)) in
@@ -102,9 +104,10 @@ pub save_back : (number : ℕ) (image bytes : List ℕ) → 58 + length image �
 save_back number image bytes small low high is =
     let spelled = is ∙ ap (λ l. 1 ∷ l) (fields number image (0 ∷ [])) in
     record {
-      head = ap head_of spelled ∙ head_back number image (0 ∷ []) small low high refl;
+      head = ap head_of spelled ∙ head_back number image (0 ∷ []) (omega (arith, small)) low high;
       piece = piece_back 17 bytes (1 ∷ (codes "WSAREA" ++ (0 ∷ 1 ∷ big_bytes 8 number))) image 0 [] refl (omega (arith, small)) spelled;
       last = closed_at (57 + length image) bytes (1 ∷ (header number image ++ image)) 0 [] (omega (arith, length-header number image, length-append (header number image) image)) is (λ z. absurd (omega (arith, z)));
+      whole = save_is_area number image bytes small low high is;
     }
 
 pub head_shut : (bytes : List ℕ) → IsShut bytes → head_of bytes ≡ Ok None
@@ -123,8 +126,8 @@ saving closed number image old (gate ∷ rest) small low high (inr (inr whole)) 
 ]
 
 -- a record
-record_spelled : (body tail : List ℕ) → record_header body ++ body ++ tail ≡ big_bytes 8 (length body) ++ (sha256 body ++ (body ++ tail))
-unfolding record_header
+pub record_spelled : (body tail : List ℕ) → record_header body ++ body ++ tail ≡ big_bytes 8 (length body) ++ (sha256 body ++ (body ++ tail))
+unfolding record_header number_field
 record_spelled body tail = append_assoc (big_bytes 8 (length body) ++ sha256 body) body tail ∙ append_assoc (big_bytes 8 (length body)) (sha256 body) (body ++ tail)
 
 appended_whole : (at : ℕ) (body old new : List ℕ) (gate : ℕ) → Appended at gate (record_behind body) old new
@@ -171,6 +174,7 @@ pub growing : (at : ℕ) (body old new : List ℕ) → length body < 2 ^ 64 → 
 growing at body old new small shut (inl kept) = record {
   before = shorter at old new kept;
   reads = inl (ap is_open (gate_kept at old new kept) ∙ shut);
+  pieces = keeps_pieces at body old new (inl kept);
 }
 growing at body old new small shut (inr app) = record {
   before = kept_before at body old new app.0 app.1;
@@ -179,6 +183,7 @@ growing at body old new small shut (inr app) = record {
     | inr closed ↦ inl (let w = appended_whole at body old new app.0 app.1 in
         closed_at at new (take at old) app.0 ((record_header body ++ body) ++ 0 ∷ w.0) w.2 (w.1 ∙ append_assoc (take at old) (app.0 ∷ (record_header body ++ body)) (0 ∷ w.0)) closed)
   ];
+  pieces = keeps_pieces at body old new (inr app);
 }
   where
     kept_before : (at : ℕ) (body old new : List ℕ) (gate : ℕ) → Appended at gate (record_behind body) old new → KeepsFront at old new

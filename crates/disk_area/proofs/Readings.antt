@@ -17,13 +17,17 @@ no_fault old new (Err Disk) is same = absurd is
 no_fault old new (Err (Damaged d)) is same = same
 no_fault old new (Err Memory) is same = absurd is
 
--- two things that are told of what a disk holds
+-- one thing that is told of what a disk holds, and two
+pub one_told : (o : Option Contents) {P Q : Contents → Type 0} → ((both : Contents) → P both → Q both) → IfSome o P → IfSome o Q
+one_told None step first = tt
+one_told (Some both) step first = step both first
+
 pub both_told : (o p : Option Contents) {P Q R : Contents → Type 0} → p ≡ o → IfSome o P → IfSome p Q → ((both : Contents) → P both → Q both → R both) → IfSome o R
-both_told o p {P = P} {Q = Q} {R = R} same first second join = one_told o {P = P} {Q = Q} {R = R} first (subst (λ x. IfSome x Q) same second) join
+both_told o p {P = P} {Q = Q} {R = R} same first second join = two_told o {P = P} {Q = Q} {R = R} first (subst (λ x. IfSome x Q) same second) join
   where
-    one_told : (o : Option Contents) {P Q R : Contents → Type 0} → IfSome o P → IfSome o Q → ((both : Contents) → P both → Q both → R both) → IfSome o R
-    one_told None first second join = tt
-    one_told (Some both) first second join = join both first second
+    two_told : (o : Option Contents) {P Q R : Contents → Type 0} → IfSome o P → IfSome o Q → ((both : Contents) → P both → Q both → R both) → IfSome o R
+    two_told None first second join = tt
+    two_told (Some both) first second join = join both first second
 
 pub head_tells : (area : Which) (len n : ℕ) (buf bytes : List ℕ) (expected : Result (Option Head) Place) (r : Result (Option Head) AreaFault) → len ≡ length bytes → take n buf ≡ take 57 bytes → expected ≡ head_in len (take n buf) → Tells area expected r → Tells area (head_of bytes) r
 head_tells area len n buf bytes expected r size front same tells =

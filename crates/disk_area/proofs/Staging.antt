@@ -7,16 +7,17 @@ use Rattle.ws_outside.specs.declared.contents.Which.{Which}
 use Rattle.ws_outside.specs.declared.contents.Which.TheVariants.{Left, Right}
 use Rattle.ws_outside.specs.declared.contents.Contents.{Contents}
 use Rattle.ws_outside.specs.Disk.{held, beside, holding, written, Cut, InArea, Came, Each, LeavesOnly}
+use Rattle.ws_wire.specs.Fields.{number_field}
 use Rattle.disk_area.specs.Area.{header, record_header, behind_gate}
 use Rattle.disk_area.specs.Writes.{Follow, IsShut, SameBehind, Staged, Rewriting}
 use Rattle.disk_area.proofs.Moments.{both, only_wider}
 
 pub length-header : (number : ℕ) (image : List ℕ) → length (header number image) ≡ 56
-unfolding header
+unfolding header number_field
 length-header number image = omega (arith, length-sha256 image)
 
 pub length-record_header : (body : List ℕ) → length (record_header body) ≡ 40
-unfolding record_header
+unfolding record_header number_field
 length-record_header body = omega (arith, length-sha256 body)
 
 pub length-behind : (number : ℕ) (image : List ℕ) → length (behind_gate number image) ≡ 57 + length image

@@ -1,9 +1,11 @@
 -- What the bytes of an area stand for, and the first damage of those that stand for nothing.
-use Rattle.std.specs.Prelude.{◌≡◌, ℕ, ◌+◌, ◌-◌, ◌^◌, List, [], ◌∷◌, length, take, drop, codes, Bool, false, if◌then◌else◌, nat_lt, nat_le, nat_eq, bytes_eq, Option, Some, None, Result, Ok, Err, MatchResult}
+use Rattle.std.specs.Prelude.{◌≡◌, ℕ, zero, suc, ◌+◌, ◌-◌, ◌^◌, List, [], ◌∷◌, length, take, drop, codes, Bool, false, if◌then◌else◌, nat_lt, nat_le, nat_eq, bytes_eq, Option, Some, None, Result, Ok, Err, MatchResult}
 use Rattle.byteorder.specs.Endian.{big_number}
 use Rattle.sha2.specs.Sha256.{sha256}
 use Rattle.ws_outside.specs.declared.contents.Which.{Which}
 use Rattle.ws_outside.specs.Faults.{Rose}
+use Rattle.disk_area.specs.Area.{written_version, area_text, IsArea}
+use Rattle.disk_area.specs.declared.bodies.Area.{Area}
 use Rattle.disk_area.specs.declared.damage.AreaFault.{AreaFault}
 use Rattle.disk_area.specs.declared.damage.AreaFault.TheVariants.{Disk, Damaged, Memory}
 use Rattle.disk_area.specs.declared.damage.DamageCause.{DamageCause}
@@ -24,6 +26,10 @@ check holds place rest = if holds then rest else Err place
 abbrev pub is_open : List ℕ → Bool
 is_open gate = bytes_eq gate (1 ∷ [])
 
+-- the version that is read
+abbrev pub read_version : ℕ
+read_version = 1
+
 -- a save number that can be written
 abbrev pub is_number : ℕ → Bool
 is_number number = if nat_le 1 number then nat_lt number (2 ^ 63) else false
@@ -33,7 +39,7 @@ abbrev pub head_from : ℕ → List ℕ → ℕ → ℕ → ℕ → Result (Opti
 head_from size magic version number image =
     check (nat_le size (2 ^ 30)) (0, TooLarge)
     (check (bytes_eq magic (codes "WSAREA")) (1, BadMagic)
-    (check (nat_eq version 1) (7, BadVersion version)
+    (check (nat_eq version read_version) (7, BadVersion version)
     (check (is_number number) (9, BadNumber)
     (Ok (Some record { number = number; version = version; length = image })))))
 
@@ -78,6 +84,37 @@ some_piece (Err place) = Err place
 abbrev pub record_of : ℕ → List ℕ → Result (Option Piece) Place
 record_of gate bytes = if is_open (take 1 (drop gate bytes)) then some_piece (piece_at (gate + 1) bytes) else Ok None
 
+-- the bodies of records, and behind them the place of the closed gate, or the first damage
+abbrev pub Records : Type 0
+Records = List (List ℕ) × Result ℕ Place
+
+abbrev pub after_record : ℕ → (ℕ → Records) → Result (Option Piece) Place → Records
+after_record gate next (Ok None) = ([], Ok gate)
+after_record gate next (Ok (Some piece)) = (piece.body ∷ (next piece.gate).0, (next piece.gate).1)
+after_record gate next (Err place) = ([], Err place)
+
+-- the records from the gate at this place on, at most so many
+abbrev pub records_from : ℕ → List ℕ → ℕ → Records
+records_from zero bytes gate = ([], Ok gate)
+records_from (suc most) bytes gate = after_record gate (records_from most bytes) (record_of gate bytes)
+
+abbrev pub with_records : ℕ → Piece → Records → Result (Option Area) Place
+with_records number image records = Ok (Some record { number = number; image = image.body; records = records.0; end = records.1 })
+
+abbrev pub with_image : ℕ → List ℕ → Result Piece Place → Result (Option Area) Place
+with_image number bytes (Ok image) = with_records number image (records_from (length bytes) bytes image.gate)
+with_image number bytes (Err place) = Err place
+
+abbrev pub with_head : List ℕ → Result (Option Head) Place → Result (Option Area) Place
+with_head bytes (Ok None) = Ok None
+with_head bytes (Ok (Some head)) = with_image head.number bytes (image_of bytes)
+with_head bytes (Err place) = Err place
+
+-- a whole area: nothing where it is closed; else its save number, its image, the bodies of its records, and the place of
+-- the closed gate behind them or the first damage there; or the damage of its head or its image
+abbrev pub area_of : List ℕ → Result (Option Area) Place
+area_of bytes = with_head bytes (head_of bytes)
+
 -- a gate that is closed, or not there
 abbrev pub IsClosedAt : ℕ → List ℕ → Type 0
 IsClosedAt gate bytes = is_open (take 1 (drop gate bytes)) ≡ false
@@ -97,6 +134,11 @@ IsOfBytes (Err Disk) = ⊥
 IsOfBytes (Err (Damaged _)) = Unit {0}
 IsOfBytes (Err Memory) = ⊥
 
+-- of an area of such pieces a call that reads it tells them
+abbrev pub TellsPieces : Which → List ℕ → Result (Option Area) AreaFault → Type 0
+TellsPieces area bytes result = (number : ℕ) (image : List ℕ) (records : List (List ℕ)) → IsArea number image records bytes
+    → Tells area (Ok (Some record { number = number; image = image; records = records; end = Ok (length (area_text number image records)) })) result
+
 abbrev pub FaultOf : ℕ → ℕ → AreaFault → Type 0
 FaultOf old new Disk = Rose old new
 FaultOf old new (Damaged _) = new ≡ old
@@ -108,9 +150,10 @@ HasFault old new result = MatchResult result (λ _. new ≡ old) (FaultOf old ne
 
 -- an area is read as this save, with no record
 pub record ReadsAsSave (number : ℕ) (image bytes : List ℕ) : Type 0 where
-  pub head : head_of bytes ≡ Ok (Some record { number = number; version = 1; length = length image })
+  pub head : head_of bytes ≡ Ok (Some record { number = number; version = written_version; length = length image })
   pub piece : image_of bytes ≡ Ok record { body = image; at = 57; gate = 57 + length image }
   pub last : IsClosedAt (57 + length image) bytes
+  pub whole : IsArea number image [] bytes
 
 -- at this gate an area is read as this record, the last one
 pub record ReadsAsRecord (gate : ℕ) (body bytes : List ℕ) : Type 0 where

@@ -1,12 +1,14 @@
 // What the bytes of a head and of a frame say.
-ghost use Rattle.std.specs.Prelude.{◌≡◌, ◌<◌, ◌+◌, ◌^◌};
+ghost use Rattle.std.specs.Prelude.{◌≡◌, ◌<◌, ◌+◌, ◌^◌, length};
+ghost use Rattle.byteorder.specs.Endian.{big_number};
 ghost use Rattle.disk_area.specs.Reading.{is_open, head_from, head_in, frame_in, piece_in};
 
 use crate::pieces::Frame;
+use crate::version::READ;
 use crate::{DamageCause, Head, Piece};
-use byteorder::{BigEndian, ByteOrder};
 use sha2::{Digest, Sha256};
 use ws_outside::Octets;
+use ws_wire::In;
 
 const MAGIC: [u8; 6] = *b"WSAREA";
 
@@ -22,6 +24,28 @@ pub(crate) fn opens(gate: &[u8]) -> bool
     gate == OPEN.as_slice()
 }
 
+/// The number in a field of two bytes.
+fn two(field: &[u8]) -> u16
+    requires { length field.now ≡ 2 }
+    ensures { result ≡ big_number 2 field.now }
+{
+    match In::of(field).u16() {
+        Ok(number) => number,
+        Err(_) => 0,
+    }
+}
+
+/// The number in a field of eight bytes.
+fn eight(field: &[u8]) -> u64
+    requires { length field.now ≡ 8 }
+    ensures { result ≡ big_number 8 field.now }
+{
+    match In::of(field).u64() {
+        Ok(number) => number,
+        Err(_) => 0,
+    }
+}
+
 /// The head of an area of this length with these first bytes.
 pub(crate) fn parse_head(len: u64, front: &[u8]) -> Result<Option<Head>, (u64, DamageCause)>
     ensures { result ≡ head_in len front.now }
@@ -32,9 +56,9 @@ pub(crate) fn parse_head(len: u64, front: &[u8]) -> Result<Option<Head>, (u64, D
     if !opens(&front[..1]) {
         return Ok(None);
     }
-    let version = BigEndian::read_u16(&front[7..9]);
-    let number = BigEndian::read_u64(&front[9..17]);
-    let length = BigEndian::read_u64(&front[17..25]);
+    let version = two(&front[7..9]);
+    let number = eight(&front[9..17]);
+    let length = eight(&front[17..25]);
     open_head(len, &front[1..7], version, number, length)
 }
 
@@ -53,7 +77,7 @@ fn open_head(
     if magic != MAGIC.as_slice() {
         return Err((1, DamageCause::BadMagic));
     }
-    if version != 1 {
+    if version != READ {
         return Err((7, DamageCause::BadVersion(version)));
     }
     if number < 1 {
@@ -76,7 +100,7 @@ pub(crate) fn parse_frame(len: u64, at: u64, front: &[u8]) -> Option<Frame>
     if front.len() < 40 {
         return None;
     }
-    let size = BigEndian::read_u64(&front[..8]);
+    let size = eight(&front[..8]);
     let rest = len.saturating_sub(at).saturating_sub(40);
     if size >= rest {
         return None;

@@ -3,7 +3,7 @@ ghost use Rattle.std.specs.Prelude.{◌≡◌, ◌≤◌, ◌+◌, ◌<◌, ◌^
 ghost use Rattle.ws_outside.specs.Disk.{held, beside, holding, written, InArea, Came, Each, LeavesOnly};
 ghost use Rattle.ws_outside.specs.Faults.{HasCause};
 ghost use Rattle.disk_area.specs.Area.{behind_gate, record_behind};
-ghost use Rattle.disk_area.specs.Moments.{Saving, Growing};
+ghost use Rattle.disk_area.specs.Moments.{Saving, Growing, GainsRecord};
 ghost use Rattle.disk_area.specs.Reading.{IsClosedAt, ReadsAsSave, ReadsAsRecord};
 ghost use Rattle.disk_area.specs.Writes.{IsShut, Rewriting, Appended, Recording};
 
@@ -45,8 +45,9 @@ pub fn write_image<D: Disk>(
 /// follows the gate, syncs, opens the gate, and syncs.
 ///
 /// At every moment since the call began a crash leaves the other area as it would have been, and in this one all that
-/// stood before the gate, and then a closed gate or this record. After Ok it leaves this record. Fails exactly where the
-/// disk's count of faults rises in this call, and doesn't tell how far it came.
+/// stood before the gate, and then a closed gate or this record: an area that ended at this gate keeps its save and its
+/// records. After Ok it leaves this record behind them. Fails exactly where the disk's count of faults rises in this call,
+/// and doesn't tell how far it came.
 pub fn write_record<D: Disk>(
     disk: &mut D,
     area: Which,
@@ -61,6 +62,7 @@ pub fn write_record<D: Disk>(
     ensures any_bytes { LeavesOnly D.moment D.left_since D.may_leave disk.old disk.new (Came (D.may_leave disk.old) (InArea area (Recording gate (record_behind body.now)))) }
 
     ensures recorded { OnOk result (Each (D.may_leave disk.new) (λ c. ReadsAsRecord gate body.now (held area c))) }
+    ensures gained { OnOk result (Each (D.may_leave disk.new) (Came (D.may_leave disk.old) (InArea area (GainsRecord gate body.now)))) }
     ensures bytes { OnOk result (Each (D.may_leave disk.new) (Came (D.may_leave disk.old) (InArea area (Appended gate 1 (record_behind body.now))))) }
     ensures seen { OnOk result (D.seen disk.new ≡ option_map (λ both. holding area (written gate (1 ∷ record_behind body.now) (held area both)) both) (D.seen disk.old)) }
 

@@ -10,11 +10,11 @@ use Rattle.std.specs.declared.cmp.Ordering.TheVariants.{Less, Equal, Greater}
 use Rattle.res_path.specs.Paths.{Names, path_cmp, is_prefix}
 use Rattle.res_path.specs.PathLaws.{path_cmp_total}
 use Rattle.res_path.proofs.Prefixes.{path_cmp_exact, path_itself}
-use Rattle.ws_elem.specs.Trees.{Tree, without}
+use Rattle.ws_elem.specs.Trees.{Tree, without, branch}
 use Rattle.ws_elem.specs.declared.element.Element.{Element}
 use Rattle.ws_elem.proofs.Cuts.{same_at}
 use Rattle.op_kind.specs.Entries.{Entries}
-use Rattle.op_kind.specs.Members.{is_below, branch, members, without_members, put_all}
+use Rattle.op_kind.specs.Members.{is_below, members, without_members, put_all}
 use Rattle.op_kind.specs.Effects.{put_some, change_at}
 use Rattle.op_kind.proofs.PathsBelow.{never, not_true}
 use Rattle.op_kind.proofs.Cases.{at_cond, cond_true, cond_false}

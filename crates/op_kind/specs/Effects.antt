@@ -9,7 +9,7 @@ use Rattle.ws_elem.specs.declared.kind.Kind.TheVariants.{File, Folder, Project}
 use Rattle.ws_elem.specs.Attached.{nothing_attached}
 use Rattle.ws_elem.specs.Elements.{bare}
 use Rattle.ws_elem.specs.Kinds.{is_file, is_project}
-use Rattle.ws_elem.specs.Trees.{Tree, without}
+use Rattle.ws_elem.specs.Trees.{Tree, without, branch}
 use Rattle.mark_set.specs.declared.value.RawValue.{RawValue}
 use Rattle.mark_set.specs.Markers.{Marks}
 use Rattle.sync_set.specs.Syncs.{with_bytes}
@@ -27,7 +27,7 @@ use Rattle.op_kind.specs.Problems.{command_count, without_problems_from}
 use Rattle.op_kind.specs.Resources.{Resources}
 use Rattle.op_kind.specs.Places.{is_shut}
 use Rattle.op_kind.specs.Entries.{Entries}
-use Rattle.op_kind.specs.Members.{found_at, branch, members, without_members, put_all, carried}
+use Rattle.op_kind.specs.Members.{found_at, members, without_members, put_all, carried}
 use Rattle.op_kind.specs.Numbers.{stamps_of, stamps_of_all}
 
 -- the description of a project that nobody described

@@ -15,10 +15,6 @@ abbrev pub found_at : Names → Option Element → Entries
 found_at p None = []
 found_at p (Some e) = (p, e) ∷ []
 
--- all at or below p, in path order
-abbrev pub branch : Tree → Names → Entries
-branch t p = filter (λ e. is_prefix p e.0) (entries t)
-
 -- all below p, in path order
 abbrev pub members : Tree → Names → Entries
 members t p = filter (λ e. is_below p e.0) (entries t)

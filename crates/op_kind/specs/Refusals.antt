@@ -7,10 +7,11 @@ use Rattle.std.specs.FinMap.{get, contains_key, len}
 use Rattle.res_path.specs.Paths.{Names, parent, is_prefix, path_text}
 use Rattle.ws_elem.specs.declared.element.Element.{Element}
 use Rattle.ws_elem.specs.Kinds.{is_project}
-use Rattle.ws_elem.specs.Trees.{Tree}
+use Rattle.ws_elem.specs.Trees.{Tree, branch}
 use Rattle.mark_set.specs.Causes.{marker_cause, change_cause}
 use Rattle.mark_set.specs.declared.value.RawValue.{RawValue}
 use Rattle.proj_desc.specs.Causes.{desc_cause}
+use Rattle.proj_desc.specs.FirstCause.{when, first_cause}
 use Rattle.op_kind.specs.declared.op.Op.{Op}
 use Rattle.op_kind.specs.declared.op.Op.TheVariants.{CreateFile, CreateFolder, CreateProject, Delete, Write, Touch, Derived, Move, Copy, Open, Close, Describe, Mark, Attr, Unmark, ClearMarks, Partner, Sync, Flush, Read}
 use Rattle.op_kind.specs.declared.op.Want.{Want}
@@ -19,7 +20,7 @@ use Rattle.op_kind.specs.declared.refusal.OpRefusal.{OpRefusal}
 use Rattle.op_kind.specs.declared.refusal.OpRefusal.TheVariants.{TooDeep, TooLong, NotFound, Exists, NotContainer, WrongKind, ProjectClosed, TreeFull, NumbersUsed, PartnerUnknown, MarkerUnknown, BadValue, IntoItself, BadDescription}
 use Rattle.op_kind.specs.Resources.{Resources}
 use Rattle.op_kind.specs.Places.{project_of, project_name, is_root_path, is_project_path, is_member_path, has_file, is_shut, is_in_shut}
-use Rattle.op_kind.specs.Members.{branch, rebased}
+use Rattle.op_kind.specs.Members.{rebased}
 use Rattle.op_kind.specs.Entries.{Entries}
 use Rattle.op_kind.specs.Numbers.{stamps_of_all}
 use Rattle.op_kind.specs.Marking.{has_marker}
@@ -41,16 +42,6 @@ refusal_number (MarkerUnknown id) = 22
 refusal_number (BadValue cause) = 23
 refusal_number IntoItself = 24
 refusal_number (BadDescription cause) = 25
-
--- the refusal, where its cause holds
-abbrev pub when : Bool → OpRefusal → Option OpRefusal
-when holds r = if holds then Some r else None
-
--- the first refusal whose cause holds
-abbrev pub first_cause : List (Option OpRefusal) → Option OpRefusal
-first_cause [] = None
-first_cause (Some r ∷ rs) = Some r
-first_cause (None ∷ rs) = first_cause rs
 
 -- what a closed project refuses: itself and its members
 abbrev pub closed : Tree → Names → Option OpRefusal

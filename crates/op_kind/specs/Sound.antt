@@ -18,7 +18,7 @@ opened e = if is_project e.kind then record e { opened = true } else e
 abbrev pub IsUnshelved : Resources → Tree → Type 0
 IsUnshelved r t = (p : Names) → get t p ≡ option_or (option_map opened (get r.tree p)) (get r.shelf p)
 
-pub record IsSound (r : Resources) : Type 0 where
+pub record IsConsistent (r : Resources) : Type 0 where
   -- the tree is whole, and would be so with every closed project opened
   pub tree : Whole r.tree
   pub unshelved : (t : Tree) × IsUnshelved r t × Whole t

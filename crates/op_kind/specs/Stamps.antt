@@ -1,5 +1,5 @@
 -- Numbers that tell resources and contents apart.
-use Rattle.std.specs.Prelude.{◌≡◌, ℕ, ◌<◌, length, IfSome}
+use Rattle.std.specs.Prelude.{ℕ, ◌<◌, length, IfSome}
 use Rattle.std.specs.FinMap.{get}
 use Rattle.res_path.specs.Paths.{Names}
 use Rattle.ws_elem.specs.Trees.{Tree}

@@ -9,7 +9,8 @@ use Rattle.op_plan.specs.declared.plan.Plan.{Plan}
 use Rattle.op_plan.specs.Inside.Plans.{Plans}
 use Rattle.op_kind.specs.Resources.{Resources}
 use Rattle.op_kind.specs.Judging.{IfRefused, Judges}
-use Rattle.op_kind.specs.Refusals.{first_cause, refusal}
+use Rattle.proj_desc.specs.FirstCause.{first_cause}
+use Rattle.op_kind.specs.Refusals.{refusal}
 
 abbrev pub Causes : Type 0
 Causes = List (Option OpRefusal)

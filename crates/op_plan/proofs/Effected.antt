@@ -1,26 +1,27 @@
--- Changes at some paths, and what they come to.
+-- Edits at some paths, and what they come to.
 use Rattle.std.proofs.Common.{◌≡◌, ℕ, ◌+◌, Bool, true, false, cond, not, ◌&&◌, ◌||◌, List, [], ◌∷◌, ◌++◌, map, refl, sym, ap, ◌∙◌}
 use Rattle.std.specs.Prelude.{Option, Some, None, is_some, filter}
 use Rattle.std.specs.List.{list_any}
 use Rattle.std.specs.Option.{option_map}
 use Rattle.std.specs.Ordering.{eq_by_cmp}
-use Rattle.std.specs.FinMap.{get, insert, remove, entries, keys, retain_keys, get-insert, get-remove, get-retain_keys, contains_key-keys, same_map}
+use Rattle.std.specs.FinMap.{get, insert, remove, entries, keys, retain_keys, get-remove, get-retain_keys, contains_key-keys, same_map}
 use Rattle.res_path.specs.Paths.{Names, path_cmp, is_prefix}
 use Rattle.res_path.specs.PathLaws.{path_cmp_total}
 use Rattle.res_path.proofs.Prefixes.{path_cmp_exact}
 use Rattle.ws_elem.specs.declared.element.Element.{Element}
-use Rattle.ws_elem.specs.Trees.{Tree, without}
+use Rattle.ws_elem.specs.Trees.{Tree, set_at, without, branch}
 use Rattle.ws_elem.proofs.Cuts.{any_filter, same_at}
+use Rattle.ws_elem.proofs.Kept.{get-set_at}
 use Rattle.op_kind.specs.Entries.{Entries}
-use Rattle.op_kind.specs.Members.{branch, members, without_members, is_below, put_all, carried, rebased}
+use Rattle.op_kind.specs.Members.{members, without_members, is_below, put_all, carried, rebased}
 use Rattle.op_kind.specs.Numbers.{stamps_of}
 use Rattle.op_kind.specs.Effects.{change_at, put_some, copies, renumbered}
-use Rattle.op_plan.specs.Changes.{Changes, set_entry, changed}
+use Rattle.op_plan.specs.Edits.{Edits, changed}
 use Rattle.op_plan.specs.Inside.Lists.{undoing, taken, put}
 
-pub changed-append : (t : Tree) (cs ds : Changes) → changed t (cs ++ ds) ≡ changed (changed t cs) ds
+pub changed-append : (t : Tree) (cs ds : Edits) → changed t (cs ++ ds) ≡ changed (changed t cs) ds
 changed-append t [] ds = refl
-changed-append t (c ∷ cs) ds = changed-append (set_entry t c.0 c.1) cs ds
+changed-append t (c ∷ cs) ds = changed-append (set_at t c.0 c.1) cs ds
 
 -- what is put at paths stands there
 pub changed_put : (t : Tree) (es : Entries) → changed t (put es) ≡ put_all t es
@@ -29,26 +30,22 @@ changed_put t (e ∷ es) = changed_put (insert t e.0 e.1) es
 
 -- ---- undone
 
-get-set_entry : (t : Tree) (p : Names) (x : Option Element) (q : Names) → get (set_entry t p x) q ≡ cond (eq_by_cmp path_cmp q p) x (get t q)
-get-set_entry t p None q = get-remove path_cmp_total t p q
-get-set_entry t p (Some e) q = get-insert path_cmp_total t p e q
-
 -- what stood at a path, put back
-back : (t : Tree) (p : Names) (x : Option Element) → set_entry (set_entry t p x) p (get t p) ≡ t
+back : (t : Tree) (p : Names) (x : Option Element) → set_at (set_at t p x) p (get t p) ≡ t
 back t p x = same_map path_cmp_total path_cmp_exact _ _ (λ q.
-    get-set_entry (set_entry t p x) p (get t p) q ∙ by q (eq_by_cmp path_cmp q p) refl)
+    get-set_at (set_at t p x) p (get t p) q ∙ by q (eq_by_cmp path_cmp q p) refl)
   where
-    by : (q : Names) (b : Bool) → eq_by_cmp path_cmp q p ≡ b → cond b (get t p) (get (set_entry t p x) q) ≡ get t q
+    by : (q : Names) (b : Bool) → eq_by_cmp path_cmp q p ≡ b → cond b (get t p) (get (set_at t p x) q) ≡ get t q
     by q true h = ap (get t) (sym (same_at q p h))
-    by q false h = get-set_entry t p x q ∙ ap (λ b. cond b x (get t q)) h
+    by q false h = get-set_at t p x q ∙ ap (λ b. cond b x (get t q)) h
 
--- changes, undone in the other order
-pub undone : (t : Tree) (cs : Changes) → changed (changed t cs) (undoing t cs) ≡ t
+-- edits, undone in the other order
+pub undone : (t : Tree) (cs : Edits) → changed (changed t cs) (undoing t cs) ≡ t
 undone t [] = refl
 undone t (c ∷ cs) =
-    let next = set_entry t c.0 c.1 in
+    let next = set_at t c.0 c.1 in
     changed-append (changed next cs) (undoing next cs) ((c.0, get t c.0) ∷ [])
-    ∙ ap (λ s. set_entry s c.0 (get t c.0)) (undone next cs)
+    ∙ ap (λ s. set_at s c.0 (get t c.0)) (undone next cs)
     ∙ back t c.0 c.1
 
 -- ---- taken out

@@ -1,32 +1,28 @@
 -- Elements that lose markers or synchronisation bytes.
-use Rattle.std.proofs.Common.{◌≡◌, ℕ, ◌==◌, nat_eq, Bool, true, false, cond, not, ◌&&◌, ◌||◌, List, [], ◌∷◌, ◌++◌, length, T, refl, sym, ap, ◌∙◌, subst, arith}
+use Rattle.std.proofs.Common.{◌≡◌, ℕ, ◌==◌, nat_eq, Bool, true, false, cond, not, ◌&&◌, ◌||◌, List, [], ◌∷◌, ◌++◌, length, refl, sym, ap, ◌∙◌, arith}
 use Rattle.std.specs.Prelude.{Option, Some, None, is_some, filter}
 use Rattle.std.specs.List.{list_any}
-use Rattle.std.specs.Option.{option_map, option_or}
 use Rattle.std.specs.Ordering.{eq_by_cmp, nat_cmp}
-use Rattle.std.specs.FinMap.{FinMap, get, remove, entries, entries_sorted, keys, retain_keys, get-entries, get-retain_keys, contains_key-keys, same_map, nat_cmp-IsAntisymmetric}
-use Rattle.std.specs.FinMap.Entries.{below_all, find-where_key, is_sorted-where_key}
+use Rattle.std.specs.FinMap.{FinMap, get, remove, keys, retain_keys, get-retain_keys, contains_key-keys, same_map, nat_cmp-IsAntisymmetric}
 use Rattle.std.proofs.lemmas.Bool.{eqb-true}
 use Rattle.mark_set.proofs.Ids.{get_remove, same_gets, ties}
 use Rattle.mark_set.specs.Markers.{Marks, has_type, ids_of_type}
 use Rattle.mark_set.specs.declared.marker.Marker.{Marker}
-use Rattle.res_path.specs.Paths.{Names, path_cmp}
+use Rattle.res_path.specs.Paths.{Names}
 use Rattle.res_path.specs.PathLaws.{path_cmp_total}
 use Rattle.res_path.proofs.Prefixes.{path_cmp_exact}
 use Rattle.ws_elem.specs.declared.depth.Depth.{Depth}
 use Rattle.ws_elem.specs.declared.element.Element.{Element}
 use Rattle.ws_elem.specs.Depths.{is_within}
 use Rattle.ws_elem.specs.Trees.{Tree}
-use Rattle.ws_elem.proofs.Cuts.{same_at}
 use Rattle.op_kind.specs.declared.answer.OpAnswer.TheVariants.{Count}
 use Rattle.op_kind.specs.declared.op.Op.TheVariants.{ClearMarks, Flush}
 use Rattle.op_plan.specs.declared.plan.Plan.{Plan}
-use Rattle.op_plan.specs.Changes.{changed}
+use Rattle.op_plan.specs.Edits.{changed}
 use Rattle.op_plan.specs.Inside.Lists.{put}
 use Rattle.op_kind.specs.Effects.{effect}
 use Rattle.op_kind.specs.Entries.{Entries}
 use Rattle.op_kind.specs.Marking.{removed, unmarked, count_marks, unsynced, count_bytes, reached, change_all, change_within, count_all}
-use Rattle.op_kind.specs.Members.{put_all}
 use Rattle.op_kind.specs.declared.side.Side.{Side}
 use Rattle.op_kind.specs.Partners.{number_of}
 use Rattle.op_kind.specs.Problems.{is_problem_from, without_problems_from}

@@ -1,4 +1,4 @@
--- Changes and the room that they take.
+-- Edits and the room that they take.
 use Rattle.std.proofs.Common.{◌≡◌, ℕ, ◌+◌, ◌<◌, true, List, [], ◌∷◌, ◌++◌, length, take, get_or, sym, ap, ◌∙◌, subst, add-one}
 use Rattle.std.specs.Prelude.{Option, Some, None}
 use Rattle.std.proofs.lemmas.List.{append-nil}
@@ -8,21 +8,21 @@ use Rattle.res_path.specs.Paths.{Names}
 use Rattle.ws_elem.specs.declared.element.Element.{Element}
 use Rattle.ws_elem.specs.Rooms.{Room, has_room, with_room}
 use Rattle.ws_elem.proofs.Rooms.{room_added, room_kept}
-use Rattle.ws_elem.specs.Trees.{Tree}
+use Rattle.ws_elem.specs.Trees.{Tree, set_at}
 use Rattle.op_kind.specs.Partners.{Partners, with_partner}
-use Rattle.op_plan.specs.Changes.{Changes, HasRooms, KeepsRoom, set_entry}
+use Rattle.op_plan.specs.Edits.{Edits, HasRooms, KeepsRoom}
 use Rattle.op_plan.specs.Inside.Lists.{undoing}
 
-pub rooms_kept : (r s : Room) (cs : Changes) → KeepsRoom r s → HasRooms r cs → HasRooms s cs
+pub rooms_kept : (r s : Room) (cs : Edits) → KeepsRoom r s → HasRooms r cs → HasRooms s cs
 rooms_kept r s [] k h = tt
 rooms_kept r s (c ∷ cs) k h = (k c.0 h.0, rooms_kept r s cs k h.1)
 
-rooms_push : (r : Room) (cs : Changes) (c : Names × Option Element) → HasRooms r cs → has_room r c.0 ≡ true → HasRooms r (cs ++ c ∷ [])
+rooms_push : (r : Room) (cs : Edits) (c : Names × Option Element) → HasRooms r cs → has_room r c.0 ≡ true → HasRooms r (cs ++ c ∷ [])
 rooms_push r [] c h g = (g, tt)
 rooms_push r (d ∷ cs) c h g = (h.0, rooms_push r cs c h.1 g)
 
--- the room of the first changes, and of one more
-pub rooms_more : (r s : Room) (cs : Changes) (i : ℕ) (c : Names × Option Element) → i < length cs → c ≡ get_or cs i c → s ≡ with_room r c.0
+-- the room of the first edits, and of one more
+pub rooms_more : (r s : Room) (cs : Edits) (i : ℕ) (c : Names × Option Element) → i < length cs → c ≡ get_or cs i c → s ≡ with_room r c.0
     → HasRooms r (take i cs) → HasRooms s (take (i + 1) cs)
 rooms_more r s cs i c lt is e h =
     let keeps : KeepsRoom r s = λ p g. subst (λ z. has_room z p ≡ true) (sym e) (room_kept r c.0 p g) in
@@ -40,17 +40,17 @@ pub keeps_same : (o r s : Room) → s ≡ r → KeepsRoom o r → KeepsRoom o s
 keeps_same o r s e k p h = subst (λ z. has_room z p ≡ true) (sym e) (k p h)
 
 -- what was added to nothing is all there is
-pub all_undone : (t : Tree) (cs : Changes) → undoing t cs ++ [] ≡ undoing t cs
+pub all_undone : (t : Tree) (cs : Edits) → undoing t cs ++ [] ≡ undoing t cs
 all_undone t cs = append-nil (undoing t cs)
 
-rooms_push_all : (r : Room) (cs ds : Changes) → HasRooms r cs → HasRooms r ds → HasRooms r (cs ++ ds)
+rooms_push_all : (r : Room) (cs ds : Edits) → HasRooms r cs → HasRooms r ds → HasRooms r (cs ++ ds)
 rooms_push_all r [] ds h g = g
 rooms_push_all r (c ∷ cs) ds h g = (h.0, rooms_push_all r cs ds h.1 g)
 
 -- undoing takes the same room
-pub rooms_undoing : (r : Room) (t : Tree) (cs : Changes) → HasRooms r cs → HasRooms r (undoing t cs)
+pub rooms_undoing : (r : Room) (t : Tree) (cs : Edits) → HasRooms r cs → HasRooms r (undoing t cs)
 rooms_undoing r t [] h = tt
-rooms_undoing r t (c ∷ cs) h = rooms_push_all r (undoing (set_entry t c.0 c.1) cs) ((c.0, get t c.0) ∷ []) (rooms_undoing r (set_entry t c.0 c.1) cs h.1) (h.0, tt)
+rooms_undoing r t (c ∷ cs) h = rooms_push_all r (undoing (set_at t c.0 c.1) cs) ((c.0, get t c.0) ∷ []) (rooms_undoing r (set_at t c.0 c.1) cs h.1) (h.0, tt)
 
 -- a partner that was registered as the last is taken away
 pub partners_back : (partners : Partners) (partner : Option (List ℕ)) → take (length partners) (with_partner partners partner) ≡ partners

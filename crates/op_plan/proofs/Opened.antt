@@ -15,7 +15,7 @@ use Rattle.op_kind.specs.Places.{is_shut}
 use Rattle.op_kind.specs.declared.side.Side.{Side}
 use Rattle.op_plan.specs.Inside.Plans.{no_change, planned}
 use Rattle.op_kind.specs.Resources.{Resources, resources}
-use Rattle.op_plan.specs.Changes.{Changes, changed}
+use Rattle.op_plan.specs.Edits.{Edits, changed}
 use Rattle.op_plan.specs.Inside.Lists.{taken, put}
 use Rattle.op_plan.proofs.Effected.{changed-append, changed_put, taken_members, change_there}
 use Rattle.op_plan.proofs.Walked.{prefix_itself}
@@ -45,8 +45,8 @@ closes t p e h =
 
 -- ---- plans
 
--- a plan of changes of tree and shelf alone
-both_planned : (t : Tree) (side : Side) (cs ds : Changes) (u s : Tree) (plan : Plan) → plan ≡ record (no_change side) { tree = cs; shelf = ds } → changed t cs ≡ u → changed side.shelf.map ds ≡ s
+-- a plan of edits of tree and shelf alone
+both_planned : (t : Tree) (side : Side) (cs ds : Edits) (u s : Tree) (plan : Plan) → plan ≡ record (no_change side) { tree = cs; shelf = ds } → changed t cs ≡ u → changed side.shelf.map ds ≡ s
     → planned (resources t side) plan ≡ (record (resources t side) { tree = u; shelf = s }, Done)
 both_planned t side cs ds u s plan made tree shelf = ap (planned (resources t side)) made ∙ (λ i. (record (resources t side) { tree = tree i; shelf = shelf i }, Done))
 

@@ -8,17 +8,17 @@ use Rattle.std.specs.Option.{option_map}
 use Rattle.std.specs.FinMap.{get}
 use Rattle.res_path.specs.Paths.{Names}
 use Rattle.ws_elem.specs.declared.element.Element.{Element}
-use Rattle.ws_elem.specs.Trees.{Tree, without}
+use Rattle.ws_elem.specs.Trees.{Tree, without, branch}
 use Rattle.op_kind.specs.declared.answer.OpAnswer.TheVariants.{Done, Id}
 use Rattle.op_kind.specs.declared.op.Op.TheVariants.{Delete, Describe, Move, Copy}
 use Rattle.op_kind.specs.declared.side.Side.{Side}
 use Rattle.op_kind.specs.Effects.{effect, change_at, put_some, copies}
 use Rattle.op_kind.specs.Entries.{Entries}
-use Rattle.op_kind.specs.Members.{branch, carried, put_all}
+use Rattle.op_kind.specs.Members.{carried, put_all}
 use Rattle.op_kind.specs.Numbers.{stamps_of_all}
 use Rattle.op_kind.specs.Resources.{resources}
 use Rattle.op_plan.specs.declared.plan.Plan.{Plan}
-use Rattle.op_plan.specs.Changes.{changed}
+use Rattle.op_plan.specs.Edits.{changed}
 use Rattle.op_plan.specs.Inside.Lists.{taken, put}
 use Rattle.op_plan.specs.Inside.Plans.{no_change, put_at, stamp_at, planned}
 use Rattle.op_plan.proofs.Effected.{changed-append, changed_put, taken_branch, copies_carried}

@@ -7,13 +7,13 @@ use Rattle.std.proofs.lemmas.List.{append_assoc}
 use Rattle.std.proofs.lemmas.List.Elements.{filter-append}
 use Rattle.res_path.specs.Paths.{Names, is_prefix}
 use Rattle.ws_elem.specs.Depths.{is_within}
-use Rattle.ws_elem.specs.Trees.{Tree}
+use Rattle.ws_elem.specs.Trees.{Tree, branch}
 use Rattle.ws_elem.specs.declared.depth.Depth.{Depth}
 use Rattle.ws_elem.specs.declared.depth.Depth.TheVariants.{Zero, One, Infinite}
 use Rattle.ws_elem.specs.declared.element.Element.{Element}
 use Rattle.op_kind.specs.Entries.{Entries}
 use Rattle.op_kind.specs.Marking.{reached}
-use Rattle.op_kind.specs.Members.{found_at, branch, members}
+use Rattle.op_kind.specs.Members.{found_at, members}
 use Rattle.op_plan.proofs.Walked.{prefix_itself, branch_split}
 
 -- what doesn't begin with p is out of reach

@@ -11,9 +11,9 @@ use Rattle.res_path.specs.Paths.{Names, path_cmp, is_prefix}
 use Rattle.res_path.specs.PathLaws.{path_cmp_total}
 use Rattle.res_path.proofs.Prefixes.{path_cmp_exact, path_itself, prefix_le, prefix_between}
 use Rattle.ws_elem.specs.declared.element.Element.{Element}
-use Rattle.ws_elem.specs.Trees.{Tree, entry_after}
+use Rattle.ws_elem.specs.Trees.{Tree, entry_after, branch}
 use Rattle.op_kind.specs.Entries.{Entries}
-use Rattle.op_kind.specs.Members.{found_at, is_below, branch, members}
+use Rattle.op_kind.specs.Members.{found_at, is_below, members}
 use Rattle.op_plan.specs.Inside.Walks.{entries_after, members_after}
 
 never : {A : Type 0} → true ≡ false → A

@@ -3,22 +3,22 @@ use Rattle.std.specs.Prelude.{◌≡◌, ℕ, take, refl}
 use Rattle.std.specs.Coded.{Coded, code_by, coded×, coded_ℕ}
 use Rattle.ws_elem.specs.Rooms.{Room}
 use Rattle.op_kind.specs.declared.side.Side.{Side}
-use Rattle.op_plan.specs.Changes.{Changes, changed, HasRooms}
+use Rattle.op_plan.specs.Edits.{Edits, changed, HasRooms}
 use Rattle.op_kind.specs.Resources.{Resources}
 
 -- what stood at the paths that changed, the last one first, the earlier counters, and how many partners there were
 pub record Way : Type 0 where
-  pub tree : Changes
-  pub shelf : Changes
+  pub tree : Edits
+  pub shelf : Edits
   pub next_node : ℕ
   pub next_stamp : ℕ
   pub next_marker : ℕ
   pub partners : ℕ
 
 -- a way is stored as the tuple of its fields
-abbrev pub way_code : Coded Changes → Coded Way
+abbrev pub way_code : Coded Edits → Coded Way
 way_code c = code_by
-    (Changes × (Changes × (ℕ × (ℕ × (ℕ × ℕ)))))
+    (Edits × (Edits × (ℕ × (ℕ × (ℕ × ℕ)))))
     (coded× c (coded× c (coded× coded_ℕ (coded× coded_ℕ (coded× coded_ℕ coded_ℕ)))))
     (λ w. (w.tree, (w.shelf, (w.next_node, (w.next_stamp, (w.next_marker, w.partners))))))
     (λ p. record {
@@ -32,7 +32,7 @@ way_code c = code_by
     (λ _. refl)
 
 -- the way back to these counters and so many partners, by what stood in the tree and on the shelf
-abbrev pub way_to : Side → ℕ → Changes → Changes → Way
+abbrev pub way_to : Side → ℕ → Edits → Edits → Way
 way_to side partners tree shelf = record {
   tree = tree;
   shelf = shelf;

@@ -1,3 +1,3 @@
-pub mod Changes
+pub mod Edits
 pub mod Backs
 pub mod Inside

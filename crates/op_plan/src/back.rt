@@ -1,10 +1,10 @@
 //! The way back before an operation.
 ghost use Rattle.std.specs.Prelude.{◌≡◌};
 ghost use Rattle.op_plan.specs.Backs.{taken_back, way_to};
-ghost use Rattle.op_plan.specs.Changes.{HasRooms};
+ghost use Rattle.op_plan.specs.Edits.{HasRooms};
 ghost use Rattle.op_kind.specs.Resources.{resources};
 
-use crate::changes::Earlier;
+use crate::edits::Earlier;
 use crate::{OpAnswer, Side};
 use std::marker::Model;
 use ws_elem::TreeRep;

@@ -6,7 +6,8 @@ ghost use Rattle.res_path.specs.Paths.{parent};
 ghost use Rattle.ws_elem.specs.Kinds.{is_file};
 ghost use Rattle.op_kind.specs.Judging.{Decides, Judges, IfRefused};
 ghost use Rattle.op_kind.specs.Places.{project_of, project_name, is_project_path, is_member_path, is_root_path, has_file, has_closed, is_shut};
-ghost use Rattle.op_kind.specs.Refusals.{when, first_cause, closed, member_closed, missing, container_causes, above_causes, around_causes, place_causes, number_causes, creation_causes, contents_causes, is_spent, max_elements, project_causes};
+ghost use Rattle.proj_desc.specs.FirstCause.{when, first_cause};
+ghost use Rattle.op_kind.specs.Refusals.{closed, member_closed, missing, container_causes, above_causes, around_causes, place_causes, number_causes, creation_causes, contents_causes, is_spent, max_elements, project_causes};
 ghost use Rattle.op_plan.specs.Inside.Plans.{CanDraw};
 ghost use Rattle.op_kind.specs.Resources.{resources};
 

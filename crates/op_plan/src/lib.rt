@@ -1,7 +1,7 @@
 //! What the plans of operations stand on.
 //!
 //! - `plan`: a `Plan`, what an operation is going to change, made before anything changes.
-//! - `changes`: what is to stand at some paths, and what stood there.
+//! - `edits`: what is to stand at some paths, and what stood there.
 //! - `back`: a `Back`, the way back before an operation.
 //! - `checks`: the causes for which operations are refused, one by one.
 //! - `walk`: a resource with all below it.
@@ -9,8 +9,8 @@
 #![tactic(auto)]
 
 pub mod back;
-pub mod changes;
 pub mod checks;
+pub mod edits;
 pub mod losing;
 pub mod plan;
 pub mod walk;

@@ -7,7 +7,7 @@ ghost use Rattle.mark_set.specs.Markers.{has_type};
 ghost use Rattle.op_kind.specs.Marking.{change_all, count_all, unmarked, count_marks, removed, unsynced, count_bytes};
 ghost use Rattle.op_kind.specs.Problems.{is_at_or_above, is_problem_from, without_problems_from};
 
-use crate::changes::Changes;
+use crate::edits::Edits;
 use crate::{Entries, NoMemory};
 use mark_set::{MarkSet, MarkText, Marker, RawText, Value};
 use res_path::Path;
@@ -20,7 +20,7 @@ pub fn unmark_all(
     alloc: Global,
     entries: &Entries,
     mark_type: &RawText,
-    changes: &mut Changes,
+    changes: &mut Edits,
 ) -> Result<u64, NoMemory>
     ensures count { IfOk result (λ n. n ≡ count_all (count_marks mark_type.now) entries.now) }
     ensures changes { OnOk result (changes.new ≡ changes.old
@@ -42,7 +42,7 @@ pub fn unsync_all(
     alloc: Global,
     entries: &Entries,
     number: u32,
-    changes: &mut Changes,
+    changes: &mut Edits,
 ) -> Result<u64, NoMemory>
     ensures count { IfOk result (λ n. n ≡ count_all (count_bytes number) entries.now) }
     ensures changes { OnOk result (changes.new ≡ changes.old
@@ -75,7 +75,7 @@ fn unmark(
     path: &Path,
     element: &Element,
     mark_type: &RawText,
-    changes: &mut Changes,
+    changes: &mut Edits,
 ) -> Result<u64, NoMemory>
     ensures count { IfOk result (λ n. n ≡ count_marks mark_type.now element.now) }
     ensures changes { OnOk result (changes.new ≡ changes.old
@@ -126,7 +126,7 @@ fn unsync(
     path: &Path,
     element: &Element,
     number: u32,
-    changes: &mut Changes,
+    changes: &mut Edits,
 ) -> Result<u64, NoMemory>
     ensures count { IfOk result (λ n. n ≡ count_bytes number element.now) }
     ensures changes { OnOk result (changes.new ≡ changes.old

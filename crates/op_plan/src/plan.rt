@@ -2,7 +2,7 @@
 ghost use Rattle.std.specs.Prelude.{◌≡◌, ◌+◌, ◌<◌, ◌^◌, IfOk};
 ghost use Rattle.op_plan.specs.Inside.Plans.{CanDraw, no_change, put_at, stamp_at, create_at};
 
-use crate::changes::Changes;
+use crate::edits::Edits;
 use crate::{NoMemory, OpAnswer, Side};
 use res_path::{Name, Path};
 use std::alloc::Global;
@@ -11,8 +11,8 @@ use ws_elem::Element;
 /// What an operation is going to change, made before anything changes.
 #[derive(Drop)]
 pub struct Plan {
-    pub tree: Changes,
-    pub shelf: Changes,
+    pub tree: Edits,
+    pub shelf: Edits,
     pub next_node: u64,
     pub next_stamp: u64,
     pub next_marker: u64,
@@ -27,8 +27,8 @@ impl Plan {
         ensures { result ≡ no_change side.now }
     {
         Plan {
-            tree: Changes::none(alloc),
-            shelf: Changes::none(alloc),
+            tree: Edits::none(alloc),
+            shelf: Edits::none(alloc),
             next_node: side.next_node,
             next_stamp: side.next_stamp,
             next_marker: side.next_marker,

@@ -6,7 +6,8 @@ ghost use Rattle.std.specs.Option.{option_map};
 ghost use Rattle.res_path.specs.Paths.{is_prefix};
 ghost use Rattle.ws_elem.specs.Depths.{is_within};
 ghost use Rattle.op_kind.specs.Marking.{reached};
-ghost use Rattle.op_kind.specs.Members.{found_at, members, branch};
+ghost use Rattle.ws_elem.specs.Trees.{branch};
+ghost use Rattle.op_kind.specs.Members.{found_at, members};
 ghost use Rattle.op_plan.specs.Inside.Walks.{members_after, IsFirst};
 
 use crate::{Entries, NoMemory};

@@ -7,10 +7,10 @@ use Rattle.std.specs.FinMap.Entries.{below_all}
 use Rattle.std.specs.Ordering.{is_lt}
 use Rattle.std.proofs.Math.Seq.{drop-append_seam}
 use Rattle.res_path.specs.Paths.{Names, path_cmp, is_prefix}
-use Rattle.ws_elem.specs.Trees.{Tree}
+use Rattle.ws_elem.specs.Trees.{Tree, branch}
 use Rattle.ws_elem.proofs.Cuts.{same_at}
 use Rattle.op_kind.specs.Entries.{Entries}
-use Rattle.op_kind.specs.Members.{branch, put_all, rebased, carried}
+use Rattle.op_kind.specs.Members.{put_all, rebased, carried}
 use Rattle.op_kind.specs.Numbers.{stamps_of, stamps_of_all}
 use Rattle.op_kind.specs.Effects.{renumbered, copies}
 use Rattle.op_kind.proofs.PathsBelow.{never, not_true, prefix_is, prefix_front}

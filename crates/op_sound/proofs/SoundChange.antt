@@ -13,10 +13,11 @@ use Rattle.ws_elem.proofs.Cuts.{same_at}
 use Rattle.op_kind.specs.declared.refusal.OpRefusal.TheVariants.{ProjectClosed, WrongKind}
 use Rattle.op_kind.specs.Resources.{Resources}
 use Rattle.op_kind.specs.Places.{project_of, is_project_path, is_in_shut}
-use Rattle.op_kind.specs.Refusals.{first_cause, contents_causes, derived_causes, describe_causes}
+use Rattle.proj_desc.specs.FirstCause.{first_cause}
+use Rattle.op_kind.specs.Refusals.{contents_causes, derived_causes, describe_causes}
 use Rattle.op_kind.specs.Effects.{change_at, write, touch, derive, described, describe}
 use Rattle.op_kind.specs.Problems.{command_count, is_problem_from, without_problems_from}
-use Rattle.op_kind.specs.Sound.{opened, IsSound}
+use Rattle.op_kind.specs.Sound.{opened, IsConsistent}
 use Rattle.op_kind.specs.Stamps.{IsDrawn}
 use Rattle.op_kind.proofs.PathsBelow.{one_short}
 use Rattle.op_kind.proofs.Cases.{if_as, some_same, at_cond, if_there, at_some, map_if}
@@ -36,7 +37,7 @@ record IsBeside (change : Element → Element) : Type 0 where
   pub alike : (e : Element) → Alike e (change e)
   pub turns : (e : Element) → opened (change e) ≡ change (opened e)
 
-change_keeps : (Fresh : Element → Type 0) (r : Resources) (p : Names) (change : Element → Element) (stamps : ℕ) → IsSound r → IsBeside change
+change_keeps : (Fresh : Element → Type 0) (r : Resources) (p : Names) (change : Element → Element) (stamps : ℕ) → IsConsistent r → IsBeside change
     → is_kept (get r.tree) p ≡ false → r.next_stamp ≤ stamps
     → ((e : Element) → get r.tree p ≡ Some e → Comes Fresh r (changed_to r p change stamps) (change e))
     → ((e : Element) → Fresh e → e.kind ≡ File → r.next_stamp ≤ e.stamp) → ((e f : Element) → Fresh e → Fresh f → Same e f)
@@ -83,7 +84,7 @@ all_changed A change h x e is = at_some A (option_map change x) e is (map_if cha
 abbrev pub rewrite_with : ℕ → (List ℕ → List ℕ) → Element → Element
 rewrite_with stamp bytes e = record e { stamp = stamp; bytes = bytes e.bytes }
 
-contents_keeps : (r : Resources) (p : Names) (bytes : List ℕ → List ℕ) → IsSound r → first_cause (contents_causes r p) ≡ None
+contents_keeps : (r : Resources) (p : Names) (bytes : List ℕ → List ℕ) → IsConsistent r → first_cause (contents_causes r p) ≡ None
     → Keeps (IsChanged r p (rewrite_with r.next_stamp bytes)) r (changed_to r p (rewrite_with r.next_stamp bytes) (r.next_stamp + 1))
 contents_keeps r p bytes x h = change_keeps (IsChanged r p change) r p change (r.next_stamp + 1) x record { alike = λ e. record { kind = refl; node = refl; opened = refl }; turns = turns }
     (passed (is_in_shut r.tree p) (ProjectClosed (project_of p)) _ h).0 (omega arith)
@@ -111,17 +112,17 @@ contents_keeps r p bytes x h = change_keeps (IsChanged r p change) r p change (r
       syncs = d.syncs;
     }
 
-pub write_keeps : (r : Resources) (p : Names) (bytes : List ℕ) → IsSound r → first_cause (contents_causes r p) ≡ None
+pub write_keeps : (r : Resources) (p : Names) (bytes : List ℕ) → IsConsistent r → first_cause (contents_causes r p) ≡ None
     → Keeps (IsChanged r p (rewrite_with r.next_stamp (λ _. bytes))) r (write r p bytes)
 write_keeps r p bytes x h = contents_keeps r p (λ _. bytes) x h
 
-pub touch_keeps : (r : Resources) (p : Names) → IsSound r → first_cause (contents_causes r p) ≡ None
+pub touch_keeps : (r : Resources) (p : Names) → IsConsistent r → first_cause (contents_causes r p) ≡ None
     → Keeps (IsChanged r p (rewrite_with r.next_stamp (λ b. b))) r (touch r p)
 touch_keeps r p x h = contents_keeps r p (λ b. b) x h
 
 -- ---- what isn't contents
 
-pub derive_keeps : (r : Resources) (p : Names) (on : Bool) → IsSound r → first_cause (derived_causes r.tree p) ≡ None → Keeps (λ _. ⊥) r (derive r p on)
+pub derive_keeps : (r : Resources) (p : Names) (on : Bool) → IsConsistent r → first_cause (derived_causes r.tree p) ≡ None → Keeps (λ _. ⊥) r (derive r p on)
 derive_keeps r p on x h = change_keeps (λ _. ⊥) r p (λ e. record e { derived = on }) r.next_stamp x record { alike = λ e. record { kind = refl; node = refl; opened = refl }; turns = turns }
     (passed (is_in_shut r.tree p) (ProjectClosed (project_of p)) _ h).0 (omega arith)
     (λ e is.
@@ -138,7 +139,7 @@ derive_keeps r p on x h = change_keeps (λ _. ⊥) r p (λ e. record e { derived
         cond b (record e { derived = on; opened = true }) (record e { derived = on })
         ≡ record (cond b (record e { opened = true }) e) { derived = on }) [ true ↦ refl | false ↦ refl ]
 
-pub describe_keeps : (r : Resources) (p : Names) (text : List ℕ) → IsSound r → first_cause (describe_causes r p text) ≡ None → Keeps (λ _. ⊥) r (describe r p text)
+pub describe_keeps : (r : Resources) (p : Names) (text : List ℕ) → IsConsistent r → first_cause (describe_causes r p text) ≡ None → Keeps (λ _. ⊥) r (describe r p text)
 describe_keeps r p text x h = change_keeps (λ _. ⊥) r p (described r.next_stamp text) (r.next_stamp + 1) x
     record { alike = λ e. record { kind = refl; node = refl; opened = refl }; turns = turns (unwrap_or (canonical_of text) []) (command_count text) }
     (short_kept (get r.tree) p (one_short p (one_name p (passed (not (is_project_path p)) (WrongKind p) _ h).0))) (omega arith)

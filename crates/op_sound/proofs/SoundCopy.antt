@@ -1,20 +1,21 @@
 -- Copying keeps resources sound.
-use Rattle.std.proofs.Common.{◌≡◌, ◌≢◌, ℕ, ◌+◌, ◌<◌, ◌≤◌, Bool, true, false, cond, ◌||◌, length, refl, sym, ap, ◌∙◌, subst, arith, inr}
+use Rattle.std.proofs.Common.{◌≡◌, ◌≢◌, ℕ, ◌+◌, ◌<◌, ◌≤◌, Bool, true, false, cond, ◌||◌, ◌++◌, length, refl, sym, ap, ◌∙◌, subst, arith, inr}
 use Rattle.std.specs.Prelude.{Some, None, IfSome}
 use Rattle.std.specs.Option.{option_map}
 use Rattle.std.specs.FinMap.{get}
 use Rattle.res_path.specs.Paths.{Names, is_prefix}
 use Rattle.ws_elem.specs.Kinds.{is_file, is_project}
-use Rattle.ws_elem.specs.Trees.{Tree}
+use Rattle.ws_elem.specs.Trees.{Tree, branch}
 use Rattle.ws_elem.specs.declared.element.Element.{Element}
 use Rattle.ws_elem.specs.declared.kind.Kind.TheVariants.{File}
 use Rattle.op_kind.specs.Resources.{Resources}
 use Rattle.op_kind.specs.Entries.{Entries}
-use Rattle.op_kind.specs.Members.{branch, put_all, rebased, carried}
+use Rattle.op_kind.specs.Members.{put_all, rebased, carried}
 use Rattle.op_kind.specs.Numbers.{stamps_of, stamps_of_all}
-use Rattle.op_kind.specs.Refusals.{first_cause, copy_causes}
+use Rattle.proj_desc.specs.FirstCause.{first_cause}
+use Rattle.op_kind.specs.Refusals.{copy_causes, fit_causes, number_causes}
 use Rattle.op_kind.specs.Effects.{renumbered, copies, copy}
-use Rattle.op_kind.specs.Sound.{IsSound}
+use Rattle.op_kind.specs.Sound.{IsConsistent}
 use Rattle.op_kind.specs.Stamps.{IsDrawn}
 use Rattle.op_kind.proofs.Cases.{if_as, at_two, some_same, at_cond, cond_true, if_map, if_there, at_some, map_if}
 use Rattle.op_kind.proofs.Looks.{find_at, sorted-branch}
@@ -86,7 +87,7 @@ copy_same r copied e f c d k l same =
     let path : c.path ≡ d.path = apart (omega arith) (omega arith) (sym stamp ∙ same ∙ other) in
     ap (λ g. g.bytes) c.is ∙ ap (λ g. g.bytes) (some_same c.from d.from (sym c.there ∙ ap (λ p. find_at p copied) path ∙ d.there)) ∙ sym (ap (λ g. g.bytes) d.is)
 
-module _ (r : Resources) (from to : Names) (x : IsSound r) (at : Transfer r.tree from to) where
+module _ (r : Resources) (from to : Names) (x : IsConsistent r) (at : Transfer r.tree from to) where
   abbrev copied : Entries
   copied = branch r.tree from
 
@@ -177,5 +178,5 @@ module _ (r : Resources) (from to : Names) (x : IsSound r) (at : Transfer r.tree
     };
   }
 
-pub copy_keeps : (r : Resources) (from to : Names) → IsSound r → first_cause (copy_causes r from to) ≡ None → Keeps (IsCopy r (branch r.tree from)) r (copy r from to)
-copy_keeps r from to x h = copied_keeps r from to x (transferred r.tree from to _ h)
+pub copy_keeps : (r : Resources) (from to : Names) → IsConsistent r → first_cause (copy_causes r from to) ≡ None → Keeps (IsCopy r (branch r.tree from)) r (copy r from to)
+copy_keeps r from to x h = copied_keeps r from to x (transferred r.tree from to (fit_causes r.tree from to ++ number_causes r (length (branch r.tree from)) (stamps_of_all (branch r.tree from))) h)

@@ -11,9 +11,10 @@ use Rattle.ws_elem.proofs.Cuts.{same_at}
 use Rattle.op_kind.specs.declared.refusal.OpRefusal.TheVariants.{ProjectClosed, WrongKind}
 use Rattle.op_kind.specs.Resources.{Resources}
 use Rattle.op_kind.specs.Places.{project_of, is_project_path, is_member_path, is_root_path, is_shut}
-use Rattle.op_kind.specs.Refusals.{when, first_cause, creation_causes, deletion_causes}
+use Rattle.proj_desc.specs.FirstCause.{when, first_cause}
+use Rattle.op_kind.specs.Refusals.{creation_causes, deletion_causes, number_causes}
 use Rattle.op_kind.specs.Effects.{create, delete, new_file, new_folder, new_project}
-use Rattle.op_kind.specs.Sound.{IsSound}
+use Rattle.op_kind.specs.Sound.{IsConsistent}
 use Rattle.op_kind.specs.Stamps.{IsDrawn}
 use Rattle.op_kind.proofs.PathsBelow.{never, not_true, prefix_itself}
 use Rattle.op_kind.proofs.Cases.{if_as, at_cond, if_map}
@@ -63,7 +64,7 @@ single_graft r f p e at above drawn new = record {
       (λ h less same. let next : e.node ≡ r.next_node = new.node in absurd (omega arith)) (drawn u));
 }
 
-create_keeps : (r : Resources) (p : Names) (e : Element) → IsSound r → Place (get r.tree) p → IsNew r p e → Keeps (λ g. g ≡ e) r (create r p e)
+create_keeps : (r : Resources) (p : Names) (e : Element) → IsConsistent r → Place (get r.tree) p → IsNew r p e → Keeps (λ g. g ≡ e) r (create r p e)
 create_keeps r p e x at new = record {
   whole = insert (whole_of r x) p e;
   fits = fits_as (graft (get (whole_of r x)) (single p e) p) (get (insert (whole_of r x) p e)) (is_put (whole_of r x) (whole_free r x p at))
@@ -92,7 +93,7 @@ create_keeps r p e x at new = record {
     put = single_graft r (get (whole_of r x)) p e at (whole_above r x p at) (whole_nodes r x) new
 
 -- the root has a stamp that was drawn
-some_stamp : (r : Resources) → IsSound r → 1 ≤ r.next_stamp
+some_stamp : (r : Resources) → IsConsistent r → 1 ≤ r.next_stamp
 some_stamp r x = by (get r.tree []) x.tree.root (x.tree_known.drawn [])
   where
     by : (y : Option Element) → IsSomeAnd y (λ e. e.kind ≡ Root) → IfSome y (IsDrawn r) → 1 ≤ r.next_stamp
@@ -102,7 +103,7 @@ some_stamp r x = by (get r.tree []) x.tree.root (x.tree_known.drawn [])
 created_place : (r : Resources) (p : Names) (stamps : ℕ) → p ≢ [] → first_cause (creation_causes r p stamps) ≡ None → Place (get r.tree) p
 created_place r p stamps below h =
     let a = passed (is_shut r.tree p) (ProjectClosed (project_of p)) _ h in
-    free_place r.tree p _ below a.0 a.1
+    free_place r.tree p (number_causes r 1 stamps) below a.0 a.1
 
 pub two_names : (p : Names) → not (is_member_path p) ≡ false → 2 ≤ length p
 two_names p h = grind (arith, nat_tests)
@@ -110,10 +111,10 @@ two_names p h = grind (arith, nat_tests)
 pub one_name : (p : Names) → not (is_project_path p) ≡ false → length p ≡ 1
 one_name p h = grind (arith, nat_tests)
 
-pub file_keeps : (r : Resources) (p : Names) (bytes : List ℕ) → IsSound r → first_cause (when (not (is_member_path p)) (WrongKind p) ∷ creation_causes r p 1) ≡ None
+pub file_keeps : (r : Resources) (p : Names) (bytes : List ℕ) → IsConsistent r → first_cause (when (not (is_member_path p)) (WrongKind p) ∷ creation_causes r p 1) ≡ None
     → Keeps (λ g. g ≡ new_file r.next_node r.next_stamp bytes) r (create r p (new_file r.next_node r.next_stamp bytes))
 file_keeps r p bytes x h =
-    let a = passed (not (is_member_path p)) (WrongKind p) (creation_causes r p 1) h in
+    let a = passed (not (is_member_path p)) (WrongKind p) (first_cause (creation_causes r p 1)) h in
     let two : 2 ≤ length p = two_names p a.0 in
     let some : 1 ≤ r.next_stamp = some_stamp r x in
     create_keeps r p (new_file r.next_node r.next_stamp bytes) x (created_place r p 1 (names_at_least p (omega arith)) a.1) record {
@@ -125,10 +126,10 @@ file_keeps r p bytes x h =
       drawn = record { node = omega arith; stamp = omega arith; desc_stamp = omega arith; marks = no_marks r.next_marker; syncs = no_bytes (length r.partners) };
     }
 
-pub folder_keeps : (r : Resources) (p : Names) → IsSound r → first_cause (when (not (is_member_path p)) (WrongKind p) ∷ creation_causes r p 0) ≡ None
+pub folder_keeps : (r : Resources) (p : Names) → IsConsistent r → first_cause (when (not (is_member_path p)) (WrongKind p) ∷ creation_causes r p 0) ≡ None
     → Keeps (λ g. g ≡ new_folder r.next_node) r (create r p (new_folder r.next_node))
 folder_keeps r p x h =
-    let a = passed (not (is_member_path p)) (WrongKind p) (creation_causes r p 0) h in
+    let a = passed (not (is_member_path p)) (WrongKind p) (first_cause (creation_causes r p 0)) h in
     let two : 2 ≤ length p = two_names p a.0 in
     let some : 1 ≤ r.next_stamp = some_stamp r x in
     create_keeps r p (new_folder r.next_node) x (created_place r p 0 (names_at_least p (omega arith)) a.1) record {
@@ -140,10 +141,10 @@ folder_keeps r p x h =
       drawn = record { node = omega arith; stamp = omega arith; desc_stamp = omega arith; marks = no_marks r.next_marker; syncs = no_bytes (length r.partners) };
     }
 
-pub project_keeps : (r : Resources) (p : Names) → IsSound r → first_cause (when (not (is_project_path p)) (WrongKind p) ∷ creation_causes r p 1) ≡ None
+pub project_keeps : (r : Resources) (p : Names) → IsConsistent r → first_cause (when (not (is_project_path p)) (WrongKind p) ∷ creation_causes r p 1) ≡ None
     → Keeps (λ g. g ≡ new_project r.next_node r.next_stamp) r (create r p (new_project r.next_node r.next_stamp))
 project_keeps r p x h =
-    let a = passed (not (is_project_path p)) (WrongKind p) (creation_causes r p 1) h in
+    let a = passed (not (is_project_path p)) (WrongKind p) (first_cause (creation_causes r p 1)) h in
     let one : length p ≡ 1 = one_name p a.0 in
     let some : 1 ≤ r.next_stamp = some_stamp r x in
     create_keeps r p (new_project r.next_node r.next_stamp) x (created_place r p 1 (names_at_least p (omega arith)) a.1) record {
@@ -157,7 +158,7 @@ project_keeps r p x h =
 
 -- ---- deletions
 
-pub delete_keeps : (r : Resources) (p : Names) → IsSound r → first_cause (deletion_causes r.tree p) ≡ None → Keeps (λ _. ⊥) r (delete r p)
+pub delete_keeps : (r : Resources) (p : Names) → IsConsistent r → first_cause (deletion_causes r.tree p) ≡ None → Keeps (λ _. ⊥) r (delete r p)
 delete_keeps r p x h = record {
   whole = without (whole_of r x) p;
   fits = fits_as (cut (get (whole_of r x)) p) (get (without (whole_of r x) p)) (get-without (whole_of r x) p) (cut_fits (get (whole_of r x)) p below (whole_fits r x));

@@ -9,7 +9,7 @@ use Rattle.ws_elem.specs.declared.kind.Kind.TheVariants.{Root}
 use Rattle.ws_elem.proofs.Fresh.{get-fresh_tree, whole-fresh_tree}
 use Rattle.op_kind.specs.Resources.{Resources}
 use Rattle.op_kind.specs.Places.{has_closed, project_of}
-use Rattle.op_kind.specs.Sound.{IsSound}
+use Rattle.op_kind.specs.Sound.{IsConsistent}
 use Rattle.op_kind.specs.Stamps.{IsDrawn, IsKnown}
 use Rattle.op_kind.proofs.Cases.{if_there, none_if}
 use Rattle.op_sound.proofs.SoundParts.{IsOpen, Fits, Parts, open_kept, open_split, is_kept, open_not_closed, parts_sound}
@@ -56,7 +56,7 @@ known t d no_file = record {
   shelf = λ p q. no_file (λ e. IfSome (get fresh_shelf q) (λ f. Same e f)) (λ e _. nothing (λ f. Same e f) q) p;
 }
 
-pub fresh_sound : IsSound fresh_resources
+pub fresh_sound : IsConsistent fresh_resources
 fresh_sound = parts_sound fresh_resources fresh_tree fits parts (known fresh_tree drawn root_at) (known fresh_shelf (nothing (IsDrawn fresh_resources)) (λ A _. nothing A))
   where
     fits : Fits (get fresh_tree)

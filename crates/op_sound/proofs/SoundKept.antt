@@ -1,15 +1,14 @@
 -- Whole trees, and equal stamps for equal contents, are kept by every operation that isn't refused.
 use Rattle.std.proofs.Common.{◌≡◌}
 use Rattle.std.specs.Prelude.{None}
-use Rattle.ws_elem.specs.Trees.{Tree}
+use Rattle.ws_elem.specs.Trees.{Tree, branch}
 use Rattle.ws_elem.specs.declared.element.Element.{Element}
 use Rattle.op_kind.specs.declared.op.Op.{Op}
 use Rattle.op_kind.specs.declared.op.Op.TheVariants.{CreateFile, CreateFolder, CreateProject, Delete, Write, Touch, Derived, Move, Copy, Open, Close, Describe, Mark, Attr, Unmark, ClearMarks, Partner, Sync, Flush, Read}
 use Rattle.op_kind.specs.Resources.{Resources}
-use Rattle.op_kind.specs.Members.{branch}
 use Rattle.op_kind.specs.Refusals.{refusal}
 use Rattle.op_kind.specs.Effects.{effect, new_file, new_folder, new_project}
-use Rattle.op_kind.specs.Sound.{IsSound}
+use Rattle.op_kind.specs.Sound.{IsConsistent}
 use Rattle.op_kind.specs.Stamps.{IsKnown}
 use Rattle.op_sound.proofs.SoundSteps.{Keeps, kept_sound, kept_known}
 use Rattle.op_sound.proofs.SoundCreate.{file_keeps, folder_keeps, project_keeps, delete_keeps}
@@ -42,7 +41,7 @@ Fresh r (Sync p name bytes) e = ⊥
 Fresh r (Flush p name depth) e = ⊥
 Fresh r (Read p want) e = ⊥
 
-keeps : (r : Resources) (op : Op) → IsSound r → refusal r op ≡ None → Keeps (Fresh r op) r (effect r op).0
+keeps : (r : Resources) (op : Op) → IsConsistent r → refusal r op ≡ None → Keeps (Fresh r op) r (effect r op).0
 keeps r (CreateFile p bytes) x h = file_keeps r p bytes x h
 keeps r (CreateFolder p) x h = folder_keeps r p x h
 keeps r (CreateProject p) x h = project_keeps r p x h
@@ -65,9 +64,9 @@ keeps r (Flush p name depth) x h = flush_keeps r p name depth x
 keeps r (Read p want) x h = read_keeps r x
 
 -- what is sound stays so
-pub effect_sound : (r : Resources) (op : Op) → IsSound r → refusal r op ≡ None → IsSound (effect r op).0
+pub effect_sound : (r : Resources) (op : Op) → IsConsistent r → refusal r op ≡ None → IsConsistent (effect r op).0
 effect_sound r op x h = kept_sound (Fresh r op) r (effect r op).0 x (keeps r op x h)
 
 -- a remembered tree that agrees by its stamps with what stands there agrees with what stands there after
-pub effect_known : (r : Resources) (op : Op) (t : Tree) → IsSound r → refusal r op ≡ None → IsKnown r t → IsKnown (effect r op).0 t
+pub effect_known : (r : Resources) (op : Op) (t : Tree) → IsConsistent r → refusal r op ≡ None → IsKnown r t → IsKnown (effect r op).0 t
 effect_known r op t x h k = kept_known (Fresh r op) r (effect r op).0 t (keeps r op x h) k

@@ -9,17 +9,18 @@ use Rattle.std.proofs.Math.Seq.{drop-append_seam}
 use Rattle.std.proofs.lemmas.List.{append-nil}
 use Rattle.res_path.specs.Paths.{Names, parent, is_prefix}
 use Rattle.ws_elem.specs.Kinds.{is_project}
-use Rattle.ws_elem.specs.Trees.{Tree, Whole, without}
+use Rattle.ws_elem.specs.Trees.{Tree, Whole, without, branch}
 use Rattle.ws_elem.specs.declared.element.Element.{Element}
 use Rattle.ws_elem.specs.declared.kind.Kind.TheVariants.{File, Project, Root}
 use Rattle.op_kind.specs.declared.refusal.OpRefusal.{OpRefusal}
 use Rattle.op_kind.specs.declared.refusal.OpRefusal.TheVariants.{NotFound, WrongKind, ProjectClosed, IntoItself}
 use Rattle.op_kind.specs.Resources.{Resources}
 use Rattle.op_kind.specs.Places.{project_of, is_root_path, is_project_path, has_closed, is_shut}
-use Rattle.op_kind.specs.Members.{branch, put_all, rebased, carried}
-use Rattle.op_kind.specs.Refusals.{when, first_cause, kind_causes, closed, missing, place_causes, transfer_causes}
+use Rattle.op_kind.specs.Members.{put_all, rebased, carried}
+use Rattle.proj_desc.specs.FirstCause.{when, first_cause}
+use Rattle.op_kind.specs.Refusals.{kind_causes, closed, missing, place_causes, transfer_causes, fit_causes}
 use Rattle.op_kind.specs.Effects.{move}
-use Rattle.op_kind.specs.Sound.{opened, IsSound}
+use Rattle.op_kind.specs.Sound.{opened, IsConsistent}
 use Rattle.op_kind.proofs.PathsBelow.{one_short, never, not_true, prefix_is, prefix_front, prefix_parent, parent_append, project_below, project_itself}
 use Rattle.op_kind.proofs.Cases.{if_as, at_cond, cond_true, cond_false, if_map, if_there, at_some, map_if, map_some, some_map}
 use Rattle.op_kind.proofs.Looks.{Look, cut, get-without, find_at, find-branch, sorted-branch}
@@ -191,7 +192,7 @@ map_itself None = refl
 map_itself (Some e) = refl
 
 -- the node of what is carried is its own
-carried_apart : (r : Resources) (x : IsSound r) (from to q u : Names) → is_prefix from u ≡ false
+carried_apart : (r : Resources) (x : IsConsistent r) (from to q u : Names) → is_prefix from u ≡ false
     → IfSome (get r.tree (rebased to from q)) (λ e. IfSome (get (whole_of r x) u) (λ l. e.node ≢ l.node))
 carried_apart r x from to q u away = if_there (λ e. IfSome (get (whole_of r x) u) (λ l. e.node ≢ l.node)) (get r.tree (rebased to from q)) (λ e is.
     if_map (λ l. (opened e).node ≡ l.node → rebased to from q ≡ u) (λ l. e.node ≢ l.node) (get (whole_of r x) u)
@@ -200,14 +201,14 @@ carried_apart r x from to q u away = if_there (λ e. IfSome (get (whole_of r x) 
     (in_whole (get r.tree) (get r.shelf) (get (whole_of r x)) (whole_fits r x) (whole_parts r x) (rebased to from q) e is) ((whole_fits r x).nodes (rebased to from q) u)))
 
 -- the shelf has nothing below what isn't closed
-shelf_left : (r : Resources) (x : IsSound r) (from : Names) → from ≢ [] → has_closed (get r.tree (project_of from)) ≡ false → (q : Names)
+shelf_left : (r : Resources) (x : IsConsistent r) (from : Names) → from ≢ [] → has_closed (get r.tree (project_of from)) ≡ false → (q : Names)
     → cut (get r.shelf) from q ≡ get r.shelf q
 shelf_left r x from some shown q = at_cond (λ z. z ≡ get r.shelf q) (is_prefix from q) None (get r.shelf q)
     (λ under. sym (split_false (is_kept (get r.tree) q) (get r.tree q) (get r.shelf q) (get (whole_of r x) q)
     (open_kept (get r.tree) q (ap (λ z. has_closed (get r.tree z)) (project_below from q some under) ∙ shown)) (whole_parts r x q)).0)
     (λ _. refl)
 
-moved_graft : (r : Resources) (from to : Names) (x : IsSound r) → Transfer r.tree from to
+moved_graft : (r : Resources) (from to : Names) (x : IsConsistent r) → Transfer r.tree from to
     → IsGraft (cut (get (whole_of r x)) from) (brought (get r.tree) from to as_was) to
 moved_graft r from to x at = brought_graft r.tree (cut (get (whole_of r x)) from) from to as_was x.tree record { kind = λ _ _. refl; opened = λ _ _. refl } at
     (subst (λ z. IsSomeAnd z (λ e. e.kind ≢ File))
@@ -224,7 +225,7 @@ moved_graft r from to x at = brought_graft r.tree (cut (get (whole_of r x)) from
     (at_cond (λ z. IfSome (get r.tree (rebased to from q)) (λ e. IfSome z (λ l. e.node ≢ l.node))) (is_prefix from u) None (get (whole_of r x) u)
     (λ _. if_there (λ _. Unit {0}) (get r.tree (rebased to from q)) (λ _ _. tt)) (carried_apart r x from to q u)))
 
-moves : (r : Resources) (from to : Names) → IsSound r → Transfer r.tree from to → Keeps (λ _. ⊥) r (move r from to)
+moves : (r : Resources) (from to : Names) → IsConsistent r → Transfer r.tree from to → Keeps (λ _. ⊥) r (move r from to)
 moves r from to x at = record {
   whole = put_all (without (whole_of r x) from) (carried from to (branch r.tree from));
   fits = fits_as (graft (cut (get (whole_of r x)) from) (brought (get r.tree) from to as_was) to) (get (put_all (without (whole_of r x) from) (carried from to (branch r.tree from))))
@@ -257,5 +258,5 @@ moves r from to x at = record {
     was : (q : Names) → IfSome (get r.tree q) (Comes (λ _. ⊥) r (move r from to))
     was = stays_tree (λ _. ⊥) r (move r from to) (still r) x.tree_known
 
-pub move_keeps : (r : Resources) (from to : Names) → IsSound r → first_cause (transfer_causes r.tree from to) ≡ None → Keeps (λ _. ⊥) r (move r from to)
-move_keeps r from to x h = moves r from to x (transferred r.tree from to _ h)
+pub move_keeps : (r : Resources) (from to : Names) → IsConsistent r → first_cause (transfer_causes r.tree from to) ≡ None → Keeps (λ _. ⊥) r (move r from to)
+move_keeps r from to x h = moves r from to x (transferred r.tree from to (fit_causes r.tree from to) h)

@@ -24,9 +24,10 @@ use Rattle.op_kind.specs.Resources.{Resources}
 use Rattle.op_kind.specs.Partners.{Partners, is_partner, number_of}
 use Rattle.op_kind.specs.Places.{project_of, is_root_path, is_shut}
 use Rattle.op_kind.specs.Marking.{with_marker, put_marker, with_attribute_of}
-use Rattle.op_kind.specs.Refusals.{first_cause, sync_causes}
+use Rattle.proj_desc.specs.FirstCause.{first_cause}
+use Rattle.op_kind.specs.Refusals.{sync_causes}
 use Rattle.op_kind.specs.Effects.{mark, set_attribute, unmark, clear_marks, register, sync, flush}
-use Rattle.op_kind.specs.Sound.{opened, IsSound}
+use Rattle.op_kind.specs.Sound.{opened, IsConsistent}
 use Rattle.op_kind.specs.Stamps.{IsDrawn}
 use Rattle.op_kind.proofs.ChangedWhere.{change_where, get-change_where}
 use Rattle.op_kind.proofs.Cases.{if_as, at_cond, if_there, at_some, map_if}
@@ -100,7 +101,7 @@ number_below partners name h = by (nat_lt place (length partners)) refl h
 -- ---- one change
 
 -- what is at some paths is changed, and ids are drawn
-note_keeps : (r : Resources) (tree : Tree) (next : ℕ) (test : Names → Bool) (m : Marks → Marks) (s : Syncs → Syncs) → IsSound r → r.next_marker ≤ next
+note_keeps : (r : Resources) (tree : Tree) (next : ℕ) (test : Names → Bool) (m : Marks → Marks) (s : Syncs → Syncs) → IsConsistent r → r.next_marker ≤ next
     → ((q : Names) → get tree q ≡ changed_where (get r.tree) test (note m s) q)
     → ((marks : Marks) → Below r.next_marker marks → Below next (m marks)) → ((syncs : Syncs) → Below (length r.partners) syncs → Below (length r.partners) (s syncs))
     → Keeps (λ _. ⊥) r (record r { tree = tree; next_marker = next })
@@ -147,22 +148,22 @@ note_keeps r tree next test m s x more is in_marks in_syncs = record {
 
 -- ---- markers
 
-pub mark_keeps : (r : Resources) (p : Names) (mark_type : List ℕ) (attributes : List (List ℕ × RawValue)) → IsSound r → Keeps (λ _. ⊥) r (mark r p mark_type attributes)
+pub mark_keeps : (r : Resources) (p : Names) (mark_type : List ℕ) (attributes : List (List ℕ × RawValue)) → IsConsistent r → Keeps (λ _. ⊥) r (mark r p mark_type attributes)
 mark_keeps r p mark_type attributes x = note_keeps r (mark r p mark_type attributes).tree (r.next_marker + 1) (λ q. is_at q p) (λ marks. with_marker marks r.next_marker mark_type attributes) (λ syncs. syncs)
     x (omega arith) (get-change_at r.tree p (note (λ marks. with_marker marks r.next_marker mark_type attributes) (λ syncs. syncs)))
     (λ marks all. put_below (r.next_marker + 1) marks r.next_marker (new_marker r.next_marker mark_type attributes) (omega arith) (more_below r.next_marker (r.next_marker + 1) marks (omega arith) all))
     (λ _ all. all)
 
-pub attribute_keeps : (r : Resources) (p : Names) (id : ℕ) (name : List ℕ) (value : Option RawValue) → IsSound r → Keeps (λ _. ⊥) r (set_attribute r p id name value)
+pub attribute_keeps : (r : Resources) (p : Names) (id : ℕ) (name : List ℕ) (value : Option RawValue) → IsConsistent r → Keeps (λ _. ⊥) r (set_attribute r p id name value)
 attribute_keeps r p id name value x = note_keeps r (set_attribute r p id name value).tree r.next_marker (λ q. is_at q p) (λ marks. with_attribute_of marks id name value) (λ syncs. syncs)
     x (omega arith) (get-change_at r.tree p (note (λ marks. with_attribute_of marks id name value) (λ syncs. syncs)))
     (λ marks all. attribute_below r.next_marker marks id name value all) (λ _ all. all)
 
-pub unmark_keeps : (r : Resources) (p : Names) (id : ℕ) → IsSound r → Keeps (λ _. ⊥) r (unmark r p id)
+pub unmark_keeps : (r : Resources) (p : Names) (id : ℕ) → IsConsistent r → Keeps (λ _. ⊥) r (unmark r p id)
 unmark_keeps r p id x = note_keeps r (unmark r p id).tree r.next_marker (λ q. is_at q p) (λ marks. remove marks id) (λ syncs. syncs)
     x (omega arith) (get-change_at r.tree p (note (λ marks. remove marks id) (λ syncs. syncs))) (λ marks all. taken_below r.next_marker marks id all) (λ _ all. all)
 
-pub clear_keeps : (r : Resources) (p : Names) (mark_type : List ℕ) (depth : Depth) → IsSound r → Keeps (λ _. ⊥) r (clear_marks r p mark_type depth)
+pub clear_keeps : (r : Resources) (p : Names) (mark_type : List ℕ) (depth : Depth) → IsConsistent r → Keeps (λ _. ⊥) r (clear_marks r p mark_type depth)
 clear_keeps r p mark_type depth x = note_keeps r (clear_marks r p mark_type depth).tree r.next_marker (is_within depth p) cleared (λ syncs. syncs)
     x (omega arith) (get-change_where r.tree (is_within depth p) (note cleared (λ syncs. syncs)))
     (λ marks all. kept_below r.next_marker marks (λ id. not (has_type mark_type (get marks id))) all) (λ _ all. all)
@@ -172,7 +173,7 @@ clear_keeps r p mark_type depth x = note_keeps r (clear_marks r p mark_type dept
 
 -- ---- synchronisation bytes
 
-pub register_keeps : (r : Resources) (name : List ℕ) → IsSound r → Keeps (λ _. ⊥) r (register r name)
+pub register_keeps : (r : Resources) (name : List ℕ) → IsConsistent r → Keeps (λ _. ⊥) r (register r name)
 register_keeps r name x = at_cond (Keeps (λ _. ⊥) r) (is_partner r.partners name) r (record r { partners = r.partners ++ name ∷ [] })
     (λ _. stays r r.partners x (omega arith))
     (λ _. let more : length (r.partners ++ name ∷ []) ≡ length r.partners + 1 = length-append r.partners (name ∷ []) in stays r (r.partners ++ name ∷ []) x (omega arith))
@@ -182,15 +183,15 @@ synced_number r p name h =
     let a = passed (is_root_path p) (WrongKind p) _ h in
     let b = passed (is_shut r.tree p) (ProjectClosed (project_of p)) _ a.1 in
     let c = passed (not (contains_key r.tree p)) (NotFound p) _ b.1 in
-    let d = passed (not (is_partner r.partners name)) PartnerUnknown [] c.1 in
+    let d = passed (not (is_partner r.partners name)) PartnerUnknown None c.1 in
     number_below r.partners name (is_there (is_partner r.partners name) d.0)
 
-pub sync_keeps : (r : Resources) (p : Names) (name : List ℕ) (bytes : Option (List ℕ)) → IsSound r → first_cause (sync_causes r p name) ≡ None → Keeps (λ _. ⊥) r (sync r p name bytes)
+pub sync_keeps : (r : Resources) (p : Names) (name : List ℕ) (bytes : Option (List ℕ)) → IsConsistent r → first_cause (sync_causes r p name) ≡ None → Keeps (λ _. ⊥) r (sync r p name bytes)
 sync_keeps r p name bytes x h = note_keeps r (sync r p name bytes).tree r.next_marker (λ q. is_at q p) (λ marks. marks) (λ syncs. with_bytes syncs (number_of r.partners name) bytes)
     x (omega arith) (get-change_at r.tree p (note (λ marks. marks) (λ syncs. with_bytes syncs (number_of r.partners name) bytes)))
     (λ _ all. all) (λ syncs all. bytes_below (length r.partners) syncs (number_of r.partners name) bytes (synced_number r p name h) all)
 
-pub flush_keeps : (r : Resources) (p : Names) (name : List ℕ) (depth : Depth) → IsSound r → Keeps (λ _. ⊥) r (flush r p name depth)
+pub flush_keeps : (r : Resources) (p : Names) (name : List ℕ) (depth : Depth) → IsConsistent r → Keeps (λ _. ⊥) r (flush r p name depth)
 flush_keeps r p name depth x = note_keeps r (flush r p name depth).tree r.next_marker (is_within depth p) (λ marks. marks) (λ syncs. remove syncs (number_of r.partners name))
     x (omega arith) (get-change_where r.tree (is_within depth p) (note (λ marks. marks) (λ syncs. remove syncs (number_of r.partners name))))
     (λ _ all. all) (λ syncs all. taken_below (length r.partners) syncs (number_of r.partners name) all)

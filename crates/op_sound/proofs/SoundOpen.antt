@@ -1,5 +1,5 @@
 -- Opening and closing a project keeps resources sound.
-use Rattle.std.proofs.Common.{◌≡◌, ◌≢◌, ◌↔◌, ◌≤◌, Bool, true, false, not, cond, ◌&&◌, [], length, refl, sym, ap, ◌∙◌, subst, arith, ◌⊎◌, inl, inr}
+use Rattle.std.proofs.Common.{◌≡◌, ◌≢◌, ◌↔◌, ◌≤◌, Bool, true, false, not, cond, ◌&&◌, length, refl, sym, ap, ◌∙◌, subst, arith, ◌⊎◌, inl, inr}
 use Rattle.std.specs.Prelude.{Option, Some, None, IfSome, is_some}
 use Rattle.std.specs.Option.{option_map, option_or}
 use Rattle.std.specs.FinMap.{get, contains_key}
@@ -14,9 +14,10 @@ use Rattle.op_kind.specs.Partners.{Partners}
 use Rattle.op_kind.specs.Resources.{Resources}
 use Rattle.op_kind.specs.Places.{project_of, is_project_path, is_member_path, has_closed, is_shut}
 use Rattle.op_kind.specs.Members.{is_below, members, without_members, put_all}
-use Rattle.op_kind.specs.Refusals.{first_cause, project_causes}
+use Rattle.proj_desc.specs.FirstCause.{first_cause}
+use Rattle.op_kind.specs.Refusals.{project_causes}
 use Rattle.op_kind.specs.Effects.{set_open, open_project, close_project}
-use Rattle.op_kind.specs.Sound.{opened, IsSound}
+use Rattle.op_kind.specs.Sound.{opened, IsConsistent}
 use Rattle.op_kind.proofs.PathsBelow.{one_short, never, both, not_true, prefix_itself, prefix_turned, in_project, project_length, project_itself}
 use Rattle.op_kind.proofs.Cases.{if_as, at_cond, cond_true, cond_false, if_map, if_there, map_if, or_none}
 use Rattle.op_kind.proofs.Looks.{Look, is_at, at_itself, at_other, get-change_at, changed_at, get-put_all, last_is, find-members, sorted-members, get-without_members}
@@ -122,14 +123,14 @@ record IsProject (r : Resources) (p : Names) : Type 0 where
 project_there : (r : Resources) (p : Names) → first_cause (project_causes r.tree p) ≡ None → IsProject r p
 project_there r p h =
     let a = passed (not (is_project_path p)) (WrongKind p) _ h in
-    let b = passed (not (contains_key r.tree p)) (NotFound p) [] a.1 in
+    let b = passed (not (contains_key r.tree p)) (NotFound p) None a.1 in
     record { one = one_name p a.0; there = is_there (contains_key r.tree p) b.0 }
 
-kind_there : (r : Resources) (p : Names) → IsSound r → length p ≡ 1 → IfSome (get r.tree p) (λ e. e.kind ≡ Project)
+kind_there : (r : Resources) (p : Names) → IsConsistent r → length p ≡ 1 → IfSome (get r.tree p) (λ e. e.kind ≡ Project)
 kind_there r p x one = if_map (λ e. (e.kind ≡ Project) ↔ (length p ≡ 1)) (λ e. e.kind ≡ Project) (get r.tree p) (λ e h. h.1 one) (x.tree.projects p)
 
 -- what neither comes nor goes, whatever partners come
-pub stays : (r : Resources) (partners : Partners) → IsSound r → length r.partners ≤ length partners → Keeps (λ _. ⊥) r (record r { partners = partners })
+pub stays : (r : Resources) (partners : Partners) → IsConsistent r → length r.partners ≤ length partners → Keeps (λ _. ⊥) r (record r { partners = partners })
 stays r partners x more = record {
   whole = whole_of r x;
   fits = whole_fits r x;
@@ -146,7 +147,7 @@ stays r partners x more = record {
     later : IsLater r (record r { partners = partners })
     later = (omega arith, omega arith, omega arith, more)
 
-pub read_keeps : (r : Resources) → IsSound r → Keeps (λ _. ⊥) r r
+pub read_keeps : (r : Resources) → IsConsistent r → Keeps (λ _. ⊥) r r
 read_keeps r x = stays r r.partners x (omega arith)
 
 -- being open or not is neither contents nor a number
@@ -172,7 +173,7 @@ beside_comes : (r after : Resources) (h : Look) (p : Names) → ((q : Names) →
 beside_comes r after h p here there q = at_cond (λ z. IfSome z (Comes (λ _. ⊥) r after)) (is_below p q) (h q) (get r.shelf q) (λ _. there q) (λ _. here q)
 
 -- members have changed sides, and the numbers are as they were
-sided_keeps : (r : Resources) (tree shelf : Tree) (g h : Look) (p : Names) (on : Bool) (x : IsSound r) → IsProject r p
+sided_keeps : (r : Resources) (tree shelf : Tree) (g h : Look) (p : Names) (on : Bool) (x : IsConsistent r) → IsProject r p
     → ((q : Names) → get tree q ≡ sided (get r.tree) g p on q) → ((q : Names) → get shelf q ≡ beside (get r.shelf) h p q)
     → ((q : Names) → is_below p q ≡ true → Split (has_closed (option_map (set_to on) (get r.tree p))) (g q) (h q) (get (whole_of r x) q))
     → ((q : Names) → IfSome (g q) (Comes (λ _. ⊥) r (record r { tree = tree; shelf = shelf })))
@@ -200,7 +201,7 @@ sided_keeps r tree shelf g h p on x at is_tree is_shelf moved come go = record {
 
 -- ---- opening
 
-opens : (r : Resources) (p : Names) → IsSound r → IsProject r p → has_closed (get r.tree (project_of p)) ≡ true
+opens : (r : Resources) (p : Names) → IsConsistent r → IsProject r p → has_closed (get r.tree (project_of p)) ≡ true
     → Keeps (λ _. ⊥) r (record r { tree = put_all (set_open r.tree p true) (members r.shelf p); shelf = without_members r.shelf p })
 opens r p x at shut = sided_keeps r (put_all (set_open r.tree p true) (members r.shelf p)) (without_members r.shelf p) (get r.shelf) (λ _. None) p true x at
     (λ q. get-members (set_open r.tree p true) r.shelf p q (λ under. get-change_at r.tree p (set_to true) q ∙ gone q under)
@@ -226,7 +227,7 @@ opens r p x at shut = sided_keeps r (put_all (set_open r.tree p true) (members r
     gone q under = at_cond (λ z. z ≡ None) (is_at q p) (option_map (set_to true) (get r.tree q)) (get r.tree q)
         (λ _. ap (option_map (set_to true)) (member q under).0) (λ _. (member q under).0)
 
-pub open_keeps : (r : Resources) (p : Names) → IsSound r → first_cause (project_causes r.tree p) ≡ None → Keeps (λ _. ⊥) r (open_project r p)
+pub open_keeps : (r : Resources) (p : Names) → IsConsistent r → first_cause (project_causes r.tree p) ≡ None → Keeps (λ _. ⊥) r (open_project r p)
 open_keeps r p x h = at_cond (Keeps (λ _. ⊥) r) (is_shut r.tree p) (record r { tree = put_all (set_open r.tree p true) (members r.shelf p); shelf = without_members r.shelf p }) r
     (opens r p x (project_there r p h)) (λ _. read_keeps r x)
 
@@ -242,7 +243,7 @@ closed_now : (x : Option Element) → is_some x ≡ true → IfSome x (λ e. e.k
 closed_now None h k = absurd (never (sym h))
 closed_now (Some e) h k = ap (λ b. b && true) (project_true e.kind k)
 
-closes : (r : Resources) (p : Names) → IsSound r → IsProject r p → has_closed (get r.tree (project_of p)) ≡ false
+closes : (r : Resources) (p : Names) → IsConsistent r → IsProject r p → has_closed (get r.tree (project_of p)) ≡ false
     → Keeps (λ _. ⊥) r (record r { tree = set_open (without_members r.tree p) p false; shelf = put_all r.shelf (members r.tree p) })
 closes r p x at shown = sided_keeps r (set_open (without_members r.tree p) p false) (put_all r.shelf (members r.tree p)) (λ _. None) (get r.tree) p false x at
     (λ q. get-change_at (without_members r.tree p) p (set_to false) q
@@ -270,6 +271,6 @@ closes r p x at shown = sided_keeps r (set_open (without_members r.tree p) p fal
         let two : 2 ≤ length q = long_path q (member_below p q at.one below.0 below.1).1 in
         if_map (λ e. (e.kind ≡ Project) ↔ (length q ≡ 1)) IsOpen (get r.tree q) (λ e h k. let one : length q ≡ 1 = h.0 k in absurd (omega arith)) (x.tree.projects q)
 
-pub close_keeps : (r : Resources) (p : Names) → IsSound r → first_cause (project_causes r.tree p) ≡ None → Keeps (λ _. ⊥) r (close_project r p)
+pub close_keeps : (r : Resources) (p : Names) → IsConsistent r → first_cause (project_causes r.tree p) ≡ None → Keeps (λ _. ⊥) r (close_project r p)
 close_keeps r p x h = at_cond (Keeps (λ _. ⊥) r) (is_shut r.tree p) r (record r { tree = set_open (without_members r.tree p) p false; shelf = put_all r.shelf (members r.tree p) })
     (λ _. read_keeps r x) (closes r p x (project_there r p h))

@@ -12,7 +12,7 @@ use Rattle.ws_elem.specs.declared.kind.Kind.{Kind}
 use Rattle.ws_elem.specs.declared.kind.Kind.TheVariants.{File, Folder, Project, Root}
 use Rattle.op_kind.specs.Resources.{Resources}
 use Rattle.op_kind.specs.Places.{project_of, is_member_path, has_closed, is_in_shut}
-use Rattle.op_kind.specs.Sound.{opened, IsSound}
+use Rattle.op_kind.specs.Sound.{opened, IsConsistent}
 use Rattle.op_kind.specs.Stamps.{IsKnown}
 use Rattle.op_kind.proofs.PathsBelow.{one_short, never, both, not_true, project_prefix, project_length, project_itself, project_below, parent_shorter}
 use Rattle.op_kind.proofs.Cases.{at_cond, if_map, if_there, at_some, none_some, if_none, none_if, map_if, or_none, some_none}
@@ -219,7 +219,7 @@ parts_whole t s f w x = record {
 
 -- ---- sound resources
 
-pub parts_sound : (r : Resources) (t : Tree) → Fits (get t) → Parts (get r.tree) (get r.shelf) (get t) → IsKnown r r.tree → IsKnown r r.shelf → IsSound r
+pub parts_sound : (r : Resources) (t : Tree) → Fits (get t) → Parts (get r.tree) (get r.shelf) (get t) → IsKnown r r.tree → IsKnown r r.shelf → IsConsistent r
 parts_sound r t w x k l = record {
   tree = parts_whole r.tree (get r.shelf) (get t) w x;
   unshelved = (t, (λ p. joined (is_kept (get r.tree) p) (get r.tree p) (get r.shelf p) (get t p) (x p)), fits_whole t w);
@@ -250,10 +250,10 @@ longer : (p : Names) → 2 ≤ length p → p ≢ take 1 p
 longer p h e = let less : length (take 1 p) ≤ 1 = project_length p in let same : length p ≡ length (take 1 p) = ap length e in absurd (omega arith)
 
 -- the whole tree whose parts sound resources are
-abbrev pub whole_of : (r : Resources) → IsSound r → Tree
+abbrev pub whole_of : (r : Resources) → IsConsistent r → Tree
 whole_of r x = x.unshelved.0
 
-pub whole_parts : (r : Resources) (x : IsSound r) → Parts (get r.tree) (get r.shelf) (get (whole_of r x))
+pub whole_parts : (r : Resources) (x : IsConsistent r) → Parts (get r.tree) (get r.shelf) (get (whole_of r x))
 whole_parts r x p = by (is_kept (get r.tree) p) refl
   where
     -- nothing is below a closed project
@@ -269,7 +269,7 @@ whole_parts r x p = by (is_kept (get r.tree) p) refl
         let none : get r.shelf p ≡ None = if_none (get r.shelf p) (if_map (λ _. is_in_shut r.tree p ≡ true) (λ _. ⊥) (get r.shelf p) (λ e g. never (sym g ∙ h)) (x.shelf p)) in
         (none, sym (x.unshelved.1 p ∙ ap (option_or (option_map opened (get r.tree p))) none ∙ or_none (option_map opened (get r.tree p))))
 
-pub whole_fits : (r : Resources) (x : IsSound r) → Fits (get (whole_of r x))
+pub whole_fits : (r : Resources) (x : IsConsistent r) → Fits (get (whole_of r x))
 whole_fits r x = record {
   root = x.unshelved.2.root;
   only_root = x.unshelved.2.only_root;

@@ -1,7 +1,7 @@
 -- What an operation owes that keeps resources sound, and what is known where it isn't refused.
 use Rattle.std.proofs.Common.{◌≡◌, ◌≢◌, ℕ, zero, suc, ◌≤◌, ◌<◌, ◌==◌, Bool, true, false, not, ◌||◌, List, [], ◌∷◌, length, refl, sym, ap, ◌∙◌, subst, arith}
 use Rattle.std.specs.Prelude.{Option, Some, None, IfSome, IsSomeAnd, is_some}
-use Rattle.std.specs.Option.{option_map}
+use Rattle.std.specs.Option.{option_map, option_or}
 use Rattle.std.specs.FinMap.{get, contains_key}
 use Rattle.res_path.specs.Paths.{Names, parent, is_prefix}
 use Rattle.ws_elem.specs.Kinds.{is_file}
@@ -12,8 +12,8 @@ use Rattle.op_kind.specs.declared.refusal.OpRefusal.{OpRefusal}
 use Rattle.op_kind.specs.declared.refusal.OpRefusal.TheVariants.{NotFound, Exists, NotContainer}
 use Rattle.op_kind.specs.Resources.{Resources}
 use Rattle.op_kind.specs.Places.{project_of, is_root_path, has_file, has_closed}
-use Rattle.op_kind.specs.Refusals.{when, first_cause}
-use Rattle.op_kind.specs.Sound.{opened, IsSound}
+use Rattle.proj_desc.specs.FirstCause.{when, first_cause}
+use Rattle.op_kind.specs.Sound.{opened, IsConsistent}
 use Rattle.op_kind.specs.Stamps.{IsKnown, IsDrawn, AllDrawn}
 use Rattle.op_kind.proofs.PathsBelow.{never, root_above, parent_below, parent_shorter}
 use Rattle.op_kind.proofs.Cases.{if_map, if_there, if_none, none_some, map_if, map_some, some_map, some_none}
@@ -31,7 +31,7 @@ pub record Keeps (Fresh : Element → Type 0) (r after : Resources) : Type 0 whe
   pub parts : Parts (get after.tree) (get after.shelf) (get whole)
   pub grows : Grows Fresh r after
 
-pub kept_sound : (Fresh : Element → Type 0) (r after : Resources) → IsSound r → Keeps Fresh r after → IsSound after
+pub kept_sound : (Fresh : Element → Type 0) (r after : Resources) → IsConsistent r → Keeps Fresh r after → IsConsistent after
 kept_sound Fresh r after x k = parts_sound after k.whole k.fits k.parts
     (tree_known Fresh r after k.grows x.tree_known x.shelf_known) (shelf_known Fresh r after k.grows x.tree_known x.shelf_known)
 
@@ -41,9 +41,9 @@ kept_known Fresh r after t k = known_kept Fresh r after t k.grows
 -- ---- causes
 
 -- what is known where no cause holds
-pub passed : (b : Bool) (r : OpRefusal) (rs : List (Option OpRefusal)) → first_cause (when b r ∷ rs) ≡ None → (b ≡ false) × (first_cause rs ≡ None)
-passed true r rs h = cc
-passed false r rs h = (refl, h)
+pub passed : (b : Bool) (r : OpRefusal) (rest : Option OpRefusal) → option_or (when b r) rest ≡ None → (b ≡ false) × (rest ≡ None)
+passed true r rest h = cc
+passed false r rest h = (refl, h)
 
 pub is_there : (b : Bool) → not b ≡ false → b ≡ true
 is_there true h = refl
@@ -145,14 +145,14 @@ nodes_drawn r f w x k l q = by (is_kept (get r.tree) q) (x q)
 
 -- ---- the same of sound resources
 
-pub whole_above : (r : Resources) (x : IsSound r) (p : Names) → Place (get r.tree) p → IsSomeAnd (get (whole_of r x) (parent p)) (λ e. e.kind ≢ File)
+pub whole_above : (r : Resources) (x : IsConsistent r) (p : Names) → Place (get r.tree) p → IsSomeAnd (get (whole_of r x) (parent p)) (λ e. e.kind ≢ File)
 whole_above r x p at = place_above (get r.tree) (get r.shelf) (get (whole_of r x)) p (whole_fits r x) (whole_parts r x) at
 
-pub whole_free : (r : Resources) (x : IsSound r) (p : Names) → Place (get r.tree) p → (q : Names) → is_prefix p q ≡ true → get (whole_of r x) q ≡ None
+pub whole_free : (r : Resources) (x : IsConsistent r) (p : Names) → Place (get r.tree) p → (q : Names) → is_prefix p q ≡ true → get (whole_of r x) q ≡ None
 whole_free r x p at = place_free (get r.tree) (get r.shelf) (get (whole_of r x)) p (whole_fits r x) (whole_parts r x) at
 
-pub tree_free : (r : Resources) (x : IsSound r) (p : Names) → Place (get r.tree) p → (q : Names) → is_prefix p q ≡ true → get r.tree q ≡ None
+pub tree_free : (r : Resources) (x : IsConsistent r) (p : Names) → Place (get r.tree) p → (q : Names) → is_prefix p q ≡ true → get r.tree q ≡ None
 tree_free r x p at q under = none_in_tree (get r.tree) (get r.shelf) (get (whole_of r x)) (whole_fits r x) (whole_parts r x) q (whole_free r x p at q under)
 
-pub whole_nodes : (r : Resources) (x : IsSound r) (q : Names) → IfSome (get (whole_of r x) q) (λ e. e.node < r.next_node)
+pub whole_nodes : (r : Resources) (x : IsConsistent r) (q : Names) → IfSome (get (whole_of r x) q) (λ e. e.node < r.next_node)
 whole_nodes r x = nodes_drawn r (get (whole_of r x)) (whole_fits r x) (whole_parts r x) x.tree_known.drawn x.shelf_known.drawn

@@ -1,5 +1,5 @@
 -- JSON values behind the code's own.
-use Rattle.std.proofs.Common.{◌≡◌, ℕ, Bool, true, false, not, ◌&&◌, String, string_bytes, List, [], ◌∷◌, map, Some, None, cond, refl, sym, ap, ◌∙◌}
+use Rattle.std.proofs.Common.{◌≡◌, ℕ, Bool, true, false, not, ◌&&◌, String, string_bytes, List, [], ◌∷◌, map, Some, None, cond, refl, sym, ap, ◌∙◌, rules}
 use Rattle.std.specs.Prelude.{IsUtf8, unwrap_or, option_map}
 use Rattle.std.specs.declared.alloc.Global.{Global}
 use Rattle.std.specs.Borrow.{Bor}
@@ -7,11 +7,12 @@ use Rattle.std.specs.Map.Iter.{deref_pair}
 use Rattle.std.specs.List.{list_all}
 use Rattle.std.specs.Str.{is_utf8}
 use Rattle.std.proofs.lemmas.Str.{IsUtf8-from_is_utf8, is_utf8-from_IsUtf8}
-use Rattle.serde_json.specs.Data.{Data}
+use Rattle.serde_json.specs.Data.{Data, string}
 use Rattle.serde_json.specs.Read.{read}
 use Rattle.serde_json.specs.Find.{as_array, as_object}
 use Rattle.serde_json.specs.View.{items_of, items_view, members_view, view}
-use Rattle.serde_json.specs.declared.value.Value.{Value}
+use Rattle.serde_json.specs.declared.value.Value as json
+use Rattle.serde_json.specs.declared.value.Value.{Value, the_lemmas}
 use Rattle.serde_json.proofs.Views.{Entry}
 use Rattle.proj_desc.specs.Values.{value_of, list_of, items, is_list, is_text, is_object, is_list_of_texts, keys, keys_of}
 use Rattle.proj_desc.specs.Causes.{is_no_object, command_values}
@@ -51,3 +52,6 @@ keys_are d es e = sym (keys_of-members_view es) ∙ ap (λ o. unwrap_or (option_
 pub bytes_of_pairs : {V : Type 0} (xs : List (Bor (String Global) × Bor V)) → map (λ p. string_bytes p.0.now) xs ≡ map (λ m. string_bytes m.0) (map deref_pair xs)
 bytes_of_pairs [] = refl
 bytes_of_pairs (x ∷ xs) = ap (λ ys. string_bytes x.0.now ∷ ys) (bytes_of_pairs xs)
+
+pub view_text : (s : String Global) → view (json.String s) ≡ string (string_bytes s)
+view_text s = search (rules, the_lemmas)

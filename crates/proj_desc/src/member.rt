@@ -1,5 +1,6 @@
 //! The names of the members of descriptions and commands.
-ghost use Rattle.std.specs.Prelude.{◌≡◌};
+ghost use Rattle.std.specs.Prelude.{◌≡◌, ◌||◌};
+ghost use Rattle.std.specs.Str.{bytes_eq};
 ghost use Rattle.proj_desc.specs.Causes.{is_member};
 
 use std::fmt;
@@ -44,8 +45,14 @@ impl Level {
         ensures { result ≡ is_member self name.now }
     {
         match self {
-            Level::Description => name == "commands" || name == "references",
-            Level::Command => name == "builder" || name == "inputs" || name == "output",
+            Level::Description => is_either(name, "commands", "references"),
+            Level::Command => name == "builder" || is_either(name, "inputs", "output"),
         }
     }
+}
+
+fn is_either(name: &str, one: &str, other: &str) -> bool
+    ensures { result ≡ (bytes_eq name.now one.now || bytes_eq name.now other.now) }
+{
+    name == one || name == other
 }

@@ -1,11 +1,10 @@
 -- The text of a tree.
-use Rattle.std.specs.Prelude.{ℕ, if◌then◌else◌, List, [], ◌∷◌, ◌++◌, length, drop, filter, Option, Some, None, codes, decimal}
-use Rattle.std.specs.FinMap.{entries}
+use Rattle.std.specs.Prelude.{ℕ, if◌then◌else◌, List, [], ◌∷◌, ◌++◌, length, drop, Option, Some, None, codes, decimal}
 use Rattle.std.specs.List.{flat_map, join_with_byte}
 use Rattle.sha2.specs.Sha256.{sha256}
 use Rattle.res_path.specs.Paths.{Names, is_prefix, path_text}
 use Rattle.ws_elem.specs.Kinds.{kind_word, is_file}
-use Rattle.ws_elem.specs.Trees.{Tree}
+use Rattle.ws_elem.specs.Trees.{Tree, branch}
 use Rattle.ws_elem.specs.declared.element.Element.{Element}
 use Rattle.script_words.specs.Words.{word_text}
 use Rattle.report_text.specs.Words.{hexadecimal}
@@ -34,10 +33,6 @@ found_line base p (Some e) = tree_line base (p, e)
 
 abbrev pub tree_lines : Names → List (Names × Element) → List ℕ
 tree_lines base = flat_map (tree_line base)
-
--- all at or below p, in path order
-abbrev pub branch : Tree → Names → List (Names × Element)
-branch t p = filter (λ e. is_prefix p e.0) (entries t)
 
 abbrev pub tree_text : Tree → Names → List ℕ
 tree_text t p = tree_lines p (branch t p)

@@ -13,9 +13,9 @@ use Rattle.script_words.specs.declared.words.Token.{Token}
 use Rattle.script_words.specs.Words.{Word}
 use Rattle.script_parts.specs.Parts.{Part, keyword, a_name, FitsPart, FitsParts, rule_parts}
 use Rattle.script_lang.specs.Commands.{FitsLine, priority_word, line_parts, line_read}
-use Rattle.script_lang.specs.inside.Reading.{IsLineOf}
-use Rattle.script_parts.specs.inside.Found.{IsRuleFound}
-use Rattle.script_ops.specs.inside.Verbs.{verb_word, begun_with}
+use Rattle.script_lang.specs.Inside.Reading.{IsLineOf}
+use Rattle.script_parts.specs.Inside.Found.{IsRuleFound}
+use Rattle.script_ops.specs.Inside.Verbs.{verb_word, begun_with}
 use Rattle.script_parts.proofs.Fitting.{fit_size}
 use Rattle.script_lang.proofs.Coded.{line_at, known}
 use Rattle.script_ops.proofs.Begun.{HasVerb, with_verb, op_verb}

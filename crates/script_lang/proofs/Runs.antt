@@ -15,7 +15,18 @@ use Rattle.script_lang.specs.declared.progress.Place.{Place}
 use Rattle.script_lang.specs.declared.progress.Place.TheVariants.{Outside, BeforeJob, WithinJob, AfterJob}
 use Rattle.script_lang.specs.declared.progress.Progress.{Progress}
 use Rattle.script_lang.specs.Scripts.{job_lines, phase_lines, HasOneJob}
-use Rattle.script_lang.specs.inside.Reading.{goes, place_lines, read_lines}
+use Rattle.script_lang.specs.Inside.Reading.{goes}
+
+-- the lines read of the phase that isn't closed
+abbrev pub place_lines : Place → List Line
+place_lines Outside = []
+place_lines BeforeJob = BeginPhase ∷ []
+place_lines (WithinJob job) = BeginPhase ∷ BeginJob job.name job.priority job.rule ∷ map InJob job.commands
+place_lines (AfterJob job) = BeginPhase ∷ job_lines job
+
+-- the lines read
+abbrev pub read_lines : Progress → List Line
+read_lines progress = flat_map phase_lines progress.phases ++ place_lines progress.place
 
 -- a phase begins with a job
 pub no_job : (phases : List Phase) (line : Line) → ((name : List ℕ) (priority : Priority) (rule : List WsAtom) → line ≡ BeginJob name priority rule → ⊥)
@@ -108,7 +119,7 @@ all_more : (phases : List Phase) (phase : Phase) → AllByRecursion HasOneJob ph
 all_more [] phase h g = (g, tt)
 all_more (first ∷ phases) phase h g = (h.0, all_more phases phase h.1 g)
 
-same_some : {X : Type 0} (x y : X) → Some x ≡ Some y → x ≡ y
+pub same_some : {X : Type 0} (x y : X) → Some x ≡ Some y → x ≡ y
 same_some x y e = cc
 
 next_from : (before : Progress) (line : Line) (found after : Progress) → IsNext before line found → Some found ≡ Some after → IsNext before line after

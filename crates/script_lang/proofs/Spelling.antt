@@ -9,12 +9,11 @@ use Rattle.script_lang.specs.declared.line.Line.TheVariants.{BeginPhase, BeginJo
 use Rattle.script_words.specs.declared.words.Token.{Token}
 use Rattle.script_words.specs.Words.{printed, is_bare}
 use Rattle.script_words.specs.Lines.{is_skipped, unskipped, SpellsEach, SpellsLines}
-use Rattle.script_words.specs.inside.Passing.{next_number}
-use Rattle.script_parts.specs.Parts.{Part, keyword, rule_parts}
+use Rattle.script_words.specs.Inside.Passing.{next_number}
+use Rattle.script_parts.specs.Parts.{Part, keyword, rule_parts, part_word, parts_text}
 use Rattle.script_lang.specs.Commands.{line_parts}
 use Rattle.script_lang.specs.Scripts.{FitsLines, line_text}
-use Rattle.script_parts.specs.Parts.{part_word, parts_text}
-use Rattle.script_lang.specs.inside.Printed.{AreLines}
+use Rattle.script_lang.specs.Inside.Printed.{AreLines}
 use Rattle.script_lang.proofs.Coded.{same_line}
 use Rattle.script_words.proofs.Lined.{keeps_line}
 use Rattle.script_words.proofs.Printed.{line_spells, line_kept}

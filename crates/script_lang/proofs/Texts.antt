@@ -11,9 +11,9 @@ use Rattle.script_lang.specs.declared.line.Line.{Line}
 use Rattle.script_lang.specs.declared.line.Line.TheVariants.{BeginPhase, BeginJob, InJob, EndJob, EndPhase}
 use Rattle.script_words.specs.Lines.{lines_of, SpellsLines}
 use Rattle.script_lang.specs.Commands.{line_parts}
-use Rattle.script_lang.specs.Scripts.{HasOneJob, job_lines, phase_lines, script_lines, script_text, line_text, IsScript}
+use Rattle.script_lang.specs.Scripts.{HasOneJob, job_lines, phase_lines, script_lines, script_text, line_text, IsScript, ended}
 use Rattle.script_parts.specs.Parts.{part_word}
-use Rattle.script_lang.specs.inside.Printed.{ended, IsLine, AreLines}
+use Rattle.script_lang.specs.Inside.Printed.{IsLine, AreLines}
 use Rattle.script_words.proofs.Printed.{has_no_line_feed, line_no_feed, lines_back}
 use Rattle.script_lang.proofs.Spelling.{line_tokens, spells_printed, says_printed}
 

@@ -16,12 +16,12 @@ use Rattle.script_lang.specs.declared.progress.Progress.{Progress}
 use Rattle.script_words.specs.declared.words.Token.{Token}
 use Rattle.script_words.specs.Words.{SpellsLine}
 use Rattle.script_words.specs.Lines.{lines_of, unskipped, SpellsEach, SpellsLines}
-use Rattle.script_words.specs.inside.Passing.{TakesLine, next_number, Skips}
+use Rattle.script_words.specs.Inside.Passing.{TakesLine, next_number, Skips}
 use Rattle.script_lang.specs.Commands.{FitsLine}
 use Rattle.script_lang.specs.Scripts.{FitsLines, HasOneJob, phase_lines, script_lines, IsScriptOf, IsBeginning, IsFirstBad, line_text}
-use Rattle.script_lang.specs.inside.Reading.{goes, place_lines, read_lines, SaysNext, Steps, IsStuck, IsWhole}
-use Rattle.script_lang.specs.inside.Printed.{AreLines}
-use Rattle.script_lang.proofs.Runs.{runs, begun, runs-append, runs_script, runs_read, read_more, jobs_kept, closing, closes}
+use Rattle.script_lang.specs.Inside.Reading.{goes, SaysNext, Steps, IsStuck, IsWhole}
+use Rattle.script_lang.specs.Inside.Printed.{AreLines}
+use Rattle.script_lang.proofs.Runs.{place_lines, read_lines, runs, begun, runs-append, runs_script, runs_read, read_more, jobs_kept, same_some, closing, closes}
 use Rattle.script_lang.proofs.Coded.{same_line}
 use Rattle.script_words.proofs.Lined.{keeps_line, unskipped_append}
 use Rattle.script_words.proofs.Taking.{taken_kept, taken_tokens, spells_append, spells_rest, spells_none}
@@ -143,9 +143,6 @@ ends lines rest number progress script h e s =
     let on = goes_on lines rest number progress script h s in
     let none = no_lines on.tokens on.lines (no_tokens rest on.tokens e on.spelled) on.fitting in
     leads progress script on.lines h.jobs s.jobs on.lines_are ∙ ap (λ (lines : List Line). runs lines (Some progress)) none
-
-same_some : {X : Type 0} (x y : X) → Some x ≡ Some y → x ≡ y
-same_some x y e = cc
 
 pub whole_alone : (lines rest : List (List ℕ)) (number : ℕ) (progress : Progress) (script : Script) → HasRead lines rest number progress → IsWhole rest progress
     → IsScriptOf lines script → record { phases = progress.phases } ≡ script

@@ -1,5 +1,5 @@
 -- The definitions at worked scripts.
-use Rattle.std.proofs.Common.{◌≡◌, true, false, [], ◌∷◌, refl, arith, lit≤, lit<}
+use Rattle.std.proofs.Common.{◌≡◌, true, false, [], ◌∷◌, refl, arith, lit≤}
 use Rattle.std.specs.Prelude.{codes, pos}
 use Rattle.std.specs.Fmt.{digits}
 use Rattle.sched_rules.specs.declared.ws_atom.WsAtom.TheVariants.{Path, Mutex, Lines}

@@ -1,3 +1,3 @@
 pub mod Commands
 pub mod Scripts
-pub mod inside
+pub mod Inside

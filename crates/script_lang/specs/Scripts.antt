@@ -68,9 +68,12 @@ pub record IsFirstBad (bytes : List ℕ) (number : ℕ) : Type 0 where
 abbrev pub line_text : Line → List ℕ
 line_text line = parts_text (line_parts line)
 
--- each line, with LF after it
+-- lines, with LF after each
+abbrev pub ended : List Line → List ℕ
+ended lines = flat_map (λ line. line_text line ++ 10 ∷ []) lines
+
 abbrev pub script_text : Script → List ℕ
-script_text script = flat_map (λ line. line_text line ++ 10 ∷ []) (script_lines script)
+script_text script = ended (script_lines script)
 
 -- a command's line, without its end
 abbrev pub command_text : Command → List ℕ

@@ -2,11 +2,11 @@
 ghost use Rattle.std.specs.Prelude.{◌≡◌, ◌≢◌, [], true, IfOk, MatchOption};
 ghost use Rattle.script_lang.specs.declared.line.Line.TheVariants.{InJob};
 ghost use Rattle.script_lang.specs.declared.script.Command.TheVariants.{Operation};
-ghost use Rattle.script_lang.specs.inside.Reading.{IsLineOf};
+ghost use Rattle.script_lang.specs.Inside.Reading.{IsLineOf};
 ghost use Rattle.script_lang.specs.Commands.{priority_word};
 ghost use Rattle.script_parts.specs.Parts.{keyword};
-ghost use Rattle.script_parts.specs.inside.Found.{IsPartFound};
-ghost use Rattle.script_ops.specs.inside.Verbs.{begun_with, stands_alone, begins_operation};
+ghost use Rattle.script_parts.specs.Inside.Found.{IsPartFound};
+ghost use Rattle.script_ops.specs.Inside.Verbs.{begun_with, stands_alone, begins_operation};
 
 use crate::NoMemory;
 use crate::line::Line;

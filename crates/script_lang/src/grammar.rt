@@ -4,10 +4,10 @@ ghost use Rattle.script_words.specs.declared.error.ScriptError.TheVariants.{BadL
 ghost use Rattle.script_lang.specs.declared.script.Script.{Script};
 ghost use Rattle.script_lang.specs.declared.progress.Progress.{Progress};
 ghost use Rattle.script_words.specs.Lines.{lines_of};
-ghost use Rattle.script_words.specs.inside.Passing.{next_number, Skips};
+ghost use Rattle.script_words.specs.Inside.Passing.{next_number, Skips};
 ghost use Rattle.script_lang.specs.Scripts.{IsScript, IsFirstBad};
-ghost use Rattle.script_words.specs.inside.Counts.{Advances};
-ghost use Rattle.script_lang.specs.inside.Reading.{SaysNext, Steps, IsStuck, IsWhole};
+ghost use Rattle.script_words.specs.Inside.Counts.{Advances};
+ghost use Rattle.script_lang.specs.Inside.Reading.{SaysNext, Steps, IsStuck, IsWhole};
 
 use crate::ScriptError;
 use crate::command::line_of;
@@ -22,10 +22,9 @@ use std::alloc::Global;
 /// one at which no continuation could make the lines so far the beginning of a script; one past the last where the
 /// text ends too early. Lines are counted from 1, also those that are skipped.
 ///
-/// The words share the text's bytes but for those
-/// with escapes, for a few common ones before a space, which take no memory, and for the texts of markers,
-/// which are copied. Costs one pass over the text, and for each atom of a rule one over the rule of the atoms
-/// before it.
+/// The words share the text's bytes but for those with escapes, for a few common ones before a space, which take no
+/// memory, and for the texts of markers, which are copied. Costs one pass over the text, and for each atom of a rule one
+/// over the rule of the atoms before it.
 pub fn parse_shared(alloc: Global, text: Bytes) -> Result<Script, ScriptError>
     ensures found { IfOk result (IsScript text) }
     ensures all { (script : Script) → IsScript text script → MatchResult result (λ found. found ≡ script) (λ e. e ≡ Memory) }
@@ -40,6 +39,17 @@ pub fn parse_shared(alloc: Global, text: Bytes) -> Result<Script, ScriptError>
     Ok(Script {
         phases: progress.phases,
     })
+}
+
+/// The script that the text spells, as `parse_shared` gives it, and refused as there. The text is copied once, and the
+/// script shares the copy.
+pub fn parse(alloc: Global, text: &[u8]) -> Result<Script, ScriptError>
+    ensures found { IfOk result (IsScript text.now) }
+    ensures all { (script : Script) → IsScript text.now script → MatchResult result (λ found. found ≡ script) (λ e. e ≡ Memory) }
+    ensures bad { (number : ℕ) → result ≡ Err (BadLine number) → IsFirstBad text.now number }
+{
+    let shared = Bytes::copy_from_slice(alloc, text)?;
+    parse_shared(alloc, shared)
 }
 
 /// Whether nothing is left to read but skipped lines, and no phase is open. Passes skipped lines.

@@ -17,7 +17,7 @@ mod progress;
 mod script;
 mod script_copy;
 
-pub use grammar::parse_shared;
+pub use grammar::{parse, parse_shared};
 pub use printing::{print, put_command};
 pub use script::{Command, Commands, Job, Jobs, Phase, Phases, Priority, Script};
 pub use script_ops::put_operation;

@@ -3,10 +3,10 @@ ghost use Rattle.std.specs.Prelude.{◌≡◌, ◌++◌, [], ◌∷◌, IfOk, On
 ghost use Rattle.script_lang.specs.declared.line.Line.TheVariants.{BeginJob, InJob};
 ghost use Rattle.script_words.specs.Words.{Grows};
 ghost use Rattle.script_lang.specs.Commands.{command_parts, command_read, priority_word};
-ghost use Rattle.script_lang.specs.Scripts.{IsScript, script_text, command_text, line_text, phase_lines, job_lines, HasOneJob};
+ghost use Rattle.script_lang.specs.Scripts.{IsScript, script_text, command_text, line_text, phase_lines, job_lines, HasOneJob, ended};
 ghost use Rattle.script_parts.specs.Parts.{keyword, parts_text, rule_parts, rule_read};
-ghost use Rattle.script_lang.specs.inside.Printed.{ended, AreLines, IsLine};
-ghost use Rattle.script_parts.specs.inside.Printed.{AreParts};
+ghost use Rattle.script_lang.specs.Inside.Printed.{AreLines, IsLine};
+ghost use Rattle.script_parts.specs.Inside.Printed.{AreParts};
 
 use crate::script::{Command, Job, Phase, Priority, Script};
 use crate::{NoMemory, ScriptRule};
@@ -15,7 +15,7 @@ use script_parts::{name_word, put_rule, put_three};
 use script_words::{put_bytes, put_word};
 use std::alloc::Global;
 
-/// The script's text, each line ended by LF. `parse_shared` reads it as this script.
+/// The script's text, each line ended by LF. `parse` reads it as this script.
 pub fn print(alloc: Global, script: &Script) -> Result<Vec<u8>, NoMemory>
     ensures text { IfOk result (λ bytes. bytes.items ≡ script_text script.now) }
     ensures back { IfOk result (λ bytes. IsScript bytes.items script.now) }

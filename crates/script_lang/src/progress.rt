@@ -1,7 +1,7 @@
 //! How far a script is read.
 ghost use Rattle.std.specs.Prelude.{◌≡◌, IfOk, IsTrue, ◌↔◌, [], if◌then◌else◌, Some, None};
 ghost use Rattle.script_lang.specs.declared.progress.Place.TheVariants.{Outside, BeforeJob, WithinJob, AfterJob};
-ghost use Rattle.script_lang.specs.inside.Reading.{goes};
+ghost use Rattle.script_lang.specs.Inside.Reading.{goes};
 ghost use Rattle.script_lang.specs.declared.line.Line.TheVariants.{InJob};
 
 use crate::NoMemory;

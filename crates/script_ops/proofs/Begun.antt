@@ -7,7 +7,7 @@ use Rattle.script_ops.specs.declared.verb.Verb.{Verb}
 use Rattle.script_ops.specs.declared.verb.Verb.TheVariants.{Create, Delete, Write, Touch, Derived, Move, Copy, Open, Close, Describe, Mark, Attr, Unmark, ClearMarks, Partner, Sync, NoSync, Flush, Show, Cat, Tree, Digest}
 use Rattle.script_parts.specs.Parts.{Part, keyword}
 use Rattle.script_ops.specs.Operations.{operation_parts}
-use Rattle.script_ops.specs.inside.Verbs.{verb_word}
+use Rattle.script_ops.specs.Inside.Verbs.{verb_word}
 
 pub record HasVerb (parts : List Part) : Type 0 where
   pub verb : Verb

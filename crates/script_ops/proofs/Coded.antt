@@ -10,7 +10,7 @@ use Rattle.op_kind.specs.declared.op.Want.TheVariants.{Show, Cat, Tree, Digest}
 use Rattle.script_words.specs.Words.{Word}
 use Rattle.script_parts.proofs.Numbers.{number_back}
 use Rattle.script_parts.proofs.Paths.{path_at, path_back}
-use Rattle.script_parts.proofs.Values.{chosen, depth_at, nth, attributes_at, set_at, words_of, AreNamed, attributes_back, set_back}
+use Rattle.script_parts.proofs.Values.{chosen, depth_at, nth, attributes_at, change_at, words_of, AreNamed, attributes_back, change_back}
 use Rattle.script_ops.specs.Operations.{operation_parts}
 
 abbrev pub created_at : List Word → Op
@@ -30,7 +30,7 @@ operation_at verb words = let path = path_at (nth 0 words) in chosen verb (
     ∷ (codes "close", Close path)
     ∷ (codes "describe", Describe path (nth 1 words))
     ∷ (codes "mark", Mark path (nth 1 words) (attributes_at (drop 2 words)))
-    ∷ (codes "attr", Attr path (digits_value 10 (nth 1 words)) (nth 2 words) (set_at (drop 3 words)))
+    ∷ (codes "attr", Attr path (digits_value 10 (nth 1 words)) (nth 2 words) (change_at (drop 3 words)))
     ∷ (codes "unmark", Unmark path (digits_value 10 (nth 1 words)))
     ∷ (codes "clearmarks", ClearMarks path (nth 1 words) (depth_at (nth 2 words)))
     ∷ (codes "partner", Partner (nth 0 words))
@@ -62,7 +62,7 @@ op_back (Describe p text) h = ap (λ p. Describe p text) (path_back p h.1.0)
 op_back (Mark p kind attributes) h = λ i. Mark (path_back p h.1.0 i) kind (attributes_back attributes h.1.1.1 i)
 op_back (Attr p id name value) h =
     let number = number_back id (omega (arith, h.1.1.0.fits)) in
-    λ i. Attr (path_back p h.1.0 i) (number i) name (set_back value h.1.1.1.1 i)
+    λ i. Attr (path_back p h.1.0 i) (number i) name (change_back value h.1.1.1.1 i)
 op_back (Unmark p id) h =
     let number = number_back id (omega (arith, h.1.1.0.fits)) in
     λ i. Unmark (path_back p h.1.0 i) (number i)

@@ -1,3 +1,4 @@
 pub mod Coded
 pub mod Begun
 pub mod Verbs
+pub mod Named

@@ -1,5 +1,5 @@
 -- What stands behind a verb.
-use Rattle.std.proofs.Common.{◌≡◌, ℕ, true, false, Bool, Option, Some, None, List, [], ◌∷◌, map, drop, sym, ◌∙◌, ap, subst}
+use Rattle.std.proofs.Common.{◌≡◌, ℕ, Bool, Option, List, [], ◌∷◌, map, drop, sym, ◌∙◌, ap, subst}
 use Rattle.std.specs.Prelude.{codes}
 use Rattle.std.specs.List.{flat_map}
 use Rattle.std.specs.Str.{bytes_eq}
@@ -8,17 +8,15 @@ use Rattle.mark_set.specs.declared.value.RawValue.{RawValue}
 use Rattle.ws_elem.specs.declared.depth.Depth.{Depth}
 use Rattle.res_path.specs.Paths.{Names}
 use Rattle.op_kind.specs.declared.op.Op.{Op}
-use Rattle.op_kind.specs.declared.op.Op.TheVariants as op
-use Rattle.op_kind.specs.declared.op.Want.TheVariants as want
 use Rattle.script_words.specs.declared.words.Token.{Token}
 use Rattle.script_words.specs.Words.{Word}
-use Rattle.script_parts.specs.Parts.{Part, keyword, a_number, a_name, a_path, a_text, a_word, attribute_parts, depth_word, set_parts, switch_word, FitsPart, FitsParts}
+use Rattle.script_parts.specs.Parts.{keyword, a_number, a_name, a_path, a_text, a_word, attribute_parts, depth_word, set_parts, switch_word, FitsPart, FitsParts}
 use Rattle.script_parts.proofs.Paths.{path_at}
-use Rattle.script_parts.proofs.Values.{nth, depth_at, attributes_at, set_at, fit_words, fit_all_named}
+use Rattle.script_parts.proofs.Values.{nth, depth_at, attributes_at, change_at, fit_words, fit_all_named}
 use Rattle.script_ops.specs.declared.verb.Verb.{Verb}
 use Rattle.script_ops.specs.declared.verb.Verb.TheVariants as verbs
 use Rattle.script_ops.specs.Operations.{operation_parts}
-use Rattle.script_ops.specs.inside.Verbs.{verb_word, begun_with}
+use Rattle.script_ops.specs.Inside.Verbs.{verb_word, begun_with}
 use Rattle.script_ops.proofs.Coded.{created_at, operation_at, op_at, op_back}
 
 abbrev words : List Token → List Word
@@ -76,7 +74,7 @@ pub no_marked : (rest : List Token) → ((path : Names) (kind : List ℕ) (attri
 no_marked rest none x h = none (path_at (nth 0 (words rest))) (nth 1 (words rest)) (attributes_at (drop 2 (words rest))) (known_parts verbs.Mark rest x h).1
 
 pub no_set : (rest : List Token) → ((path : Names) (id : ℕ) (change : List ℕ × Option RawValue) → FitsParts rest (a_path path ∷ a_number 64 0 id ∷ a_text change.0 ∷ set_parts change.1) → ⊥) → (x : Op) → FitsParts (begun_with verbs.Attr rest) (operation_parts x) → ⊥
-no_set rest none x h = none (path_at (nth 0 (words rest))) (digits_value 10 (nth 1 (words rest))) (nth 2 (words rest), set_at (drop 3 (words rest))) (known_parts verbs.Attr rest x h).1
+no_set rest none x h = none (path_at (nth 0 (words rest))) (digits_value 10 (nth 1 (words rest))) (nth 2 (words rest), change_at (drop 3 (words rest))) (known_parts verbs.Attr rest x h).1
 
 pub no_unmarked : (rest : List Token) → ((path : Names) (id : ℕ) → FitsParts rest (a_path path ∷ a_number 64 0 id ∷ []) → ⊥) → (x : Op) → FitsParts (begun_with verbs.Unmark rest) (operation_parts x) → ⊥
 no_unmarked rest none x h = none (path_at (nth 0 (words rest))) (digits_value 10 (nth 1 (words rest))) (known_parts verbs.Unmark rest x h).1

@@ -2,7 +2,7 @@
 ghost use Rattle.std.specs.Prelude.{◌≡◌, ◌++◌, true, OnOk};
 ghost use Rattle.script_words.specs.Words.{Grows, is_bare};
 ghost use Rattle.script_ops.specs.Operations.{operation_parts, operation_text, want_word};
-ghost use Rattle.script_parts.specs.inside.Printed.{AreParts};
+ghost use Rattle.script_parts.specs.Inside.Printed.{AreParts};
 ghost use Rattle.op_kind.specs.declared.op.Op.TheVariants.{Mark, Attr, ClearMarks, Sync};
 
 use crate::NoMemory;
@@ -25,7 +25,7 @@ pub fn put_operation(out: &mut Vec<u8>, op: &Op) -> Result<(), NoMemory>
     put_doing(out, op)
 }
 
-/// The same. Contracts learn that the words of its line stand for its parts.
+/// The same as `put_operation`. Contracts learn that the words of its line stand for its parts.
 pub fn put_doing(out: &mut Vec<u8>, op: &Op) -> Result<(), NoMemory>
     ensures text { OnOk result (out.new.items ≡ out.old.items ++ operation_text op.now) }
     ensures kept { Grows out.old.items out.new.items }

@@ -2,8 +2,8 @@
 ghost use Rattle.std.specs.Prelude.{◌≢◌, ◌∷◌, codes, IfOk};
 ghost use Rattle.script_parts.specs.Parts.{keyword, FitsPart};
 ghost use Rattle.script_ops.specs.Operations.{operation_parts};
-ghost use Rattle.script_parts.specs.inside.Found.{IsFound};
-ghost use Rattle.script_ops.specs.inside.Verbs.{begun_with};
+ghost use Rattle.script_parts.specs.Inside.Found.{IsFound};
+ghost use Rattle.script_ops.specs.Inside.Verbs.{begun_with};
 
 use crate::NoMemory;
 use crate::verb::Verb;

@@ -2,8 +2,8 @@
 ghost use Rattle.std.specs.Prelude.{◌≡◌, MatchOption};
 ghost use Rattle.script_ops.specs.declared.verb.Verb.{Verb};
 ghost use Rattle.script_parts.specs.Parts.{keyword};
-ghost use Rattle.script_parts.specs.inside.Found.{IsPartFound};
-ghost use Rattle.script_ops.specs.inside.Verbs.{verb_word};
+ghost use Rattle.script_parts.specs.Inside.Found.{IsPartFound};
+ghost use Rattle.script_ops.specs.Inside.Verbs.{verb_word, bounds, changes, notes, reads, IsNamed};
 
 use script_words::Token;
 
@@ -59,6 +59,22 @@ pub fn verb_of(token: &Token) -> Option<Verb>
 fn verb_named(word: &[u8]) -> Option<Verb>
     ensures { MatchOption result ((verb : Verb) → word.now ≡ verb_word verb → ⊥) (λ verb. word.now ≡ verb_word verb) }
 {
+    match bound_named(word) {
+        Some(verb) => Some(verb),
+        None => match change_named(word) {
+            Some(verb) => Some(verb),
+            None => match note_named(word) {
+                Some(verb) => Some(verb),
+                None => read_named(word),
+            },
+        },
+    }
+}
+
+/// The verb with this name, of those that bound phases, jobs, batches and rules.
+fn bound_named(word: &[u8]) -> Option<Verb>
+    ensures { IsNamed bounds word.now result }
+{
     match word {
         b"phase" => Some(Verb::Phase),
         b"endphase" => Some(Verb::EndPhase),
@@ -70,6 +86,15 @@ fn verb_named(word: &[u8]) -> Option<Verb>
         b"begin" => Some(Verb::Begin),
         b"trybegin" => Some(Verb::TryBegin),
         b"end" => Some(Verb::End),
+        _ => None,
+    }
+}
+
+/// The verb with this name, of those that change resources.
+fn change_named(word: &[u8]) -> Option<Verb>
+    ensures { IsNamed changes word.now result }
+{
+    match word {
         b"create" => Some(Verb::Create),
         b"delete" => Some(Verb::Delete),
         b"write" => Some(Verb::Write),
@@ -80,6 +105,15 @@ fn verb_named(word: &[u8]) -> Option<Verb>
         b"open" => Some(Verb::Open),
         b"close" => Some(Verb::Close),
         b"describe" => Some(Verb::Describe),
+        _ => None,
+    }
+}
+
+/// The verb with this name, of those that change markers and synchronisation bytes.
+fn note_named(word: &[u8]) -> Option<Verb>
+    ensures { IsNamed notes word.now result }
+{
+    match word {
         b"mark" => Some(Verb::Mark),
         b"attr" => Some(Verb::Attr),
         b"unmark" => Some(Verb::Unmark),
@@ -88,6 +122,15 @@ fn verb_named(word: &[u8]) -> Option<Verb>
         b"sync" => Some(Verb::Sync),
         b"nosync" => Some(Verb::NoSync),
         b"flush" => Some(Verb::Flush),
+        _ => None,
+    }
+}
+
+/// The verb with this name, of those that read.
+fn read_named(word: &[u8]) -> Option<Verb>
+    ensures { IsNamed reads word.now result }
+{
+    match word {
         b"show" => Some(Verb::Show),
         b"cat" => Some(Verb::Cat),
         b"tree" => Some(Verb::Tree),

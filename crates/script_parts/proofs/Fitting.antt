@@ -8,7 +8,7 @@ use Rattle.mark_set.specs.declared.value.RawValue.{RawValue}
 use Rattle.mark_set.specs.declared.value.RawValue.TheVariants.{Int as IntValue, Bool as BoolValue, Text as TextValue}
 use Rattle.script_words.specs.declared.words.Token.{Token}
 use Rattle.script_parts.specs.Parts.{Part, FitsParts, set_parts}
-use Rattle.script_parts.specs.inside.Found.{FitsFront, FitsNoFront}
+use Rattle.script_parts.specs.Inside.Found.{FitsFront, FitsNoFront}
 
 pub fit_size : (tokens : List Token) (parts : List Part) → FitsParts tokens parts → length tokens ≡ length parts
 fit_size [] [] h = refl

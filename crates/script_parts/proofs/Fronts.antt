@@ -14,7 +14,7 @@ use Rattle.mark_set.specs.declared.value.RawValue.TheVariants.{Int as IntValue, 
 use Rattle.script_words.specs.declared.words.Token.{Token}
 use Rattle.script_words.specs.Words.{Word}
 use Rattle.script_parts.specs.Parts.{keyword, a_number, FitsPart, FitsParts, atom_parts, rule_parts, attribute_parts, value_parts, truth_word}
-use Rattle.script_parts.specs.inside.Found.{FitsFront, FitsNoFront}
+use Rattle.script_parts.specs.Inside.Found.{FitsFront, FitsNoFront}
 use Rattle.script_parts.proofs.Numbers.{integer_back}
 use Rattle.script_parts.proofs.Paths.{same_path}
 use Rattle.script_parts.proofs.Values.{truth_back}

@@ -21,7 +21,7 @@ use Rattle.sched_rules.proofs.Placing.{placed_between}
 use Rattle.sched_rules.proofs.Combining.{in_left, in_right, in_both, IsKeptOf, kept, in_rule_of, combined_in_turn, rule_of_is_rule, combined_contains_left, combined_contains_right, combined_least}
 use Rattle.script_words.specs.declared.words.Token.{Token}
 use Rattle.script_parts.specs.Parts.{atom_parts, rule_read}
-use Rattle.script_parts.specs.inside.Found.{FitsFront}
+use Rattle.script_parts.specs.Inside.Found.{FitsFront}
 use Rattle.script_parts.specs.RuleLines.{has_lines, HasLines, can_be_named}
 
 module _ {A : Type 0} {cmp : A → A → Ordering} {contains conflicts : A → A → Bool} (laws : IsLawful contains conflicts) (order : IsTotalOrder cmp) (exact : IsAntisymmetric cmp) where

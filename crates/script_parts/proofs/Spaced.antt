@@ -1,13 +1,11 @@
 -- The words of parts, with a space in front of each.
-use Rattle.std.proofs.Common.{◌≤◌, arith, ◌≡◌, ℕ, ◌+◌, ◌<◌, List, [], ◌∷◌, ◌++◌, map, length, take, get_or, refl, sym, ◌∙◌, ap, subst, append_assoc, append-nil}
+use Rattle.std.proofs.Common.{◌≤◌, ◌≡◌, ℕ, ◌+◌, ◌<◌, List, [], ◌∷◌, ◌++◌, map, length, take, get_or, refl, sym, ◌∙◌, ap, subst, append_assoc, append-nil}
 use Rattle.std.specs.List.{flat_map, join_with_byte, AllByRecursion}
 use Rattle.std.proofs.lemmas.Grind.{flat_map-append}
-use Rattle.std.proofs.lemmas.List.{take_more}
+use Rattle.std.proofs.lemmas.List.{take_more, take_all}
 use Rattle.script_words.specs.Words.{Word, word_text}
-use Rattle.script_parts.specs.Parts.{Part}
-use Rattle.script_parts.specs.Parts.{part_word}
-use Rattle.script_parts.specs.inside.Printed.{AreParts, spaced}
-use Rattle.std.proofs.Math.Seq.{take-length}
+use Rattle.script_parts.specs.Parts.{Part, part_word}
+use Rattle.script_parts.specs.Inside.Printed.{AreParts, spaced}
 
 -- a line's words: the first, and the others with a space in front of each
 pub spaced_behind : (word : Word) (parts : List Part) → join_with_byte 32 (word_text word ∷ map word_text (map part_word parts)) ≡ word_text word ++ spaced parts
@@ -38,11 +36,8 @@ parts_if f P (x ∷ xs) h g = parts_append (f x) (flat_map f xs) (h.0 g.0) (part
 -- ---- texts that are appended bit by bit
 
 -- what a loop has taken at its end
-pub whole_taken : {X : Type 0} (n : ℕ) (xs all : List X) → length xs ≤ n → n ≤ length xs → xs ≡ all → take n xs ≡ all
-whole_taken n xs all h g e = let end : n ≡ length xs = omega (arith, h, g) in ap (λ (n : ℕ). take n xs) end ∙ take-length xs ∙ e
-
-pub all_taken : {X : Type 0} (n : ℕ) (xs : List X) → length xs ≤ n → n ≤ length xs → take n xs ≡ xs
-all_taken n xs h g = whole_taken n xs xs h g refl
+pub whole_taken : {X : Type 0} (n : ℕ) (xs all : List X) → length xs ≤ n → xs ≡ all → take n xs ≡ all
+whole_taken n xs all h e = take_all n xs h ∙ e
 
 -- what a loop has appended after one more value
 pub text_more : {X : Type 0} (f : X → List ℕ) (old done new : List ℕ) (xs : List X) (n : ℕ) (x : X) → n < length xs → x ≡ get_or xs n x

@@ -6,11 +6,11 @@ use Rattle.std.specs.List.{list_all, AllByRecursion}
 use Rattle.res_path.specs.Paths.{path_text}
 use Rattle.std.specs.Prelude.{decimal}
 use Rattle.std.specs.Fmt.{signed_decimal}
-use Rattle.script_words.specs.Words.{AreBytes, ReadsBack, printed, is_bare_byte, is_bare}
-use Rattle.script_parts.specs.Parts.{Part, keyword, a_number, an_integer, a_name, a_path, a_text, a_word, FitsParts}
-use Rattle.script_parts.specs.Parts.{part_word}
-use Rattle.script_parts.specs.inside.Printed.{AreParts}
-use Rattle.script_words.proofs.Printed.{text_spells}
+use Rattle.script_words.specs.Words.{printed, is_bare_byte, is_bare}
+use Rattle.script_parts.specs.Parts.{Part, keyword, a_number, an_integer, a_name, a_path, a_text, a_word, FitsParts, part_word}
+use Rattle.script_parts.specs.Inside.Printed.{AreParts}
+use Rattle.script_words.specs.Inside.Bytes.{AreBytes}
+use Rattle.script_words.proofs.Printed.{ReadsBack, text_spells}
 use Rattle.script_parts.proofs.Numbers.{bare_decimal, bare_signed}
 
 pub fits_printed : (parts : List Part) → AreParts parts → FitsParts (map printed (map part_word parts)) parts

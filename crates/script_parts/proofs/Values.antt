@@ -15,8 +15,7 @@ use Rattle.ws_elem.specs.declared.depth.Depth.{Depth}
 use Rattle.ws_elem.specs.declared.depth.Depth.TheVariants.{Zero, One, Infinite}
 use Rattle.script_words.specs.declared.words.Token.{Token}
 use Rattle.script_words.specs.Words.{Word}
-use Rattle.script_parts.specs.Parts.{Part, keyword, a_number, an_integer, a_name, a_path, a_text, a_word, IsNumber, FitsPart, FitsParts, atom_parts, rule_parts, value_parts, attribute_parts, set_parts, truth_word}
-use Rattle.script_parts.specs.Parts.{part_word}
+use Rattle.script_parts.specs.Parts.{Part, keyword, a_number, an_integer, a_name, a_path, a_text, a_word, IsNumber, FitsPart, FitsParts, atom_parts, rule_parts, value_parts, attribute_parts, set_parts, truth_word, part_word}
 use Rattle.script_parts.proofs.Numbers.{number_back, integer_back}
 use Rattle.script_parts.proofs.Paths.{path_at, path_back}
 
@@ -42,10 +41,11 @@ attributes_at (name ∷ []) = []
 attributes_at (name ∷ kind ∷ []) = []
 attributes_at (name ∷ kind ∷ word ∷ words) = (name, value_at kind word) ∷ attributes_at words
 
-abbrev pub set_at : List Word → Option RawValue
-set_at [] = None
-set_at (word ∷ []) = None
-set_at (kind ∷ word ∷ words) = Some (value_at kind word)
+-- what an attribute is set to
+abbrev pub change_at : List Word → Option RawValue
+change_at [] = None
+change_at (word ∷ []) = None
+change_at (kind ∷ word ∷ words) = Some (value_at kind word)
 
 abbrev pub short_at : Word → Word → WsAtom
 short_at kind place = chosen kind ((codes "path", Path (path_at place)) ∷ []) (Mutex place)
@@ -95,11 +95,11 @@ attributes_back (attribute ∷ attributes) h =
     value_back attribute.1 more h.1 attribute.0
     ∙ ap (λ (rest : List (List ℕ × RawValue)). attribute ∷ rest) (attributes_back attributes (behind (attribute_parts attribute) more h))
 
-pub set_back : (value : Option RawValue) → AreNamed (set_parts value) → set_at (words_of (set_parts value)) ≡ value
-set_back None h = refl
-set_back (Some (IntValue z)) h = ap (λ (z : ℤ). Some (IntValue z)) (integer_back z h.1.0)
-set_back (Some (BoolValue b)) h = ap (λ (b : Bool). Some (BoolValue b)) (truth_back b)
-set_back (Some (TextValue text)) h = refl
+pub change_back : (value : Option RawValue) → AreNamed (set_parts value) → change_at (words_of (set_parts value)) ≡ value
+change_back None h = refl
+change_back (Some (IntValue z)) h = ap (λ (z : ℤ). Some (IntValue z)) (integer_back z h.1.0)
+change_back (Some (BoolValue b)) h = ap (λ (b : Bool). Some (BoolValue b)) (truth_back b)
+change_back (Some (TextValue text)) h = refl
 
 pub atoms_back : (atoms : List WsAtom) → AreNamed (flat_map atom_parts atoms) → atoms_at (words_of (flat_map atom_parts atoms)) ≡ atoms
 atoms_back [] h = refl

@@ -1,3 +1,3 @@
 pub mod Parts
 pub mod RuleLines
-pub mod inside
+pub mod Inside

@@ -4,7 +4,7 @@
 ghost use Rattle.std.specs.Prelude.{[], ◌∷◌, IfOk};
 ghost use Rattle.std.specs.List.{flat_map};
 ghost use Rattle.script_parts.specs.Parts.{keyword, a_name, a_number, a_path, a_text, a_word, attribute_parts, depth_word, set_parts, switch_word};
-ghost use Rattle.script_parts.specs.inside.Found.{IsFound, IsPairFound, IsTripleFound};
+ghost use Rattle.script_parts.specs.Inside.Found.{IsFound, IsPairFound, IsTripleFound};
 
 use crate::NoMemory;
 use crate::attributes::{attributes_of, set_value_of};

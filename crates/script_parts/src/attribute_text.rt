@@ -4,13 +4,14 @@ ghost use Rattle.std.specs.List.{flat_map};
 ghost use Rattle.mark_set.specs.declared.value.RawValue.TheVariants.{Int};
 ghost use Rattle.script_words.specs.Words.{Grows};
 ghost use Rattle.script_parts.specs.Parts.{attribute_parts, set_parts, value_parts};
-ghost use Rattle.script_parts.specs.inside.Printed.{AreParts, spaced};
+ghost use Rattle.script_parts.specs.Inside.Printed.{AreParts, spaced};
 
 use crate::NoMemory;
 use crate::part_text::{put_integer, put_next, text_word, truth_word};
 use mark_set::{RawText, RawValue};
 
-/// Appends attributes, with a space in front of each word.
+/// Appends attributes, with a space in front of each word. After want of memory a part of it may have been appended, and
+/// what stood there before stays in front.
 pub fn put_attributes(out: &mut Vec<u8>, attributes: &[(RawText, RawValue)]) -> Result<(), NoMemory>
     ensures text { OnOk result (out.new.items ≡ out.old.items ++ spaced (flat_map attribute_parts attributes.now)) }
     ensures kept { Grows out.old.items out.new.items }
@@ -31,7 +32,8 @@ fn put_attribute(out: &mut Vec<u8>, attribute: &(RawText, RawValue)) -> Result<(
     put_value(out, &attribute.1)
 }
 
-/// Appends what an attribute is set to, with a space in front of each word.
+/// Appends what an attribute is set to, with a space in front of each word. After want of memory a part of it may have
+/// been appended, and what stood there before stays in front.
 pub fn put_set(out: &mut Vec<u8>, value: &Option<RawValue>) -> Result<(), NoMemory>
     ensures text { OnOk result (out.new.items ≡ out.old.items ++ spaced (set_parts value.now)) }
     ensures kept { Grows out.old.items out.new.items }

@@ -2,7 +2,7 @@
 ghost use Rattle.std.specs.Prelude.{[], ◌∷◌, IfOk, MatchOption};
 ghost use Rattle.std.specs.List.{flat_map};
 ghost use Rattle.script_parts.specs.Parts.{attribute_parts, value_parts, set_parts};
-ghost use Rattle.script_parts.specs.inside.Found.{IsFound, FitsFront, FitsNoFront};
+ghost use Rattle.script_parts.specs.Inside.Found.{IsFound, FitsFront, FitsNoFront};
 
 use crate::NoMemory;
 use crate::parts::{integer_of, is_key, text_of, truth_of};

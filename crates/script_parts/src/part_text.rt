@@ -3,9 +3,10 @@ ghost use Rattle.std.specs.Prelude.{◌≡◌, ◌++◌, ◌∷◌, true, codes,
 ghost use Rattle.std.specs.Fmt.{signed_decimal};
 ghost use Rattle.std.specs.Int.{w32};
 ghost use Rattle.res_path.specs.Paths.{path_text};
-ghost use Rattle.script_words.specs.Words.{AreBytes, Grows, is_bare, word_text};
+ghost use Rattle.script_words.specs.Words.{Grows, is_bare, word_text};
+ghost use Rattle.script_words.specs.Inside.Bytes.{AreBytes};
 ghost use Rattle.script_parts.specs.Parts.{a_name, a_number, a_path, a_text, a_word, depth_word, switch_word, truth_word};
-ghost use Rattle.script_parts.specs.inside.Printed.{IsPart};
+ghost use Rattle.script_parts.specs.Inside.Printed.{IsPart};
 
 use crate::NoMemory;
 use bytes::Bytes;
@@ -15,7 +16,8 @@ use res_path::{Name, Path};
 use script_words::{put_bytes, put_word};
 use ws_elem::Depth;
 
-/// Appends `create`, what is created, which can stand bare, and its path, with one space between.
+/// Appends `create`, what is created, which can stand bare, and its path, with one space between. After want of memory a
+/// part of it may have been appended, and what stood there before stays in front.
 pub fn put_created(out: &mut Vec<u8>, kind: &[u8], path: &[u8]) -> Result<(), NoMemory>
     requires { is_bare kind.now ≡ true }
     ensures text { OnOk result (out.new.items ≡ out.old.items ++ (word_text (codes "create") ++ 32 ∷ (word_text kind.now ++ 32 ∷ word_text path.now))) }
@@ -26,7 +28,8 @@ pub fn put_created(out: &mut Vec<u8>, kind: &[u8], path: &[u8]) -> Result<(), No
     put_next(out, path)
 }
 
-/// Appends four words with one space between. The first can stand bare.
+/// Appends four words with one space between. The first can stand bare. After want of memory a part of it may have been
+/// appended, and what stood there before stays in front.
 pub fn put_four(
     out: &mut Vec<u8>,
     first: &[u8],
@@ -43,7 +46,8 @@ pub fn put_four(
     put_next(out, fourth)
 }
 
-/// Appends three words with one space between. The first can stand bare.
+/// Appends three words with one space between. The first can stand bare. After want of memory a part of it may have been
+/// appended, and what stood there before stays in front.
 pub fn put_three(
     out: &mut Vec<u8>,
     first: &[u8],
@@ -58,7 +62,8 @@ pub fn put_three(
     put_next(out, third)
 }
 
-/// Appends two words with a space between. The first can stand bare.
+/// Appends two words with a space between. The first can stand bare. After want of memory a part of it may have been
+/// appended, and what stood there before stays in front.
 pub fn put_two(out: &mut Vec<u8>, first: &[u8], second: &[u8]) -> Result<(), NoMemory>
     requires { is_bare first.now ≡ true }
     ensures text { OnOk result (out.new.items ≡ out.old.items ++ (word_text first.now ++ 32 ∷ word_text second.now)) }
@@ -68,7 +73,8 @@ pub fn put_two(out: &mut Vec<u8>, first: &[u8], second: &[u8]) -> Result<(), NoM
     put_next(out, second)
 }
 
-/// Appends a space and a word.
+/// Appends a space and a word. After want of memory a part of it may have been appended, and what stood there before
+/// stays in front.
 pub fn put_next(out: &mut Vec<u8>, word: &[u8]) -> Result<(), NoMemory>
     ensures text { OnOk result (out.new.items ≡ out.old.items ++ 32 ∷ word_text word.now) }
     ensures kept { Grows out.old.items out.new.items }
@@ -77,7 +83,8 @@ pub fn put_next(out: &mut Vec<u8>, word: &[u8]) -> Result<(), NoMemory>
     put_word(out, word)
 }
 
-/// Appends a space and a number.
+/// Appends a space and a number, in decimal. After want of memory a part of it may have been appended, and what stood
+/// there before stays in front.
 pub fn put_number(out: &mut Vec<u8>, number: u64) -> Result<(), NoMemory>
     ensures text { OnOk result (out.new.items ≡ out.old.items ++ 32 ∷ word_text (decimal number)) }
     ensures kept { Grows out.old.items out.new.items }
@@ -87,7 +94,8 @@ pub fn put_number(out: &mut Vec<u8>, number: u64) -> Result<(), NoMemory>
     put_next(out, buffer.format(number).as_bytes())
 }
 
-/// Appends a space and an integer.
+/// Appends a space and an integer, in decimal. After want of memory a part of it may have been appended, and what stood
+/// there before stays in front.
 pub fn put_integer(out: &mut Vec<u8>, integer: i32) -> Result<(), NoMemory>
     ensures text { OnOk result (out.new.items ≡ out.old.items ++ 32 ∷ word_text (signed_decimal integer)) }
     ensures kept { Grows out.old.items out.new.items }
@@ -137,18 +145,21 @@ fn known_bytes(word: &[u8]) -> &[u8]
     word
 }
 
+/// The word that says whether a file is derived: `on` or `off`.
 pub fn switch_word(derived: bool) -> &'static [u8]
     ensures { result.now ≡ switch_word derived }
 {
     if derived { b"on" } else { b"off" }
 }
 
+/// The word that a truth value is: `true` or `false`.
 pub fn truth_word(truth: bool) -> &'static [u8]
     ensures { result.now ≡ truth_word truth }
 {
     if truth { b"true" } else { b"false" }
 }
 
+/// The word that a depth is: `0`, `1`, or `2` for all below.
 pub fn depth_word(depth: Depth) -> &'static [u8]
     ensures { result.now ≡ depth_word depth }
 {

@@ -5,7 +5,7 @@ ghost use Rattle.std.specs.Int.{w32};
 ghost use Rattle.res_path.specs.Names.{IsName};
 ghost use Rattle.res_path.specs.Paths.{Names, IsPath, path_text};
 ghost use Rattle.script_parts.specs.Parts.{keyword, a_number, an_integer, a_name, a_path, a_text, FitsPart, IsNumber, switch_word, truth_word, depth_word};
-ghost use Rattle.script_parts.specs.inside.Found.{IsPartFound};
+ghost use Rattle.script_parts.specs.Inside.Found.{IsPartFound};
 
 use crate::NoMemory;
 use bytes::{ByteStr, Bytes};

@@ -4,13 +4,14 @@ ghost use Rattle.std.specs.List.{flat_map, AllByRecursion};
 ghost use Rattle.script_words.specs.Words.{Grows};
 ghost use Rattle.script_parts.specs.Parts.{a_number, atom_parts, rule_parts, rule_read};
 ghost use Rattle.script_parts.specs.RuleLines.{HasLines};
-ghost use Rattle.script_parts.specs.inside.Printed.{AreParts, spaced};
+ghost use Rattle.script_parts.specs.Inside.Printed.{AreParts, spaced};
 
 use crate::part_text::{name_word, path_word, put_next, put_number};
 use crate::{NoMemory, ScriptRule};
 use sched_rules::WsAtom;
 
-/// Appends a rule, with a space in front of each of its words.
+/// Appends a rule, with a space in front of each of its words. After want of memory a part of it may have been appended,
+/// and what stood there before stays in front.
 pub fn put_rule(out: &mut Vec<u8>, rule: &ScriptRule) -> Result<(), NoMemory>
     ensures text { OnOk result (out.new.items ≡ out.old.items ++ spaced (rule_parts rule.now)) }
     ensures kept { Grows out.old.items out.new.items }

@@ -1,7 +1,7 @@
 //! The rule that the words of a line name.
 ghost use Rattle.std.specs.Prelude.{◌<◌, [], ◌∷◌, length, codes, IfOk, MatchOption};
 ghost use Rattle.script_parts.specs.Parts.{keyword, FitsPart, atom_parts};
-ghost use Rattle.script_parts.specs.inside.Found.{IsFound, IsRuleFound, FitsFront, FitsNoFront};
+ghost use Rattle.script_parts.specs.Inside.Found.{IsFound, IsRuleFound, FitsFront, FitsNoFront};
 
 use crate::parts::{is_key, name_of, number_from, path_of};
 use crate::{NoMemory, ScriptRule};

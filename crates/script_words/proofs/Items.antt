@@ -11,7 +11,7 @@ use lib.Utf8.{scalar, scalars, encode, encodes, low_scalar}
 use Rattle.script_words.specs.declared.quoted.State.{State}
 use Rattle.script_words.specs.declared.quoted.State.TheVariants.{Between, Escape, FirstDigit, SecondDigit}
 use Rattle.script_words.specs.Words.{Word, Item, character, escape, hexadecimal, IsItem, item_text, item_bytes, is_plain, is_letter, letter_byte, is_hex, SpellsQuoted}
-use Rattle.script_words.specs.inside.Quoted.{step, then_denoted, denoted}
+use Rattle.script_words.specs.Inside.Quoted.{step, then_denoted, denoted}
 
 -- ---- bytes past ASCII
 
@@ -44,10 +44,11 @@ high_plain b h = grind (arith, nat_tests)
 
 -- ---- items are read as what they denote
 
-abbrev join : List ℕ → Option (List ℕ) → Option (List ℕ)
+-- these bytes in front of what is denoted
+abbrev pub join : List ℕ → Option (List ℕ) → Option (List ℕ)
 join front found = option_map (λ word. front ++ word) found
 
-join_nil : (found : Option (List ℕ)) → join [] found ≡ found
+pub join_nil : (found : Option (List ℕ)) → join [] found ≡ found
 join_nil None = refl
 join_nil (Some word) = refl
 

@@ -1,5 +1,6 @@
 pub mod Items
 pub mod Tokens
+pub mod Unescaping
 pub mod Lined
 pub mod Grown
 pub mod Pieces

@@ -7,7 +7,7 @@ use Rattle.std.proofs.lemmas.Bool.Decides.{nat_tests}
 use Rattle.std.specs.List.{slice_split, onto_first}
 use Rattle.script_words.specs.Words.{Token, SpellsLine}
 use Rattle.script_words.specs.Lines.{is_line_feed, without_empty_end, lines_of, is_skipped, unskipped}
-use Rattle.script_words.specs.inside.Passing.{TakesLine, HasNoLine, next_number, starts_skipped, PassesLine, Skips}
+use Rattle.script_words.specs.Inside.Passing.{TakesLine, HasNoLine, next_number, starts_skipped, PassesLine, Skips}
 
 kept_line : (line next : List ℕ) (lines : List (List ℕ)) → without_empty_end (line ∷ next ∷ lines) ≡ line ∷ without_empty_end (next ∷ lines)
 kept_line [] next lines = refl
@@ -138,7 +138,7 @@ no_line_left old new s e = λ line more h tokens spelled.
     no_bytes [] n = refl
     no_bytes (b ∷ bytes) n = absurd (omega (arith, n))
 
-same_first : (a b : List ℕ) (more rest : List (List ℕ)) → a ∷ more ≡ b ∷ rest → a ≡ b
+pub same_first : (a b : List ℕ) (more rest : List (List ℕ)) → a ∷ more ≡ b ∷ rest → a ≡ b
 same_first a b more rest e = cc
 
 pub other_line : (old mid new line : List ℕ) → Skips old mid → starts_skipped mid ≡ false → lines_of mid ≡ line ∷ lines_of new → ((tokens : List Token) → SpellsLine line tokens → ⊥) → HasNoLine (lines_of old)

@@ -11,7 +11,8 @@ use Rattle.std.proofs.lemmas.Str.{encode_ascii, digit_value-digit_char}
 use Rattle.std.proofs.lemmas.List.{take-append-drop}
 use Rattle.std.proofs.lemmas.List.Splits.{slice_split-cons_no}
 use lib.Utf8.{scalar, scalars, encode, encodes, low_scalar}
-use Rattle.script_words.specs.Words.{Word, AreBytes, Item, character, escape, hexadecimal, IsItem, item_text, item_bytes, is_plain, is_letter, is_hex, is_bare_byte, is_bare, SpellsQuoted, Spells, SpellsTokens, SpellsLine, hex_text, byte_text, is_in_text, quoted_byte, quoted_text, word_text, printed, ReadsBack}
+use Rattle.script_words.specs.Words.{Word, Item, character, escape, hexadecimal, IsItem, item_text, item_bytes, is_plain, is_letter, is_hex, is_bare_byte, is_bare, SpellsQuoted, Spells, SpellsTokens, SpellsLine, hex_text, byte_text, is_in_text, quoted_byte, quoted_text, word_text, SpellsToken, printed}
+use Rattle.script_words.specs.Inside.Bytes.{AreBytes}
 use Rattle.script_words.proofs.Items.{is_high, high_char, high_plain, no_items}
 use Rattle.script_words.specs.Lines.{is_line_feed, lines_of, is_skipped}
 use Rattle.script_words.proofs.Lined.{first_line}
@@ -129,7 +130,10 @@ pub quoted_spells : (n : ℕ) (word : Word) → length word ≤ n → AreBytes w
 quoted_spells zero word fits bytes = spells_from word bytes (λ rest less b. absurd (omega arith)) (drop (utf8_valid_len word) word) refl
 quoted_spells (suc n) word fits bytes = spells_from word bytes (λ rest less b. quoted_spells n rest (omega arith) b) (drop (utf8_valid_len word) word) refl
 
--- the text of a word stands for it
+-- what is printed for the word stands for it
+abbrev pub ReadsBack : Word → Type 0
+ReadsBack word = SpellsToken (word_text word) (printed word)
+
 pub text_spells : (word : Word) → AreBytes word → ReadsBack word
 text_spells word bytes = by (is_bare word) refl
   where

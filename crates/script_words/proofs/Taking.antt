@@ -2,8 +2,8 @@
 use Rattle.std.proofs.Common.{◌≡◌, ℕ, Bool, true, false, List, [], ◌∷◌, ◌++◌, refl, sym, ◌∙◌, ap, subst}
 use Rattle.script_words.specs.Words.{Token, SpellsLine}
 use Rattle.script_words.specs.Lines.{is_skipped, unskipped, SpellsEach, SpellsLines}
-use Rattle.script_words.specs.inside.Passing.{TakesLine}
-use Rattle.script_words.proofs.Lined.{unskipped_append, keeps_line}
+use Rattle.script_words.specs.Inside.Passing.{TakesLine}
+use Rattle.script_words.proofs.Lined.{unskipped_append, keeps_line, same_first}
 use Rattle.script_words.proofs.Tokens.{spells_once}
 
 isnt_skipped : (line : List ℕ) (t : Bool) → is_skipped line ≡ t → (is_skipped line ≡ true → ⊥) → is_skipped line ≡ false
@@ -19,9 +19,6 @@ pub taken_first : (lines rest : List (List ℕ)) (tokens : List Token) (t : Take
 taken_first lines rest tokens t =
     ap unskipped t.lines_are ∙ unskipped_append t.passed (t.line ∷ rest) ∙ ap (λ front. front ++ unskipped (t.line ∷ rest)) t.skipped
     ∙ keeps_line t.line rest (taken_kept lines rest tokens t)
-
-same_first : (a b : List ℕ) (more rest : List (List ℕ)) → a ∷ more ≡ b ∷ rest → a ≡ b
-same_first a b more rest e = cc
 
 -- and it spells no other tokens
 pub taken_tokens : (lines rest more : List (List ℕ)) (next : List ℕ) (tokens others : List Token) → TakesLine lines tokens rest → unskipped lines ≡ next ∷ more → SpellsLine next others → tokens ≡ others

@@ -10,8 +10,8 @@ use Rattle.std.proofs.lemmas.List.{take-append-drop}
 use Rattle.std.proofs.lemmas.List.Splits.{slice_split-cons_no, join_with_byte-slice_split}
 use Rattle.script_words.specs.declared.quoted.State.TheVariants.{Between}
 use Rattle.script_words.specs.Words.{Word, Token, Item, character, escape, hexadecimal, IsItem, item_text, is_plain, is_hex, is_bare_byte, is_bare, SpellsQuoted, Spells, SpellsTokens, SpellsLine}
-use Rattle.script_words.specs.inside.Quoted.{quote_from, denoted}
-use Rattle.script_words.specs.inside.Tokens.{starts_quoted, after_token, left_after, StartsWith, StartsWithNone, TakesToken}
+use Rattle.script_words.specs.Inside.Quoted.{quote_from, denoted}
+use Rattle.script_words.specs.Inside.Tokens.{starts_quoted, after_token, left_after, StartsWith, StartsWithNone, TakesToken}
 use Rattle.script_words.proofs.Items.{plain_char, quoted_denoted}
 
 -- ---- where the closing quote is

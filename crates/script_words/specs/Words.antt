@@ -1,5 +1,5 @@
 -- Words, how a line spells them, and how they are printed.
-use Rattle.std.specs.Prelude.{◌≡◌, ◌≢◌, ℕ, suc, ◌+◌, ◌*◌, ◌/◌, ◌%◌, ◌<◌, Bool, true, false, not, ◌&&◌, ◌||◌, ◌==◌, nat_le, nat_lt, if◌then◌else◌, List, [], ◌∷◌, ◌++◌, length, drop, IsTrue}
+use Rattle.std.specs.Prelude.{◌≡◌, ◌≢◌, ℕ, suc, ◌+◌, ◌*◌, ◌/◌, ◌%◌, Bool, true, false, not, ◌&&◌, ◌||◌, ◌==◌, nat_le, nat_lt, if◌then◌else◌, List, [], ◌∷◌, ◌++◌, length, drop, IsTrue}
 use Rattle.std.specs.List.{list_all, list_any, flat_map, enumerate_from, range_with_len, join_with_byte, AllByRecursion}
 use Rattle.std.specs.Char.{encode_utf8, IsScalar, digit_value, digit_char}
 use Rattle.std.specs.Str.Lossy.{utf8_valid_len}
@@ -9,10 +9,6 @@ pub use Rattle.script_words.specs.declared.words.Token.{Token}
 -- a word, as the bytes that it denotes
 abbrev pub Word : Type 0
 Word = List ℕ
-
--- numbers that are bytes
-abbrev pub AreBytes : List ℕ → Type 0
-AreBytes bytes = AllByRecursion (λ b. b < 256) bytes
 
 -- ---- bare words
 
@@ -133,10 +129,6 @@ word_text word = if is_bare word then word else 34 ∷ (quoted_text word ++ 34 �
 -- the token as which a word is printed
 abbrev pub printed : Word → Token
 printed word = record { bare = is_bare word; word = word }
-
--- what is printed for the word stands for it
-abbrev pub ReadsBack : Word → Type 0
-ReadsBack word = SpellsToken (word_text word) (printed word)
 
 -- a text was appended that stands for the word
 pub record SpellsMore (old : List ℕ) (word : Word) (new : List ℕ) : Type 0 where

@@ -5,7 +5,7 @@ ghost use Rattle.std.specs.Char.{digit_value};
 ghost use Rattle.std.specs.Option.{option_to_list};
 ghost use Rattle.script_words.specs.declared.quoted.State.TheVariants.{Between, Escape, SecondDigit};
 ghost use Rattle.script_words.specs.Words.{Word, is_plain, is_letter, letter_byte, is_hex, SpellsQuoted};
-ghost use Rattle.script_words.specs.inside.Quoted.{closes, takes_next, quote_from, step, denoted};
+ghost use Rattle.script_words.specs.Inside.Quoted.{closes, takes_next, quote_from, step, denoted};
 
 use crate::NoMemory;
 use bytes::Bytes;

@@ -1,7 +1,7 @@
 //! The lines of a text, one after another.
 ghost use Rattle.std.specs.Prelude.{◌≡◌, ◌+◌, ◌<◌, ◌^◌, ℕ, [], ◌∷◌, length, false, Err, IfOk, OnOk, OnErr, IsTrue, ◌↔◌};
 ghost use Rattle.script_words.specs.Lines.{lines_of, unskipped};
-ghost use Rattle.script_words.specs.inside.Passing.{starts_skipped, TakesLine, HasNoLine, next_number, PassesLine, Skips};
+ghost use Rattle.script_words.specs.Inside.Passing.{starts_skipped, TakesLine, HasNoLine, next_number, PassesLine, Skips};
 
 use crate::words::{Token, cut, place_of, words_of};
 use crate::{NoMemory, ScriptError};
@@ -19,7 +19,7 @@ pub struct Reader {
 }
 
 impl Reader {
-    ghost use Rattle.script_words.specs.inside.Counts.{Advances};
+    ghost use Rattle.script_words.specs.Inside.Counts.{Advances};
 
     /// The lines of this text. It takes no memory.
     pub fn new(text: Bytes) -> Reader
@@ -46,7 +46,7 @@ impl Reader {
 
     /// Reads the tokens of the next line that isn't skipped, in place of those that were there. Refused with the number
     /// of that line where it spells none, and with one past the last where only skipped lines are left. Costs one pass
-    /// over the lines that are read.
+    /// over the lines that are read. After want of memory nothing is said of the reader and the tokens.
     pub fn line(&mut self, alloc: Global, tokens: &mut Vec<Token>) -> Result<(), ScriptError>
         ensures line { OnOk result (TakesLine (lines_of self.old.rest) tokens.new.items (lines_of self.new.rest)) }
         ensures count { OnOk result (Advances self.old self.new) }

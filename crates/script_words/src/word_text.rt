@@ -1,5 +1,5 @@
 //! How words are printed.
-ghost use Rattle.std.specs.Prelude.{◌≡◌, ◌<◌, ◌≤◌, ◌++◌, length, OnOk};
+ghost use Rattle.std.specs.Prelude.{◌≡◌, ◌<◌, ◌≤◌, ◌++◌, length, OnOk, OnErr};
 ghost use Rattle.std.specs.List.{flat_map};
 ghost use Rattle.std.specs.Char.{digit_char};
 ghost use Rattle.std.specs.Str.Lossy.{utf8_valid_len};
@@ -36,6 +36,7 @@ fn put_text(out: &mut Vec<u8>, word: &[u8]) -> Result<(), NoMemory>
 /// Appends these bytes. After want of memory all stands as it was.
 pub fn put_bytes(out: &mut Vec<u8>, text: &[u8]) -> Result<(), NoMemory>
     ensures text { OnOk result (out.new.items ≡ out.old.items ++ text.now) }
+    ensures err { OnErr result (out.new.items ≡ out.old.items) }
     ensures kept { Grows out.old.items out.new.items }
 {
     out.extend_from_slice(text)?;

@@ -4,8 +4,8 @@ ghost use Rattle.std.specs.Bool.{MatchBool};
 ghost use Rattle.std.specs.List.{slice_split, list_all, position};
 ghost use Rattle.script_words.specs.declared.words.Token.{Token};
 ghost use Rattle.script_words.specs.Words.{is_bare, is_bare_byte, SpellsLine};
-ghost use Rattle.script_words.specs.inside.Quoted.{quote_from};
-ghost use Rattle.script_words.specs.inside.Tokens.{starts_quoted, after_token, left_after, StartsWith, StartsWithNone, TakesToken};
+ghost use Rattle.script_words.specs.Inside.Quoted.{quote_from};
+ghost use Rattle.script_words.specs.Inside.Tokens.{starts_quoted, after_token, left_after, StartsWith, StartsWithNone, TakesToken};
 
 use crate::NoMemory;
 use crate::quoted::{denoted, quote_place};
@@ -24,7 +24,8 @@ pub struct Token {
 }
 
 /// Reads the tokens that a line spells, in place of those that were there. Whether it spells some. A bare word that is
-/// no common one, and a quoted one without an escape, shares the line's bytes. Costs one pass over the line.
+/// no common one, and a quoted one without an escape, shares the line's bytes. Where it spells none, and after want of
+/// memory, nothing is said of the tokens. Costs one pass over the line.
 pub fn words_of(alloc: Global, line: Bytes, tokens: &mut Vec<Token>) -> Result<bool, NoMemory>
     ensures { IfOk result (λ found. MatchBool found (SpellsLine line tokens.new.items) ((others : List Token) → SpellsLine line others → ⊥)) }
 {
@@ -95,7 +96,7 @@ struct Front {
 }
 
 /// Takes what stands before the first space off a line, and the space too; where there is none, all of the line.
-/// Nothing is copied. A common word needs no share of the line's bytes.
+/// Nothing is copied. A common word needs no share of the line's bytes. After want of memory the line is as it was.
 fn cut_word(line: &mut Bytes) -> Result<Front, NoMemory>
     ensures parts { IfOk result (λ front. MatchBool front.goes_on
         (slice_split (λ b. b == 32) line.old ≡ front.word ∷ slice_split (λ b. b == 32) line.new)
@@ -264,7 +265,7 @@ fn is_bare_byte(b: u8) -> bool
 }
 
 /// Takes what stands before the first such byte off a text, and that byte too. Whether there is one; where there is
-/// none, all of the text is taken. Nothing is copied.
+/// none, all of the text is taken. Nothing is copied. After want of memory the text is as it was.
 pub fn cut(text: &mut Bytes, mark: u8) -> Result<(Bytes, bool), NoMemory>
     ensures parts { IfOk result (λ cut. MatchBool cut.1
         (slice_split (λ b. b == mark) text.old ≡ cut.0 ∷ slice_split (λ b. b == mark) text.new)

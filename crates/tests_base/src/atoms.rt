@@ -1,13 +1,14 @@
 //! Atoms and rules, two by two.
-use crate::asserting::{holds, same};
-use crate::rows::{Row, gives, number, row_of, yes};
-use res_path::{Name, Path};
+use crate::asserting::must;
+use crate::paths::{name, path};
+use crate::rows::{Row, cut, number, play, say, yes};
 use sched_rules::{Atom, Rule, WsAtom};
 use std::alloc::Global;
-use std::test::Fail;
+use std::process::Abort;
 
 /// An atom is a path, a path with a range of lines behind a colon, or else a mutex; a rule has atoms with a `+` between,
 /// and the null rule none. `atoms` and `rules` tell whether the first contains the second, and whether both conflict.
+/// Of the atoms of `in order`, with commas between, each is below all that follow.
 const ROWS: &str = "atoms|in meets|/P/a:3-9|/P/a:4-4
 atoms|out meets|/P/a:3-9|/P/a:9-12
 atoms|out apart|/P/a:3-9|/P/a:10-12
@@ -44,115 +45,112 @@ rules|in apart|/|
 rules|in apart||
 rules|out apart||/
 null|yes|
-null|no|/";
+null|no|/
+in order|yes|/,/P/z,/PQ,a,b,/P:7-8,/P/a:2-9,/P/a:3-3,/P/a:3-10";
 
-/// Atoms that rise, each below all that follow.
-const RISING: &str = "/
-/P/z
-/PQ
-a
-b
-/P:7-8
-/P/a:2-9
-/P/a:3-3
-/P/a:3-10";
-
-fn atom(alloc: Global, text: &str) -> Result<WsAtom, Fail> {
+fn atom(rt: &impl Abort, alloc: Global, text: &str) -> WsAtom {
     if let Some((file, lines)) = text.split_once(':') {
-        let (from, to) = lines.split_once('-').ok_or("a range of lines")?;
-        return Ok(WsAtom::Lines {
-            file: Path::parse(alloc, file)?,
+        let (from, to) = cut(lines, '-');
+        return WsAtom::Lines {
+            file: path(rt, alloc, file),
             from: number(from),
             to: number(to),
-        });
+        };
     }
     if text.starts_with('/') {
-        return Ok(WsAtom::Path(Path::parse(alloc, text)?));
+        WsAtom::Path(path(rt, alloc, text))
+    } else {
+        WsAtom::Mutex(name(rt, alloc, text))
     }
-    Ok(WsAtom::Mutex(Name::parse(alloc, text)?))
+}
+
+fn rule_of(rt: &impl Abort, alloc: Global, text: &str) -> Rule<WsAtom> {
+    must(rt, Rule::of(alloc, atom(rt, alloc, text)))
 }
 
 /// The rule that is spelt with at most two atoms.
-pub fn rule(alloc: Global, text: &str) -> Result<Rule<WsAtom>, Fail> {
+pub fn rule(rt: &impl Abort, alloc: Global, text: &str) -> Rule<WsAtom> {
     if text.is_empty() {
-        return Ok(Rule::null(alloc));
+        return Rule::null(alloc);
     }
-    let Some((one, two)) = text.split_once('+') else {
-        return Ok(Rule::of(alloc, atom(alloc, text)?)?);
-    };
-    let one = Rule::of(alloc, atom(alloc, one)?)?;
-    let two = Rule::of(alloc, atom(alloc, two)?)?;
-    Ok(Rule::combine(alloc, &one, &two)?)
+    let (one, two) = cut(text, '+');
+    if two.is_empty() {
+        return rule_of(rt, alloc, one);
+    }
+    let (one, two) = (rule_of(rt, alloc, one), rule_of(rt, alloc, two));
+    must(rt, Rule::combine(alloc, &one, &two))
 }
 
 fn meeting(contains: bool, conflicts: bool, back: bool) -> &'static str {
-    match (contains, conflicts, back) {
-        (true, true, true) => "in meets",
-        (false, true, true) => "out meets",
-        (true, false, false) => "in apart",
-        (false, false, false) => "out apart",
-        _ => "one-sided",
+    if conflicts != back {
+        "one-sided"
+    } else if contains {
+        if conflicts { "in meets" } else { "in apart" }
+    } else if conflicts {
+        "out meets"
+    } else {
+        "out apart"
     }
 }
 
-fn atoms(alloc: Global, row: &Row<'_>) -> Result<&'static str, Fail> {
-    let one = atom(alloc, row.one)?;
-    let two = atom(alloc, row.two)?.copy()?;
-    Ok(meeting(one.contains(&two), one.conflicts(&two), two.conflicts(&one)))
+fn atoms(rt: &impl Abort, alloc: Global, row: &Row<'_>) -> &'static str {
+    let one = atom(rt, alloc, row.one);
+    let two = must(rt, atom(rt, alloc, row.two).copy());
+    meeting(one.contains(&two), one.conflicts(&two), two.conflicts(&one))
 }
 
-fn rules(alloc: Global, row: &Row<'_>) -> Result<&'static str, Fail> {
-    let one = rule(alloc, row.one)?;
-    let two = rule(alloc, row.two)?.copy()?;
-    Ok(meeting(one.contains(&two), one.conflicts(&two), two.conflicts(&one)))
+fn rules(rt: &impl Abort, alloc: Global, row: &Row<'_>) -> &'static str {
+    let one = rule(rt, alloc, row.one);
+    let two = must(rt, rule(rt, alloc, row.two).copy());
+    meeting(one.contains(&two), one.conflicts(&two), two.conflicts(&one))
 }
 
 /// The kinds of a rule's atoms, each with a space behind.
-fn kinds(alloc: Global, text: &str) -> Result<String, Fail> {
-    let rule = rule(alloc, text)?;
-    let mut kinds = String::new(alloc);
+fn say_kinds(rt: &impl Abort, told: &mut String, rule: &Rule<WsAtom>) {
     for atom in rule.atoms() {
-        kinds.push_str(match atom {
-            WsAtom::Path(_) => "path ",
-            WsAtom::Mutex(_) => "mutex ",
-            WsAtom::Lines { .. } => "lines ",
-        })?;
+        say(
+            rt,
+            told,
+            match atom {
+                WsAtom::Path(_) => "path ",
+                WsAtom::Mutex(_) => "mutex ",
+                WsAtom::Lines { .. } => "lines ",
+            },
+        );
     }
-    Ok(kinds)
 }
 
-fn told(alloc: Global, row: &Row<'_>) -> Result<String, Fail> {
-    let told = match row.word {
-        "kinds" => return kinds(alloc, row.one),
-        "atoms" => atoms(alloc, row)?,
-        "rules" => rules(alloc, row)?,
-        "equal" => yes(rule(alloc, row.one)? == rule(alloc, row.two)?),
-        "null" => yes(rule(alloc, row.one)?.is_null()),
-        _ => "no word",
-    };
-    Ok(String::from_str(alloc, told)?)
-}
-
-#[test]
-fn atoms_and_rules_are_what_the_rows_say(rt: HostRuntime) -> Result<(), Fail> {
-    for line in ROWS.lines() {
-        let row = row_of(line);
-        let told = told(rt.alloc(), &row)?;
-        holds(&rt, gives(&rt, line, &row, told.as_str())?);
-    }
-    Ok(())
-}
-
-#[test]
-fn atoms_are_ordered_by_kind_and_then_by_their_parts(rt: HostRuntime) -> Result<(), Fail> {
-    let alloc = rt.alloc();
-    for (i, a) in RISING.lines().enumerate() {
-        for (j, b) in RISING.lines().enumerate() {
-            let one = atom(alloc, a)?;
-            let two = atom(alloc, b)?;
-            same(&rt, one.cmp(&two), i.cmp(&j));
-            same(&rt, one == two, i == j);
+fn are_in_order(rt: &impl Abort, alloc: Global, atoms: &str) -> bool {
+    for (i, one) in atoms.split(',').enumerate() {
+        for (j, two) in atoms.split(',').enumerate() {
+            let (one, two) = (atom(rt, alloc, one), atom(rt, alloc, two));
+            if one.cmp(&two) != i.cmp(&j) || (one == two) != (i == j) {
+                return false;
+            }
         }
     }
-    Ok(())
+    true
+}
+
+/// Whether the row's word is one of rules, of which then it tells.
+pub fn tell(rt: &impl Abort, alloc: Global, row: &Row<'_>, told: &mut String) -> bool {
+    match row.word {
+        "atoms" => say(rt, told, atoms(rt, alloc, row)),
+        "rules" => say(rt, told, rules(rt, alloc, row)),
+        "kinds" => say_kinds(rt, told, &rule(rt, alloc, row.one)),
+        "equal" => say(
+            rt,
+            told,
+            yes(rule(rt, alloc, row.one) == rule(rt, alloc, row.two)),
+        ),
+        "null" => say(rt, told, yes(rule(rt, alloc, row.one).is_null())),
+        "in order" => say(rt, told, yes(are_in_order(rt, alloc, row.one))),
+        _ => return false,
+    }
+    true
+}
+
+#[test]
+fn atoms_and_rules_are_what_the_rows_say(rt: HostRuntime) {
+    play(&rt, rt.alloc(), ROWS);
 }

@@ -1,10 +1,11 @@
 //! Descriptions of the project P, a text for each cause and for pairs of causes that stand together.
-use crate::asserting::holds;
-use crate::rows::{Row, gives, number, row_of};
+use crate::asserting::{must, same};
+use crate::paths::name;
+use crate::rows::{Row, number, play, say, say_number};
 use proj_desc::Desc;
-use res_path::Name;
 use std::alloc::Global;
-use std::test::Fail;
+use std::fmt::Write;
+use std::process::Abort;
 
 /// `check` gives what is printed of the cause, or `ok`; `canonical` the canonical text. `times` checks its second part,
 /// then as often as its first part says its third one, with the number in the place of `#`, and then its fourth one.
@@ -84,69 +85,73 @@ canonical|{"commands":[],"references":[]}|{}
 canonical|{"commands":[],"references":["B"]}| {"references" : ["A"], "references":["B"]} 
 canonical|{"commands":[{"builder":"copy","inputs":["src","/Q/é"],"output":"bin"}],"references":["Q"]}|{"references":["Q"],"commands":[{"output":"bin","inputs":["src","/Q/\u00e9"],"builder":"copy"}]}"#;
 
-fn checked(alloc: Global, text: &[u8]) -> Result<String, Fail> {
-    let project = Name::parse(alloc, "P")?;
-    match Desc::check(alloc, &project, text)? {
-        Some(cause) => Ok(format!(in alloc; "{cause}")?),
-        None => Ok(String::from_str(alloc, "ok")?),
+fn say_cause(rt: &impl Abort, alloc: Global, told: &mut String, text: &[u8]) {
+    match must(rt, Desc::check(alloc, &name(rt, alloc, "P"), text)) {
+        Some(cause) => must(rt, write!(told, "{cause}")),
+        None => say(rt, told, "ok"),
     }
 }
 
 /// Puts a piece at the end, with the number in the place of `#`.
-fn push_numbered(alloc: Global, text: &mut String, piece: &str, n: u32) -> Result<(), Fail> {
+fn push_numbered(rt: &impl Abort, text: &mut String, piece: &str, n: u32) {
     match piece.split_once('#') {
-        None => text.push_str(piece)?,
+        None => say(rt, text, piece),
         Some((front, back)) => {
-            text.push_str(front)?;
-            text.push_str(format!(in alloc; "{n}{back}")?.as_str())?;
+            say(rt, text, front);
+            say_number(rt, text, u64::from(n));
+            say(rt, text, back);
         }
     }
-    Ok(())
 }
 
-fn repeated(alloc: Global, row: &Row<'_>) -> Result<String, Fail> {
-    let mut text = String::from_str(alloc, row.two)?;
+fn repeated(rt: &impl Abort, alloc: Global, row: &Row<'_>) -> String {
+    let mut text = String::new(alloc);
+    say(rt, &mut text, row.two);
     for n in 0..number(row.one) {
-        push_numbered(alloc, &mut text, row.three, n)?;
+        push_numbered(rt, &mut text, row.three, n);
     }
-    text.push_str(row.four)?;
-    checked(alloc, text.as_bytes())
+    say(rt, &mut text, row.four);
+    text
+}
+
+/// The canonical text of the description that is read.
+fn written(rt: &impl Abort, alloc: Global, text: &[u8]) -> Vec<u8> {
+    let read = must(rt, Desc::parse(alloc, &name(rt, alloc, "P"), text));
+    must(rt, must(rt, read.copy()).text(alloc))
 }
 
 /// The canonical text, where it is also that of the description that is read.
-fn canonical(alloc: Global, text: &[u8]) -> Result<String, Fail> {
-    let project = Name::parse(alloc, "P")?;
-    let bytes = Desc::canonical(alloc, &project, text)?;
-    let read = Desc::parse(alloc, &project, text)?;
-    let written = read.copy()?.text(alloc)?;
-    if written.as_slice() != bytes.as_slice() {
-        return Ok(String::from_str(alloc, "two texts")?);
+fn say_canonical(rt: &impl Abort, alloc: Global, told: &mut String, text: &[u8]) {
+    let bytes = must(rt, Desc::canonical(alloc, &name(rt, alloc, "P"), text));
+    if bytes.as_slice() == written(rt, alloc, text).as_slice() {
+        say(rt, told, must(rt, std::str::from_utf8(bytes.as_slice())));
     }
-    Ok(String::from_str(alloc, std::str::from_utf8(bytes.as_slice())?)?)
 }
 
-fn told(alloc: Global, row: &Row<'_>) -> Result<String, Fail> {
+/// Whether the row's word is one of descriptions, of which then it tells.
+pub fn tell(rt: &impl Abort, alloc: Global, row: &Row<'_>, told: &mut String) -> bool {
     match row.word {
-        "check" => checked(alloc, row.one.as_bytes()),
-        "times" => repeated(alloc, row),
-        "canonical" => canonical(alloc, row.one.as_bytes()),
-        _ => Ok(String::from_str(alloc, "no word")?),
+        "check" => say_cause(rt, alloc, told, row.one.as_bytes()),
+        "times" => say_cause(
+            rt,
+            alloc,
+            told,
+            repeated(rt, alloc, row).as_str().as_bytes(),
+        ),
+        "canonical" => say_canonical(rt, alloc, told, row.one.as_bytes()),
+        _ => return false,
     }
+    true
 }
 
 #[test]
-fn descriptions_are_what_the_rows_say(rt: HostRuntime) -> Result<(), Fail> {
-    for line in ROWS.lines() {
-        let row = row_of(line);
-        let told = told(rt.alloc(), &row)?;
-        holds(&rt, gives(&rt, line, &row, told.as_str())?);
-    }
-    Ok(())
+fn descriptions_are_what_the_rows_say(rt: HostRuntime) {
+    play(&rt, rt.alloc(), ROWS);
 }
 
 #[test]
-fn a_text_of_other_bytes_is_no_json(rt: HostRuntime) -> Result<(), Fail> {
-    let told = checked(rt.alloc(), b"{\"references\":[\"\xff\"]}")?;
-    holds(&rt, told.as_str() == "not-json");
-    Ok(())
+fn a_text_of_other_bytes_is_no_json(rt: HostRuntime) {
+    let mut told = String::new(rt.alloc());
+    say_cause(&rt, rt.alloc(), &mut told, b"{\"references\":[\"\xff\"]}");
+    same(&rt, told.as_str(), "not-json");
 }

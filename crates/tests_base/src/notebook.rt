@@ -1,11 +1,12 @@
 //! A small value for the tests: numbered lines, of which some give a number.
-ghost use Rattle.std.specs.Prelude.{◌≡◌, ◌≢◌, ◌<◌, ◌≤◌, ◌^◌, ◌++◌, ◌∷◌, [], ℕ, Option, Some, None, true, false, length, vec_len, OnOk, OnErr, IfOk};
+ghost use Rattle.std.specs.Prelude.{◌≡◌, ◌≢◌, ◌≤◌, ◌++◌, ◌∷◌, [], ℕ, Some, None, true, false};
 ghost use Rattle.ws_turn.specs.Lists.{given};
 
-use std::alloc::{AllocError, Global};
-use ws_turn::{Logged, NoMemory};
+use std::alloc::Global;
+use std::process::Abort;
+use ws_turn::Logged;
 
-#[derive(Clone, Copy, PartialEq, Eq, Debug)]
+#[derive(Clone, Copy)]
 pub struct Line {
     pub by: u64,
     pub word: u64,
@@ -51,34 +52,38 @@ impl Notebook {
     }
 
     /// A line more.
-    pub fn write(&mut self, by: u64, word: u64) -> Result<(), NoMemory>
+    pub fn write(&mut self, rt: &impl Abort, by: u64, word: u64)
         ensures color { self.new.color ≡ self.old.color }
-        ensures ok { OnOk result (self.new.lines.items ≡ self.old.lines.items ++ record { by = by; word = word; gives = None } ∷ []) }
-        ensures err { OnErr result (self.new.lines.items ≡ self.old.lines.items) }
+        ensures lines { self.new.lines.items ≡ self.old.lines.items ++ record { by = by; word = word; gives = None } ∷ [] }
     {
-        self.lines.push(Line {
+        let line = Line {
             by,
             word,
             gives: None,
-        })?;
-        Ok(())
+        };
+        if self.lines.push(line).is_err() {
+            panic!(rt; "memory");
+        }
     }
 
     /// A line more, which gives the next number.
-    pub fn enter(&mut self, by: u64) -> Result<u64, NoMemory>
+    pub fn enter(&mut self, rt: &impl Abort, by: u64) -> u64
         ensures color { self.new.color ≡ self.old.color }
-        ensures ok { IfOk result (λ n. (self.new.lines.items ≡ self.old.lines.items ++ record { by = by; word = 0; gives = Some n } ∷ []) × (n ≢ 0) × (given (λ (e : _). e.gives) n self.old.lines.items ≡ false)) }
-        ensures err { OnErr result (self.new.lines.items ≡ self.old.lines.items) }
+        ensures lines { self.new.lines.items ≡ self.old.lines.items ++ record { by = by; word = 0; gives = Some result } ∷ [] }
+        ensures new { (result ≢ 0) × (given (λ (e : _). e.gives) result self.old.lines.items ≡ false) }
     {
         let Some(number) = self.last.checked_add(1) else {
-            return Err(AllocError);
+            panic!(rt; "numbers");
         };
-        self.lines.push(Line {
+        let line = Line {
             by,
             word: 0,
             gives: Some(number),
-        })?;
+        };
+        if self.lines.push(line).is_err() {
+            panic!(rt; "memory");
+        }
         self.last = number;
-        Ok(number)
+        number
     }
 }

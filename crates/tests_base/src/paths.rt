@@ -1,11 +1,12 @@
 //! Names and paths at the edges of their rules.
-use crate::asserting::{holds, must, same};
-use crate::rows::{Row, gives, row_of, spelt, yes};
+use crate::asserting::must;
+use crate::rows::{Row, play, say, say_number, spelt, yes};
 use res_path::{Name, Path, PathError};
 use std::alloc::Global;
-use std::test::Fail;
+use std::process::Abort;
 
-/// `path` and `name` give the text that is read, or the fault; the others what the call of their name does.
+/// `path` and `name` give the text that is read, or the fault; the others what the call of their name does. Of the paths
+/// of `rise`, with commas between, each is below all that follow.
 const ROWS: &str = "path|segment 0|
 path|segment 0|P
 path|segment 0|P/a
@@ -29,8 +30,8 @@ depth|64|64*/a
 depth|0|/
 join|deep|64*/a|a
 join|/P/a|/P|a
-last|a|/P/a
-last|none|/
+last name|a|/P/a
+last name|none|/
 parent|/P|/P/a
 parent|none|/
 length|255|255*n
@@ -58,123 +59,125 @@ below|yes|/P/a|/P
 below|yes|/P/a|/P/b/c
 below|no|/P/a|/PQ/b
 below|no|/P/a|/
-below|no|/P/a/b|/P/b";
+below|no|/P/a/b|/P/b
+rise|yes|/,/P,/P/a,/P/a/z,/P/a!,/P/b,/P\u{20},/P!,/P.x,/PQ";
 
-/// Paths that rise, each below all that follow.
-const RISING: &str = "/
-/P
-/P/a
-/P/a/z
-/P/a!
-/P/b
-/P\u{20}
-/P!
-/P.x
-/PQ";
-
-fn fault(alloc: Global, fault: PathError) -> Result<String, Fail> {
-    Ok(match fault {
-        PathError::BadSegment { at } => format!(in alloc; "segment {at}")?,
-        PathError::TooDeep => String::from_str(alloc, "deep")?,
-        PathError::TooLong => String::from_str(alloc, "long")?,
-        PathError::Memory => String::from_str(alloc, "memory")?,
-    })
+pub fn name(rt: &impl Abort, alloc: Global, text: &str) -> Name {
+    must(rt, Name::parse(alloc, spelt(rt, alloc, text).as_str()))
 }
 
-fn path(alloc: Global, text: &str) -> Result<Path, Fail> {
-    Ok(Path::parse(alloc, spelt(alloc, text)?.as_str())?)
+pub fn path(rt: &impl Abort, alloc: Global, text: &str) -> Path {
+    must(rt, Path::parse(alloc, spelt(rt, alloc, text).as_str()))
 }
 
-fn read_path(alloc: Global, text: &str) -> Result<String, Fail> {
-    match Path::parse(alloc, spelt(alloc, text)?.as_str()) {
-        Ok(path) => Ok(path.copy()?.text(alloc)?),
-        Err(e) => fault(alloc, e),
+fn say_fault(rt: &impl Abort, told: &mut String, fault: PathError) {
+    match fault {
+        PathError::BadSegment { at } => {
+            say(rt, told, "segment ");
+            say_number(rt, told, at as u64);
+        }
+        PathError::TooDeep => say(rt, told, "deep"),
+        PathError::TooLong => say(rt, told, "long"),
+        PathError::Memory => say(rt, told, "memory"),
     }
 }
 
-fn read_name(alloc: Global, text: &str) -> Result<String, Fail> {
-    match Name::parse(alloc, spelt(alloc, text)?.as_str()) {
-        Ok(name) => Ok(String::from_str(alloc, name.copy()?.text())?),
-        Err(e) => fault(alloc, e),
+fn say_path(rt: &impl Abort, alloc: Global, told: &mut String, read: Result<Path, PathError>) {
+    match read {
+        Ok(path) => {
+            let copy = must(rt, path.copy());
+            say(rt, told, must(rt, copy.text(alloc)).as_str());
+        }
+        Err(error) => say_fault(rt, told, error),
     }
 }
 
-fn joined(alloc: Global, front: &str, name: &str) -> Result<String, Fail> {
-    let name = Name::parse(alloc, name)?;
-    match path(alloc, front)?.join(alloc, &name) {
-        Ok(path) => Ok(path.text(alloc)?),
-        Err(e) => fault(alloc, e),
+fn say_name(rt: &impl Abort, told: &mut String, read: Result<Name, PathError>) {
+    match read {
+        Ok(name) => say(rt, told, must(rt, name.copy()).text()),
+        Err(error) => say_fault(rt, told, error),
     }
 }
 
-fn rebased(alloc: Global, row: &Row<'_>) -> Result<String, Fail> {
-    let (whole, from, to) = (
-        path(alloc, row.one)?,
-        path(alloc, row.two)?,
-        path(alloc, row.three)?,
-    );
-    if !from.is_prefix_of(&whole) {
-        return Ok(String::from_str(alloc, "no beginning")?);
-    }
-    Ok(whole.rebase(alloc, &from, &to)?.text(alloc)?)
-}
-
-fn parent(alloc: Global, text: &str) -> Result<String, Fail> {
-    match path(alloc, text)?.parent()? {
-        Some(parent) => Ok(parent.text(alloc)?),
-        None => Ok(String::from_str(alloc, "none")?),
+fn say_parent(rt: &impl Abort, told: &mut String, path: &Path) {
+    match must(rt, path.parent()) {
+        Some(parent) => say(rt, told, parent.as_str()),
+        None => say(rt, told, "none"),
     }
 }
 
-fn last(alloc: Global, text: &str) -> Result<String, Fail> {
-    let path = path(alloc, text)?;
+fn say_last(rt: &impl Abort, told: &mut String, path: &Path) {
     match path.last() {
-        Some(name) => Ok(String::from_str(alloc, name)?),
-        None => Ok(String::from_str(alloc, "none")?),
+        Some(name) => say(rt, told, name),
+        None => say(rt, told, "none"),
     }
 }
 
-fn told(alloc: Global, row: &Row<'_>) -> Result<String, Fail> {
-    match row.word {
-        "path" => read_path(alloc, row.one),
-        "name" => read_name(alloc, row.one),
-        "join" => joined(alloc, row.one, row.two),
-        "rebase" => rebased(alloc, row),
-        "parent" => parent(alloc, row.one),
-        "last" => last(alloc, row.one),
-        "length" => Ok(format!(in alloc; "{}", read_name(alloc, row.one)?.len())?),
-        "depth" => Ok(format!(in alloc; "{}", path(alloc, row.one)?.depth())?),
-        "prefix" => Ok(String::from_str(
-            alloc,
-            yes(path(alloc, row.one)?.is_prefix_of(&path(alloc, row.two)?)),
-        )?),
-        "below" => Ok(String::from_str(
-            alloc,
-            yes(path(alloc, row.one)?.parent_is_prefix_of(&path(alloc, row.two)?)),
-        )?),
-        _ => Ok(String::from_str(alloc, "no word")?),
+fn rebased(rt: &impl Abort, alloc: Global, row: &Row<'_>) -> Result<Path, PathError> {
+    let whole = path(rt, alloc, row.one);
+    let from = path(rt, alloc, row.two);
+    let to = path(rt, alloc, row.three);
+    if from.is_prefix_of(&whole) {
+        whole.rebase(alloc, &from, &to)
+    } else {
+        Err(PathError::Memory)
     }
 }
 
-#[test]
-fn names_and_paths_are_what_the_rows_say(rt: HostRuntime) -> Result<(), Fail> {
-    for line in ROWS.lines() {
-        let row = row_of(line);
-        let told = told(rt.alloc(), &row)?;
-        holds(&rt, gives(&rt, line, &row, told.as_str())?);
-    }
-    Ok(())
+fn is_prefix(rt: &impl Abort, alloc: Global, row: &Row<'_>) -> bool {
+    path(rt, alloc, row.one).is_prefix_of(&path(rt, alloc, row.two))
 }
 
-#[test]
-fn paths_are_ordered_name_by_name_a_prefix_first(rt: HostRuntime) {
-    let alloc = rt.alloc();
-    for (i, a) in RISING.lines().enumerate() {
-        for (j, b) in RISING.lines().enumerate() {
-            let one = must(&rt, Path::parse(alloc, a));
-            let two = must(&rt, Path::parse(alloc, b));
-            same(&rt, one.cmp(&two), i.cmp(&j));
-            same(&rt, one == two, i == j);
+fn parent_is_prefix(rt: &impl Abort, alloc: Global, row: &Row<'_>) -> bool {
+    path(rt, alloc, row.one).parent_is_prefix_of(&path(rt, alloc, row.two))
+}
+
+fn are_in_order(rt: &impl Abort, alloc: Global, paths: &str) -> bool {
+    for (i, one) in paths.split(',').enumerate() {
+        for (j, two) in paths.split(',').enumerate() {
+            let (one, two) = (path(rt, alloc, one), path(rt, alloc, two));
+            if one.cmp(&two) != i.cmp(&j) || (one == two) != (i == j) {
+                return false;
+            }
         }
     }
+    true
+}
+
+/// Whether the row's word is one of paths, of which then it tells.
+pub fn tell(rt: &impl Abort, alloc: Global, row: &Row<'_>, told: &mut String) -> bool {
+    match row.word {
+        "path" => say_path(
+            rt,
+            alloc,
+            told,
+            Path::parse(alloc, spelt(rt, alloc, row.one).as_str()),
+        ),
+        "name" => say_name(
+            rt,
+            told,
+            Name::parse(alloc, spelt(rt, alloc, row.one).as_str()),
+        ),
+        "join" => say_path(
+            rt,
+            alloc,
+            told,
+            path(rt, alloc, row.one).join(alloc, &name(rt, alloc, row.two)),
+        ),
+        "rebase" => say_path(rt, alloc, told, rebased(rt, alloc, row)),
+        "parent" => say_parent(rt, told, &path(rt, alloc, row.one)),
+        "last name" => say_last(rt, told, &path(rt, alloc, row.one)),
+        "length" => say_number(rt, told, name(rt, alloc, row.one).text().len() as u64),
+        "depth" => say_number(rt, told, path(rt, alloc, row.one).depth() as u64),
+        "prefix" => say(rt, told, yes(is_prefix(rt, alloc, row))),
+        "below" => say(rt, told, yes(parent_is_prefix(rt, alloc, row))),
+        "rise" => say(rt, told, yes(are_in_order(rt, alloc, row.one))),
+        _ => return false,
+    }
+    true
+}
+
+#[test]
+fn names_and_paths_are_what_the_rows_say(rt: HostRuntime) {
+    play(&rt, rt.alloc(), ROWS);
 }

@@ -1,9 +1,13 @@
 //! A table of rows, a line each: a word, what it gives, and what it is given, with bars between.
+use crate::asserting::{must, same};
+use crate::{atoms, descriptions, paths, tables};
+use rule_table::RuleTable;
 use std::alloc::Global;
-use std::test::Fail;
+use std::fmt::Write;
+use std::process::Abort;
 
 /// One row. Of the parts that it doesn't have each is empty.
-#[derive(Clone, Copy)]
+#[derive(Drop)]
 pub struct Row<'a> {
     pub word: &'a str,
     pub gives: &'a str,
@@ -13,19 +17,20 @@ pub struct Row<'a> {
     pub four: &'a str,
 }
 
-fn cut(text: &str) -> (&str, &str) {
-    match text.split_once('|') {
+/// What stands before and behind the first mark; all and nothing where there is none.
+pub fn cut(text: &str, mark: char) -> (&str, &str) {
+    match text.split_once(mark) {
         Some(parts) => parts,
         None => (text, ""),
     }
 }
 
-pub fn row_of(line: &str) -> Row<'_> {
-    let (word, rest) = cut(line);
-    let (gives, rest) = cut(rest);
-    let (one, rest) = cut(rest);
-    let (two, rest) = cut(rest);
-    let (three, four) = cut(rest);
+fn row_of(line: &str) -> Row<'_> {
+    let (word, rest) = cut(line, '|');
+    let (gives, rest) = cut(rest, '|');
+    let (one, rest) = cut(rest, '|');
+    let (two, rest) = cut(rest, '|');
+    let (three, four) = cut(rest, '|');
     Row {
         word,
         gives,
@@ -34,6 +39,33 @@ pub fn row_of(line: &str) -> Row<'_> {
         three,
         four,
     }
+}
+
+/// Plays the rows in order, with one table of rules for all of them: each must tell what it gives.
+pub fn play(rt: &impl Abort, alloc: Global, rows: &str) {
+    let mut table = RuleTable::empty(alloc);
+    let mut told = String::new(alloc);
+    for line in rows.lines() {
+        let row = row_of(line);
+        told.clear();
+        let is_known = paths::tell(rt, alloc, &row, &mut told)
+            || atoms::tell(rt, alloc, &row, &mut told)
+            || tables::tell(rt, alloc, &row, &mut table, &mut told)
+            || descriptions::tell(rt, alloc, &row, &mut told);
+        same(rt, (line, told.as_str(), is_known), (line, row.gives, true));
+    }
+}
+
+pub fn say(rt: &impl Abort, told: &mut String, text: &str) {
+    must(rt, told.push_str(text));
+}
+
+pub fn say_number(rt: &impl Abort, told: &mut String, number: u64) {
+    must(rt, write!(told, "{number}"));
+}
+
+pub fn yes(is: bool) -> &'static str {
+    if is { "yes" } else { "no" }
 }
 
 /// The number that the text is, 0 where it is none.
@@ -45,25 +77,15 @@ pub fn number(text: &str) -> u32 {
 }
 
 /// The text, or where it is a number, a star and a piece, so many pieces.
-pub fn spelt(alloc: Global, text: &str) -> Result<String, Fail> {
-    let Some((count, piece)) = text.split_once('*') else {
-        return Ok(String::from_str(alloc, text)?);
-    };
+pub fn spelt(rt: &impl Abort, alloc: Global, text: &str) -> String {
     let mut whole = String::new(alloc);
-    for _ in 0..number(count) {
-        whole.push_str(piece)?;
+    match text.split_once('*') {
+        None => say(rt, &mut whole, text),
+        Some((count, piece)) => {
+            for _ in 0..number(count) {
+                say(rt, &mut whole, piece);
+            }
+        }
     }
-    Ok(whole)
-}
-
-pub fn yes(is: bool) -> &'static str {
-    if is { "yes" } else { "no" }
-}
-
-/// Whether what was told is what the row gives. Where it isn't, the row is printed.
-pub fn gives(rt: &HostRuntime, line: &str, row: &Row<'_>, told: &str) -> Result<bool, Fail> {
-    if told != row.gives {
-        println!(rt; "{line}: {told}")?;
-    }
-    Ok(told == row.gives)
+    whole
 }

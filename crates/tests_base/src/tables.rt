@@ -1,11 +1,11 @@
 //! Who holds which rules, row by row.
-use crate::asserting::holds;
+use crate::asserting::must;
 use crate::atoms::rule;
-use crate::rows::{Row, gives, number, row_of, yes};
+use crate::rows::{Row, number, play, say, say_number, yes};
 use rule_table::{BeginError, EndError, RuleTable};
-use sched_rules::WsAtom;
+use sched_rules::{Rule, WsAtom};
 use std::alloc::Global;
-use std::test::Fail;
+use std::process::Abort;
 
 /// The rows go on with one table from each `new` on. `begin` and `admit` have a holder, a rule, and the rule that a
 /// refusal names; `last` and `outer` a holder and the rule that is found; `end` a holder and a rule; `transfer` two
@@ -69,94 +69,97 @@ copied|no|/Q";
 
 type Table = RuleTable<WsAtom>;
 
-fn begin_error(alloc: Global, error: &BeginError<WsAtom>, named: &str) -> Result<String, Fail> {
-    let wanted = rule(alloc, named)?;
-    match error.copy()? {
-        BeginError::Conflict { holder, rule } if rule == wanted => {
-            Ok(format!(in alloc; "conflict {holder}")?)
-        }
-        BeginError::NotContained { outer } if outer == wanted => {
-            Ok(String::from_str(alloc, "outside")?)
-        }
-        BeginError::Memory => Ok(String::from_str(alloc, "memory")?),
-        _ => Ok(String::from_str(alloc, "another rule")?),
-    }
-}
-
-fn begin(alloc: Global, table: &mut Table, row: &Row<'_>) -> Result<String, Fail> {
-    match table.begin(u64::from(number(row.one)), rule(alloc, row.two)?) {
-        Ok(()) => Ok(String::from_str(alloc, "ok")?),
-        Err(error) => begin_error(alloc, &error, row.three),
-    }
-}
-
-fn admit(alloc: Global, table: &Table, row: &Row<'_>) -> Result<String, Fail> {
-    match table.admit(u64::from(number(row.one)), &rule(alloc, row.two)?) {
-        Ok(()) => Ok(String::from_str(alloc, "ok")?),
-        Err(error) => begin_error(alloc, &error, row.three),
-    }
-}
-
-fn end(alloc: Global, given: Result<(), EndError>) -> Result<String, Fail> {
-    Ok(match given {
-        Ok(()) => String::from_str(alloc, "ok")?,
-        Err(EndError::NotLast { held }) => format!(in alloc; "last {held}")?,
-        Err(EndError::HoldsNothing) => String::from_str(alloc, "nothing")?,
-        Err(EndError::TargetHolds) => String::from_str(alloc, "holds")?,
-    })
-}
-
-fn found(
+fn say_begun(
+    rt: &impl Abort,
     alloc: Global,
-    found: Option<&sched_rules::Rule<WsAtom>>,
-    named: &str,
-) -> Result<&'static str, Fail> {
-    let wanted = rule(alloc, named)?;
-    Ok(match found {
-        None => "none",
-        Some(rule) if *rule == wanted => "this",
-        Some(_) => "another",
-    })
-}
-
-fn looked_up(alloc: Global, table: &Table, row: &Row<'_>) -> Result<String, Fail> {
-    let holder = u64::from(number(row.one));
-    let told = match row.word {
-        "last" => found(alloc, table.last(holder), row.two)?,
-        "outer" => found(alloc, table.outer(holder), row.two)?,
-        "free" => yes(table.is_free(&rule(alloc, row.one)?)),
-        "copied" => yes(table.copy()?.is_free(&rule(alloc, row.one)?)),
-        _ => "no word",
+    told: &mut String,
+    row: &Row<'_>,
+    begun: Result<(), BeginError<WsAtom>>,
+) {
+    let Err(error) = begun else {
+        return say(rt, told, "ok");
     };
-    Ok(String::from_str(alloc, told)?)
+    let named = rule(rt, alloc, row.three);
+    match must(rt, error.copy()) {
+        BeginError::Conflict { holder, rule } if rule == named => {
+            say(rt, told, "conflict ");
+            say_number(rt, told, holder);
+        }
+        BeginError::NotContained { outer } if outer == named => say(rt, told, "outside"),
+        BeginError::Memory => say(rt, told, "memory"),
+        _ => say(rt, told, "another rule"),
+    }
 }
 
-fn told(alloc: Global, table: &mut Table, row: &Row<'_>) -> Result<String, Fail> {
+fn say_ended(rt: &impl Abort, told: &mut String, ended: Result<(), EndError>) {
+    match ended {
+        Ok(()) => say(rt, told, "ok"),
+        Err(EndError::NotLast { held }) => {
+            say(rt, told, "last ");
+            say_number(rt, told, held);
+        }
+        Err(EndError::HoldsNothing) => say(rt, told, "nothing"),
+        Err(EndError::TargetHolds) => say(rt, told, "holds"),
+    }
+}
+
+fn say_found(
+    rt: &impl Abort,
+    alloc: Global,
+    told: &mut String,
+    row: &Row<'_>,
+    found: Option<&Rule<WsAtom>>,
+) {
+    match found {
+        None => say(rt, told, "none"),
+        Some(found) if *found == rule(rt, alloc, row.two) => say(rt, told, "this"),
+        Some(_) => say(rt, told, "another"),
+    }
+}
+
+/// Whether the row's word is one of tables, of which then it tells.
+pub fn tell(
+    rt: &impl Abort,
+    alloc: Global,
+    row: &Row<'_>,
+    table: &mut Table,
+    told: &mut String,
+) -> bool {
     let holder = u64::from(number(row.one));
+    let other = u64::from(number(row.two));
     match row.word {
         "new" => {
             *table = RuleTable::empty(alloc);
-            end(alloc, Ok(()))
+            say(rt, told, "ok");
         }
         "drop" => {
             table.drop_all(holder);
-            end(alloc, Ok(()))
+            say(rt, told, "ok");
         }
-        "begin" => begin(alloc, table, row),
-        "admit" => admit(alloc, table, row),
-        "end" => end(alloc, table.end(holder, &rule(alloc, row.two)?)),
-        "transfer" => end(alloc, table.transfer(holder, u64::from(number(row.two)))),
-        _ => looked_up(alloc, table, row),
+        "begin" => {
+            let begun = table.begin(holder, rule(rt, alloc, row.two));
+            say_begun(rt, alloc, told, row, begun);
+        }
+        "admit" => {
+            let admitted = table.admit(holder, &rule(rt, alloc, row.two));
+            say_begun(rt, alloc, told, row, admitted);
+        }
+        "end" => say_ended(rt, told, table.end(holder, &rule(rt, alloc, row.two))),
+        "transfer" => say_ended(rt, told, table.transfer(holder, other)),
+        "last" => say_found(rt, alloc, told, row, table.last(holder)),
+        "outer" => say_found(rt, alloc, told, row, table.outer(holder)),
+        "free" => say(rt, told, yes(table.is_free(&rule(rt, alloc, row.one)))),
+        "copied" => say(
+            rt,
+            told,
+            yes(must(rt, table.copy()).is_free(&rule(rt, alloc, row.one))),
+        ),
+        _ => return false,
     }
+    true
 }
 
 #[test]
-fn rules_are_held_as_the_rows_say(rt: HostRuntime) -> Result<(), Fail> {
-    let mut table = RuleTable::empty(rt.alloc());
-    for line in ROWS.lines() {
-        let row = row_of(line);
-        let told = told(rt.alloc(), &mut table, &row)?;
-        holds(&rt, gives(&rt, line, &row, told.as_str())?);
-    }
-    Ok(())
+fn rules_are_held_as_the_rows_say(rt: HostRuntime) {
+    play(&rt, rt.alloc(), ROWS);
 }

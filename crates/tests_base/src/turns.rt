@@ -1,235 +1,167 @@
 //! A lock with its passes, in one thread and in four.
-ghost use Rattle.std.specs.Prelude.{◌≡◌, ◌<◌, ◌^◌, ◌++◌, ◌∷◌, [], None, true, false, List, All, OnOk, OnErr, IfOk, length};
-ghost use Rattle.ws_turn.specs.Lists.{StartsWith};
-ghost use Rattle.ws_turn.specs.Passes.{known, base_of, IsOf};
-ghost use Rattle.tests_base.specs.declared.notebook.Line.{Line};
+ghost use Rattle.std.specs.Prelude.{◌≡◌, false, All};
+ghost use Rattle.ws_turn.specs.Passes.{known, IsOf};
 
 use crate::asserting::same;
 use crate::notebook::{Line, Notebook};
-use std::alloc::{AllocError, Global};
+use std::alloc::Global;
+use std::process::Abort;
 use std::sync::Wait;
-use std::test::Fail;
 use std::thread;
 use std::thread::Threads;
-use ws_turn::{NoMemory, Pass, Shared};
+use ws_turn::{Pass, Shared};
+
+/// A lock round an empty notebook, and its first pass.
+fn open(rt: &impl Abort, alloc: Global) -> (Shared<Notebook>, Pass<Notebook>)
+    ensures { IsOf result.0 result.1 × ((known result.1).holds ≡ false) }
+{
+    match Shared::new(alloc, Notebook::new(alloc, 7)) {
+        Ok(made) => made,
+        Err(_) => panic!(rt; "memory"),
+    }
+}
 
 /// Takes the notebook, writes one line, and gives it back.
-fn note<R: Wait>(
-    rt: &R,
-    lock: &Shared<Notebook>,
-    pass: &mut Pass<Notebook>,
-    word: u64,
-) -> Result<(), NoMemory>
-    requires of { IsOf lock.now pass.old }
-    requires idle { (known pass.old).holds ≡ false }
-    ensures of { IsOf lock.now pass.new }
-    ensures idle { (known pass.new).holds ≡ false }
-    ensures ok { OnOk result ((between : List Line) × ((known pass.new).seen ≡ ((known pass.old).seen ++ between) ++ record { by = (known pass.old).number; word = word; gives = None } ∷ []) × ((known pass.new).mine ≡ (known pass.old).mine ++ record { by = (known pass.old).number; word = word; gives = None } ∷ [])) }
-    ensures err { OnErr result (StartsWith (known pass.new).seen (known pass.old).seen × ((known pass.new).mine ≡ (known pass.old).mine)) }
+fn note<R: Wait + Abort>(rt: &R, lock: &Shared<Notebook>, pass: &mut Pass<Notebook>, word: u64)
+    requires { IsOf lock.now pass.old × ((known pass.old).holds ≡ false) }
+    ensures { IsOf lock.now pass.new × ((known pass.new).holds ≡ false) }
 {
     let mut book = lock.take(rt, pass);
-    match book.write(pass.number(), word) {
-        Ok(()) => {
-            lock.give_back(pass, book);
-            Ok(())
-        }
-        Err(error) => {
-            lock.give_back(pass, book);
-            Err(error)
-        }
-    }
+    book.write(rt, pass.number(), word);
+    lock.give_back(pass, book);
 }
 
 /// Takes the notebook, and makes a pass of the number that a line gives.
-fn branch<R: Wait>(
+fn branch<R: Wait + Abort>(
     rt: &R,
     alloc: Global,
     lock: &Shared<Notebook>,
     pass: &mut Pass<Notebook>,
-) -> Result<Pass<Notebook>, NoMemory>
-    requires of { IsOf lock.now pass.old }
-    requires idle { (known pass.old).holds ≡ false }
-    ensures of { IsOf lock.now pass.new }
-    ensures idle { (known pass.new).holds ≡ false }
-    ensures new { IfOk result (λ p. IsOf lock.now p × ((known p).holds ≡ false) × ((known p).mine ≡ [])) }
+) -> Pass<Notebook>
+    requires { IsOf lock.now pass.old × ((known pass.old).holds ≡ false) }
+    ensures still { IsOf lock.now pass.new × ((known pass.new).holds ≡ false) }
+    ensures new { IsOf lock.now result × ((known result).holds ≡ false) }
 {
     let mut book = lock.take(rt, pass);
-    let Ok(number) = book.enter(pass.number()) else {
-        lock.give_back(pass, book);
-        return Err(AllocError);
-    };
+    let number = book.enter(rt, pass.number());
     match lock.split(alloc, pass, &book, number) {
         Ok(new) => {
             lock.give_back(pass, book);
-            Ok(new)
+            new
         }
-        Err(error) => {
-            lock.give_back(pass, book);
-            Err(error)
-        }
+        Err(_) => panic!(rt; "memory"),
     }
 }
 
-#[derive(Drop)]
-struct Worker {
-    pass: Pass<Notebook>,
-    words: u64,
-    failed: bool,
-}
-
-/// Takes turns: one of ten makes a pass, which is joined again at once, and the others write a line.
-fn take_turns<R: Wait>(
+/// Takes turns: one of ten makes a pass, which is joined again at once, and the others write a line each.
+fn take_turns<R: Wait + Abort>(
     rt: &R,
     alloc: Global,
     lock: &Shared<Notebook>,
-    worker: &mut Worker,
-    turns: u64,
-) -> Result<(), NoMemory>
-    requires of { IsOf lock.now worker.old.pass }
-    requires idle { (known worker.old.pass).holds ≡ false }
-    ensures of { IsOf lock.now worker.new.pass }
-    ensures idle { (known worker.new.pass).holds ≡ false }
-{
-    for turn in 0..turns {
-        if turn % 10 == 9 {
-            let new = branch(rt, alloc, lock, &mut worker.pass)?;
-            lock.join(&mut worker.pass, new);
-        } else {
-            note(rt, lock, &mut worker.pass, worker.words)?;
-            worker.words = worker.words.wrapping_add(1);
-        }
-    }
-    Ok(())
-}
-
-/// All workers at once, each in a thread where one can be had.
-fn turns_of_all<R: Threads + Wait + Sync>(
-    rt: &R,
-    alloc: Global,
-    lock: &Shared<Notebook>,
-    workers: &mut [Worker],
-    turns: u64,
+    pass: &mut Pass<Notebook>,
+    from: u64,
+    to: u64,
 )
-    requires of { All (λ w. IsOf lock.now w.pass × ((known w.pass).holds ≡ false)) workers.old }
-    ensures of { All (λ w. IsOf lock.now w.pass × ((known w.pass).holds ≡ false)) workers.new }
+    requires { IsOf lock.now pass.old × ((known pass.old).holds ≡ false) }
+    ensures { IsOf lock.now pass.new × ((known pass.new).holds ≡ false) }
+{
+    for turn in from..to {
+        if turn % 10 == 9 {
+            let new = branch(rt, alloc, lock, pass);
+            lock.join(pass, new);
+        } else {
+            note(rt, lock, pass, turn - turn / 10);
+        }
+    }
+}
+
+/// Turns of all passes at once, each in a thread where one can be had.
+fn turns_of_all<R: Threads + Wait + Abort + Sync>(
+    rt: &R,
+    alloc: Global,
+    lock: &Shared<Notebook>,
+    passes: &mut [Pass<Notebook>],
+    from: u64,
+    to: u64,
+)
+    requires { All (λ p. IsOf lock.now p × ((known p).holds ≡ false)) passes.old }
+    ensures { All (λ p. IsOf lock.now p × ((known p).holds ≡ false)) passes.new }
 {
     thread::for_each_mut(
         rt,
-        workers,
+        passes,
         8,
-        &|_, worker: &mut Worker|
-            requires { IsOf lock.now worker.old.pass × ((known worker.old.pass).holds ≡ false) }
-            ensures { IsOf lock.entry.now worker.exit.now.pass × ((known worker.exit.now.pass).holds ≡ false) }
+        &|_, pass: &mut Pass<Notebook>|
+            requires { IsOf lock.now pass.old × ((known pass.old).holds ≡ false) }
+            ensures { IsOf lock.entry.now pass.exit.now × ((known pass.exit.now).holds ≡ false) }
         {
-            if take_turns(rt, alloc, lock, worker, turns).is_err() {
-                worker.failed = true;
-            }
+            take_turns(rt, alloc, lock, pass, from, to);
         },
     );
 }
 
-/// The first pass and each worker's tell each other what they have seen.
-fn meet_all(lock: &Shared<Notebook>, first: &mut Pass<Notebook>, workers: &mut [Worker])
-    requires of { IsOf lock.now first.old × All (λ w. IsOf lock.now w.pass × ((known w.pass).holds ≡ false)) workers.old }
-    ensures of { IsOf lock.now first.new × All (λ w. IsOf lock.now w.pass × ((known w.pass).holds ≡ false)) workers.new }
-    ensures holds { (known first.new).holds ≡ (known first.old).holds }
+/// The first pass and each other tell one another what they have seen.
+fn meet_all(lock: &Shared<Notebook>, first: &mut Pass<Notebook>, passes: &mut [Pass<Notebook>])
+    requires first { IsOf lock.now first.old × ((known first.old).holds ≡ false) }
+    requires all { All (λ p. IsOf lock.now p × ((known p).holds ≡ false)) passes.old }
+    ensures first { IsOf lock.now first.new × ((known first.new).holds ≡ false) }
+    ensures all { All (λ p. IsOf lock.now p × ((known p).holds ≡ false)) passes.new }
 {
-    for worker in workers.iter_mut() {
-        lock.meet(first, &mut worker.pass);
-    }
-    for worker in workers.iter_mut() {
-        lock.meet(&mut worker.pass, first);
+    for pass in passes.iter_mut() {
+        lock.meet(first, pass);
+        lock.meet(pass, first);
     }
 }
 
-/// Makes this many workers.
-fn hire<R: Wait>(
+/// Makes this many passes.
+fn branch_all<R: Wait + Abort>(
     rt: &R,
     alloc: Global,
     lock: &Shared<Notebook>,
     first: &mut Pass<Notebook>,
     count: usize,
-) -> Result<Vec<Worker>, NoMemory>
-    requires of { IsOf lock.now first.old }
-    requires idle { (known first.old).holds ≡ false }
-    ensures of { IsOf lock.now first.new }
-    ensures idle { (known first.new).holds ≡ false }
-    ensures workers { IfOk result (λ v. All (λ w. IsOf lock.now w.pass × ((known w.pass).holds ≡ false)) v.items) }
+) -> Vec<Pass<Notebook>>
+    requires { IsOf lock.now first.old × ((known first.old).holds ≡ false) }
+    ensures still { IsOf lock.now first.new × ((known first.new).holds ≡ false) }
+    ensures all { All (λ p. IsOf lock.now p × ((known p).holds ≡ false)) result.items }
 {
-    let mut workers = Vec::with_capacity(alloc, count)?;
+    let mut passes = Vec::new(alloc);
     for _ in 0..count {
-        let pass = branch(rt, alloc, lock, first)?;
-        workers.push(Worker {
-            pass,
-            words: 0,
-            failed: false,
-        })?;
-    }
-    Ok(workers)
-}
-
-/// Joins each worker's pass, and tells how many of them ran out of memory.
-fn join_all(lock: &Shared<Notebook>, first: &mut Pass<Notebook>, workers: Vec<Worker>) -> u64
-    requires of { IsOf lock.now first.old × All (λ w. IsOf lock.now w.pass × ((known w.pass).holds ≡ false)) workers.items }
-    requires idle { (known first.old).holds ≡ false }
-    ensures of { IsOf lock.now first.new }
-    ensures idle { (known first.new).holds ≡ false }
-{
-    let mut failed: u64 = 0;
-    for worker in workers {
-        if worker.failed {
-            failed = failed.saturating_add(1);
+        if passes.push(branch(rt, alloc, lock, first)).is_err() {
+            panic!(rt; "memory");
         }
-        lock.join(first, worker.pass);
     }
-    failed
+    passes
 }
 
-/// Turns of all workers, and then they tell the first pass, and it tells them.
-fn phase<R: Threads + Wait + Sync>(
-    rt: &R,
-    alloc: Global,
-    lock: &Shared<Notebook>,
-    first: &mut Pass<Notebook>,
-    workers: &mut [Worker],
-    turns: u64,
-)
-    requires of { IsOf lock.now first.old × All (λ w. IsOf lock.now w.pass × ((known w.pass).holds ≡ false)) workers.old }
-    ensures of { IsOf lock.now first.new × All (λ w. IsOf lock.now w.pass × ((known w.pass).holds ≡ false)) workers.new }
-    ensures holds { (known first.new).holds ≡ (known first.old).holds }
+/// Joins each of the passes.
+fn join_all(lock: &Shared<Notebook>, first: &mut Pass<Notebook>, passes: Vec<Pass<Notebook>>)
+    requires first { IsOf lock.now first.old × ((known first.old).holds ≡ false) }
+    requires all { All (λ p. IsOf lock.now p × ((known p).holds ≡ false)) passes.items }
+    ensures { IsOf lock.now first.new × ((known first.new).holds ≡ false) }
 {
-    turns_of_all(rt, alloc, lock, workers, turns);
-    meet_all(lock, first, workers);
+    for pass in passes {
+        lock.join(first, pass);
+    }
 }
 
-/// Joins the pass that holds the notebook, writes its last line, and gives the notebook back.
-fn leave(
+/// The other pass takes the notebook and is joined, and the pass that holds it then writes the other's last line.
+fn hand_on<R: Wait + Abort>(
+    rt: &R,
     lock: &Shared<Notebook>,
     pass: &mut Pass<Notebook>,
-    other: Pass<Notebook>,
-    mut book: Notebook,
+    mut other: Pass<Notebook>,
     word: u64,
-) -> Result<(), NoMemory>
-    requires of { IsOf lock.now pass.old × IsOf lock.now other }
-    requires idle { (known pass.old).holds ≡ false }
-    requires holds { ((known other).holds ≡ true) × (book.lines.items ≡ (known other).seen) × (book.color ≡ base_of (λ n. n.color) lock.now) }
-    ensures of { IsOf lock.now pass.new }
-    ensures idle { (known pass.new).holds ≡ false }
-    ensures left { OnOk result ((known pass.new).seen ≡ (known other).seen ++ record { by = (known other).number; word = word; gives = None } ∷ []) }
-    ensures mine { (known pass.new).mine ≡ (known pass.old).mine }
+)
+    requires pass { IsOf lock.now pass.old × ((known pass.old).holds ≡ false) }
+    requires other { IsOf lock.now other × ((known other).holds ≡ false) }
+    ensures { IsOf lock.now pass.new × ((known pass.new).holds ≡ false) }
 {
+    let mut book = lock.take(rt, &mut other);
     let number = other.number();
     lock.join(pass, other);
-    match book.write(number, word) {
-        Ok(()) => {
-            lock.give_back(pass, book);
-            Ok(())
-        }
-        Err(error) => {
-            lock.give_back(pass, book);
-            Err(error)
-        }
-    }
+    book.write(rt, number, word);
+    lock.give_back(pass, book);
 }
 
 /// How many words of a pass stand in the lines, where they are 0, 1, 2 and so on.
@@ -263,18 +195,14 @@ fn numbers_rise(lines: &[Line]) -> Option<u64> {
 }
 
 #[test]
-fn four_threads_leave_one_history_with_the_lines_of_each_in_order(
-    rt: HostRuntime,
-) -> Result<(), Fail> {
+fn four_threads_leave_one_history_with_the_lines_of_each_in_order(rt: HostRuntime) {
     let alloc = rt.alloc();
-    let Ok((lock, mut first)) = Shared::new(alloc, Notebook::new(alloc, 7)) else {
-        return Err(AllocError.into());
-    };
-    let mut workers = hire(&rt, alloc, &lock, &mut first, 4)?;
-    phase(&rt, alloc, &lock, &mut first, workers.as_mut_slice(), 400);
-    phase(&rt, alloc, &lock, &mut first, workers.as_mut_slice(), 300);
-    phase(&rt, alloc, &lock, &mut first, workers.as_mut_slice(), 300);
-    same(&rt, join_all(&lock, &mut first, workers), 0);
+    let (lock, mut first) = open(&rt, alloc);
+    let mut passes = branch_all(&rt, alloc, &lock, &mut first, 4);
+    turns_of_all(&rt, alloc, &lock, passes.as_mut_slice(), 0, 600);
+    meet_all(&lock, &mut first, passes.as_mut_slice());
+    turns_of_all(&rt, alloc, &lock, passes.as_mut_slice(), 600, 1000);
+    join_all(&lock, &mut first, passes);
     same(&rt, (first.number(), first.at()), (0, 4004));
     let book = lock.take(&rt, &mut first);
     for by in 1..5 {
@@ -283,41 +211,21 @@ fn four_threads_leave_one_history_with_the_lines_of_each_in_order(
     same(&rt, words_in_order(book.lines.as_slice(), 0), Some(0));
     same(&rt, numbers_rise(book.lines.as_slice()), Some(404));
     same(&rt, (book.lines.len(), book.color), (4004, 7));
-    lock.give_back(&mut first, book);
-    Ok(())
 }
 
 #[test]
-fn a_pass_that_is_joined_while_it_holds_the_value_hands_it_on(rt: HostRuntime) -> Result<(), Fail> {
+fn a_pass_that_is_joined_while_it_holds_the_value_hands_it_on(rt: HostRuntime) {
     let alloc = rt.alloc();
-    let Ok((lock, mut first)) = Shared::new(alloc, Notebook::new(alloc, 7)) else {
-        return Err(AllocError.into());
-    };
-    let mut other = branch(&rt, alloc, &lock, &mut first)?;
-    note(&rt, &lock, &mut other, 5)?;
-    let book = lock.take(&rt, &mut other);
-    leave(&lock, &mut first, other, book, 6)?;
-    note(&rt, &lock, &mut first, 7)?;
+    let (lock, mut first) = open(&rt, alloc);
+    let mut other = branch(&rt, alloc, &lock, &mut first);
+    note(&rt, &lock, &mut other, 0);
+    hand_on(&rt, &lock, &mut first, other, 1);
+    note(&rt, &lock, &mut first, 0);
     let book = lock.take(&rt, &mut first);
-    let said: [(u64, u64); 4] = [(0, 0), (1, 5), (1, 6), (0, 7)];
     same(&rt, (book.lines.len(), first.at()), (4, 4));
-    for (line, (by, word)) in book.lines.iter().zip(said) {
-        same(&rt, (line.by, line.word), (by, word));
-    }
-    lock.give_back(&mut first, book);
-    Ok(())
-}
-
-#[test]
-fn a_lock_ends_while_its_value_is_out(rt: HostRuntime) -> Result<(), Fail> {
-    let alloc = rt.alloc();
-    let Ok((lock, mut first)) = Shared::new(alloc, Notebook::new(alloc, 7)) else {
-        return Err(AllocError.into());
-    };
-    note(&rt, &lock, &mut first, 5)?;
-    let book = lock.take(&rt, &mut first);
+    same(&rt, words_in_order(book.lines.as_slice(), 1), Some(2));
+    // the lock ends while its value is out
     drop(lock);
     drop(first);
-    same(&rt, (book.lines.len(), book.color), (1, 7));
-    Ok(())
+    same(&rt, words_in_order(book.lines.as_slice(), 0), Some(1));
 }

@@ -1,3 +1,4 @@
+//! A save and its records, stopped or failed at every call.
 ghost use Rattle.std.specs.Prelude.{◌≤◌, ◌<◌, ◌+◌, ◌^◌, length};
 
 use crate::areas::{AREA, read_as};
@@ -6,7 +7,6 @@ use crate::disks::disk_of;
 use disk_area::{close_gate, head, lay_image, open_gate, write_image, write_record};
 use std::alloc::Global;
 use std::process::Abort;
-use std::test::Fail;
 use ws_outside::{Disk, Failed, MemDisk, Remnant, Request, Which};
 
 /// Writes a save and two records into the left area, and tells after each that it stands.
@@ -42,40 +42,33 @@ fn write_by_parts<D: Disk>(disk: &mut D) -> Result<(), Failed> {
     write_image(disk, Which::Left, 2, b"de", true)
 }
 
+/// Whether the head of an area is read by its length and one look at 57 bytes.
+fn is_one_look(rt: &impl Abort, alloc: Global) -> bool {
+    let mut disk = disk_of(rt, alloc, AREA);
+    let is = head(&mut disk, Which::Left).is_ok();
+    match disk.calls() {
+        [length, read] => {
+            is && matches!(length.request, Request::Len)
+                && matches!(read.request, Request::Read { at: 0, len: 57 })
+        }
+        _ => false,
+    }
+}
+
 #[test]
 fn an_area_has_the_bytes_of_its_version(rt: HostRuntime) {
     let mut disk = disk_of(&rt, rt.alloc(), b"");
     let answer = write_all(&mut disk, 1, b"abc", b"abc", b"de", &mut 0);
     same(&rt, answer, Ok(()));
     same(&rt, disk.contents().of(Which::Left), AREA);
-    same(&rt, read_as(&rt, rt.alloc(), AREA).as_str(), "1 abc abc de");
-}
-
-#[test]
-fn a_save_is_its_parts(rt: HostRuntime) {
-    let mut disk = disk_of(&rt, rt.alloc(), b"");
-    same(&rt, write_by_parts(&mut disk), Ok(()));
+    let mut parts = disk_of(&rt, rt.alloc(), b"");
+    same(&rt, write_by_parts(&mut parts), Ok(()));
     // two calls for each gate, and six to lay an image: three writes, a sync, a cut, a sync
-    same(&rt, disk.calls().len(), 2 + 6 + 2 + 2 + 8);
-    let bytes = disk.contents().of(Which::Left);
+    same(&rt, parts.calls().len(), 2 + 6 + 2 + 2 + 8);
+    let bytes = parts.contents().of(Which::Left);
     same(&rt, bytes.len(), 57 + 2 + 1);
-    same(&rt, read_as(&rt, rt.alloc(), bytes).as_str(), "2 de");
-}
-
-#[test]
-fn a_head_is_read_by_a_look_at_57_bytes(rt: HostRuntime) {
-    let mut disk = disk_of(&rt, rt.alloc(), AREA);
-    holds(&rt, head(&mut disk, Which::Left).is_ok());
-    match disk.calls() {
-        [length, read] => {
-            holds(&rt, matches!(length.request, Request::Len));
-            holds(
-                &rt,
-                matches!(read.request, Request::Read { at: 0, len: 57 }),
-            );
-        }
-        _ => holds(&rt, false),
-    }
+    same(&rt, read_as(&rt, rt.alloc(), bytes).as_str(), "2|de");
+    holds(&rt, is_one_look(&rt, rt.alloc()));
 }
 
 /// What a crash leaves of each call that no sync followed.
@@ -87,28 +80,39 @@ const REMNANTS: [Remnant<'static>; 5] = [
     Remnant::Filled(1),
 ];
 
-/// Whether a crash that left this text may have come where so many of the three writes stood.
-fn may_read(text: &str, stands: u64) -> bool {
-    match text {
-        "1 old" | "closed" => stands == 0,
-        "2 abc" => stands <= 1,
-        "2 abc abc" => stands == 1 || stands == 2,
-        "2 abc abc de" => stands == 2 || stands == 3,
-        _ => false,
+/// What an area may be read as where none, one, two or three of the writes stand, each between blanks.
+fn may_read(stands: u64) -> &'static str {
+    match stands {
+        0 => " 1|old closed 2|abc ",
+        1 => " 2|abc 2|abc|abc ",
+        2 => " 2|abc|abc 2|abc|abc|de ",
+        _ => " 2|abc|abc|de ",
     }
+}
+
+/// What a crash after so many calls leaves on the left.
+fn left_of(
+    rt: &impl Abort,
+    alloc: Global,
+    disk: &MemDisk,
+    calls: usize,
+    remnant: Remnant<'_>,
+) -> Vec<u8> {
+    let calls = calls.min(disk.calls().len());
+    let remnants = must(rt, vec![in alloc; remnant; calls]);
+    must(rt, disk.crash(alloc, calls, &remnants))
+        .left
+        .into_vec()
 }
 
 /// Whether what a crash after so many calls leaves is read as it may be where so many of the three writes stood.
 fn is_kept(rt: &impl Abort, alloc: Global, disk: &MemDisk, calls: usize, stands: u64) -> bool {
     let mut is = true;
     for remnant in REMNANTS {
-        let calls = calls.min(disk.calls().len());
-        let remnants = must(rt, vec![in alloc; remnant; calls]);
-        let left = must(rt, disk.crash(alloc, calls, &remnants));
-        let text = read_as(rt, alloc, left.left.as_slice());
-        if !may_read(text.as_str(), stands) {
-            is = false;
-        }
+        let left = left_of(rt, alloc, disk, calls, remnant);
+        let text = read_as(rt, alloc, &left);
+        let wanted = must(rt, format!(in alloc; " {} ", text.as_str()));
+        is = is && may_read(stands).contains(wanted.as_str());
     }
     is
 }
@@ -120,7 +124,7 @@ fn old_area(rt: &impl Abort, alloc: Global) -> Vec<u8> {
     must(rt, disk.contents().of(Which::Left).to_vec(alloc))
 }
 
-/// The disk after the three writes over `old_area`, and how many of them stand.
+/// The disk after the three writes over an area, and how many of them stand.
 fn overwritten(rt: &impl Abort, alloc: Global, old: &[u8], failing: Vec<u64>) -> (MemDisk, u64) {
     let mut disk = disk_of(rt, alloc, old).failing_at(failing);
     let mut stands = 0;
@@ -138,26 +142,23 @@ fn standing(calls: usize) -> u64 {
     }
 }
 
-#[test]
-fn a_crash_at_any_call_leaves_the_old_save_or_the_new(rt: HostRuntime) {
-    let alloc = rt.alloc();
-    let old = old_area(&rt, alloc);
-    let (disk, stands) = overwritten(&rt, alloc, &old, Vec::new(alloc));
-    same(&rt, disk.calls().len(), 22);
-    same(&rt, stands, 3);
-    for calls in 0..=22 {
-        holds(&rt, is_kept(&rt, alloc, &disk, calls, standing(calls)));
-    }
+/// Whether a fault at this call is one fault, after which a crash leaves what it may.
+fn is_kept_failing(rt: &impl Abort, alloc: Global, old: &[u8], call: u64) -> bool {
+    let failing = must(rt, vec![in alloc; call]);
+    let (disk, stands) = overwritten(rt, alloc, old, failing);
+    disk.faults() == 1 && is_kept(rt, alloc, &disk, 22, stands)
 }
 
 #[test]
-fn a_fault_at_any_call_leaves_the_old_save_or_the_new(rt: HostRuntime) -> Result<(), Fail> {
-    let alloc = rt.alloc();
-    let old = old_area(&rt, alloc);
-    for call in 0..22 {
-        let (disk, stands) = overwritten(&rt, alloc, &old, vec![in alloc; call]?);
-        same(&rt, disk.faults(), 1);
-        holds(&rt, is_kept(&rt, alloc, &disk, 22, stands));
+fn a_stop_or_a_fault_at_any_call_leaves_the_old_save_or_the_new(rt: HostRuntime) {
+    let old = old_area(&rt, rt.alloc());
+    let (disk, stands) = overwritten(&rt, rt.alloc(), &old, Vec::new(rt.alloc()));
+    same(&rt, disk.calls().len(), 22);
+    same(&rt, stands, 3);
+    for calls in 0..=22 {
+        holds(&rt, is_kept(&rt, rt.alloc(), &disk, calls, standing(calls)));
     }
-    Ok(())
+    for call in 0..22 {
+        holds(&rt, is_kept_failing(&rt, rt.alloc(), &old, call));
+    }
 }

@@ -1,7 +1,11 @@
+//! A disk in memory.
+ghost use Rattle.std.specs.Prelude.{◌≤◌, length, IfSome};
+ghost use Rattle.ws_outside.specs.Disk.{held};
+
 use crate::asserting::{holds, must, same_at};
+use crate::rows::{digit, digits, word};
 use std::alloc::Global;
 use std::process::Abort;
-use std::str::SplitWhitespace;
 use ws_outside::{Contents, Disk, Failed, MemDisk, Octets, Remnant, Which};
 
 /// A row: the numbers of the calls that are to fail, the calls on an area that holds `abcd`, whether each is done, what
@@ -29,7 +33,7 @@ const ROWS: &str = "\
 0 w1XY,s ny abcd =Z abcd
 1 w1XY,s yn aXYd =Z aZZd
 023 s,r,s nyn abcd whole abcd
-13 l,g,s,w0X,s ynyny abcd whole abcd
+13 l,g1bcd,s,w0X,s ynyny abcd whole abcd
 ";
 
 /// A disk that holds these bytes on the left.
@@ -41,62 +45,35 @@ pub fn disk_of(rt: &impl Abort, alloc: Global, left: &[u8]) -> MemDisk {
     must(rt, MemDisk::new(alloc, first))
 }
 
-fn word<'a>(words: &mut SplitWhitespace<'a>) -> &'a str {
-    match words.next() {
-        Some(word) => word,
-        None => "",
-    }
-}
-
-fn digit(byte: u8) -> u64 {
-    u64::from(byte.saturating_sub(b'0'))
-}
-
-/// The calls of these numbers.
-fn numbers(rt: &impl Abort, alloc: Global, word: &str) -> Vec<u64> {
-    let mut numbers = Vec::new(alloc);
-    for byte in word.bytes() {
-        if byte != b'-' {
-            must(rt, numbers.push(digit(byte)));
-        }
-    }
-    numbers
-}
-
-/// Makes the call, where it may be made.
-fn made(disk: &mut MemDisk, call: &str) -> Result<(), Failed> {
+/// Makes a call on an area that has at least this length, at a place within that, and tells a count. A read is told by its
+/// count where it gives these bytes up to the end, and else by 99.
+pub fn made<D: Disk>(disk: &mut D, area: Which, len: u64, call: &str) -> Result<u64, Failed>
+    requires { IfSome (D.seen disk.old) (λ both. len ≤ length (held area both)) }
+{
     match call.as_bytes() {
-        [b'w', at, piece @ ..] => written(disk, digit(*at), piece),
-        [b'c', most] => cut(disk, digit(*most)),
-        [b's'] => disk.sync(Which::Left),
-        [b'r'] => disk.sync(Which::Right),
-        [b'l'] => len_told(disk),
-        _ => read_told(disk),
+        [b'w', at, piece @ ..] => done(disk.write_at(area, digit(*at).min(len), piece)),
+        [b'c', most] => done(disk.cut(area, digit(*most).min(len))),
+        [b's'] => done(disk.sync(area)),
+        [b'g', at, bytes @ ..] => given(disk, area, digit(*at), bytes),
+        _ => disk.len(area),
     }
 }
 
-fn written(disk: &mut MemDisk, at: u64, piece: &[u8]) -> Result<(), Failed> {
-    if at > disk.contents().of(Which::Left).len() as u64 {
-        return Err(Failed);
+fn done(answer: Result<(), Failed>) -> Result<u64, Failed> {
+    match answer {
+        Ok(()) => Ok(0),
+        Err(Failed) => Err(Failed),
     }
-    disk.write_at(Which::Left, at, piece)
 }
 
-fn cut(disk: &mut MemDisk, most: u64) -> Result<(), Failed> {
-    if most > disk.contents().of(Which::Left).len() as u64 {
-        return Err(Failed);
+fn given<D: Disk>(disk: &mut D, area: Which, at: u64, bytes: &[u8]) -> Result<u64, Failed> {
+    let mut buf = [0; 6];
+    let count = disk.read(area, at, &mut buf)?;
+    if &buf[..count] == bytes {
+        Ok(count as u64)
+    } else {
+        Ok(99)
     }
-    disk.cut(Which::Left, most)
-}
-
-fn len_told(disk: &mut MemDisk) -> Result<(), Failed> {
-    disk.len(Which::Left)?;
-    Ok(())
-}
-
-fn read_told(disk: &mut MemDisk) -> Result<(), Failed> {
-    disk.read(Which::Left, 0, &mut [0; 4])?;
-    Ok(())
 }
 
 fn remnant_of(word: &str) -> Remnant<'_> {
@@ -126,46 +103,48 @@ fn remembers(rt: &impl Abort, alloc: Global, disk: &MemDisk, done: &str) -> bool
     is && disk.faults() == faults
 }
 
+/// What a crash leaves on the left where each call leaves this.
+fn left_of(rt: &impl Abort, alloc: Global, disk: &MemDisk, remnant: Remnant<'_>) -> Vec<u8> {
+    let calls = disk.calls().len();
+    let remnants = must(rt, vec![in alloc; remnant; calls]);
+    must(rt, disk.crash(alloc, calls, &remnants))
+        .left
+        .into_vec()
+}
+
+/// Makes a call on the left area, or syncs the right one.
+fn call_on(disk: &mut MemDisk, call: &str) {
+    if call == "r" {
+        let _ = made(disk, Which::Right, 0, "s");
+    } else {
+        let len = disk.contents().of(Which::Left).len() as u64;
+        let _ = made(disk, Which::Left, len, call);
+    }
+}
+
 fn is_shown(rt: &impl Abort, alloc: Global, row: &str) {
     let mut words = row.split_whitespace();
-    let failing = numbers(rt, alloc, word(&mut words));
+    let failing = digits(rt, alloc, word(&mut words));
     let mut disk = disk_of(rt, alloc, b"abcd").failing_at(failing);
     must(rt, disk.reserve(8));
     for call in word(&mut words).split(',') {
-        let _ = made(&mut disk, call);
+        call_on(&mut disk, call);
     }
-    let done = word(&mut words);
-    holds(rt, remembers(rt, alloc, &disk, done));
+    holds(rt, remembers(rt, alloc, &disk, word(&mut words)));
     let reads = disk.contents().of(Which::Left);
     same_at(rt, row, reads, word(&mut words).as_bytes());
-    let calls = disk.calls().len();
-    let remnants = must(rt, vec![in alloc; remnant_of(word(&mut words)); calls]);
-    let left = must(rt, disk.crash(alloc, calls, &remnants))
-        .left
-        .into_vec();
+    let left = left_of(rt, alloc, &disk, remnant_of(word(&mut words)));
     same_at(rt, row, left.as_slice(), word(&mut words).as_bytes());
 }
 
 #[test]
 fn a_disk_in_memory_fails_where_it_is_to_and_a_crash_leaves_what_is_chosen(rt: HostRuntime) {
-    let mut rows = 0u64;
     for row in ROWS.lines() {
         is_shown(&rt, rt.alloc(), row);
-        rows = rows.saturating_add(1);
     }
-    same_at(&rt, "rows", rows, 23);
-}
-
-/// What a read of up to six bytes from the second one on gives, and the length of the other area.
-pub fn looked<D: Disk>(disk: &mut D) -> Result<(usize, [u8; 6], u64), Failed> {
-    let mut buf = *b"------";
-    let count = disk.read(Which::Left, 1, &mut buf)?;
-    Ok((count, buf, disk.len(Which::Right)?))
-}
-
-#[test]
-fn a_disk_in_memory_is_read_to_its_end(rt: HostRuntime) {
+    same_at(&rt, "rows", ROWS.lines().count(), 23);
     let mut disk = disk_of(&rt, rt.alloc(), b"abcd");
-    same_at(&rt, "end", looked(&mut disk), Ok((3, *b"bcd---", 5)));
+    same_at(&rt, "end", made(&mut disk, Which::Left, 0, "g1bcd"), Ok(3));
+    same_at(&rt, "right", made(&mut disk, Which::Right, 0, "l"), Ok(5));
     holds(&rt, Octets::empty(rt.alloc()).as_slice().is_empty());
 }

@@ -1,6 +1,7 @@
 //! Tests of ws_outside, ws_wire and disk_area, over what these crates offer.
 //!
 //! - `asserting`: the assertions.
+//! - `rows`: tables.
 //! - `fields`: known bytes, and edge lengths.
 //! - `streams`: sources and sinks.
 //! - `disks`: a disk in memory, by a table of calls and of what a crash leaves of them.
@@ -21,5 +22,7 @@ mod disks;
 mod fields;
 #[cfg(test)]
 mod files;
+#[cfg(test)]
+mod rows;
 #[cfg(test)]
 mod streams;

@@ -81,6 +81,31 @@ contained s k rule h = by (outer_rule k s.rules) h
     by (Some outer) g = ap (λ b. cond b None (Some (refusals.NotContained outer))) (sym g)
     by None g = cc
 
+-- the rule of a job that may be run is admitted
+pub run_admitted : (s : State) (k : ℕ) (job : Waiting) → may_run s k job ≡ true → admission s k job.rule ≡ None
+run_admitted s k job h = none (admission s k job.rule) (both (is_free atom_conflicts s.rules job.rule) (is_none (admission s k job.rule)) h).1
+  where
+    none : (o : Option Refusal) → is_none o ≡ true → o ≡ None
+    none None g = refl
+    none (Some r) g = cc
+
+-- the rule of a job that conflicts with none is admitted where it is within those of the pass
+pub free_runs : (s : State) (k : ℕ) (job : Waiting) → is_free atom_conflicts s.rules job.rule ≡ true
+    → option_map_or (λ outer. rule_contains atom_contains outer job.rule) (outer_rule k s.rules) true ≡ may_run s k job
+free_runs s k job h = by (outer_rule k s.rules) ∙ ap (λ b. b && is_none (admission s k job.rule)) (sym h)
+  where
+    inside : (outer : List WsAtom) (b : Bool) → b ≡ is_none (cond b None (Some (refusals.NotContained outer)))
+    inside outer true = refl
+    inside outer false = refl
+
+    by : (o : Option (List WsAtom)) → option_map_or (λ outer. rule_contains atom_contains outer job.rule) o true ≡ is_none (refused_under o s.rules job.rule)
+    by (Some outer) = inside outer (rule_contains atom_contains outer job.rule)
+    by None = ap (λ all. is_none (option_map conflict_with (lowest all))) (sym (no_conflict (λ held. rule_conflicts atom_conflicts held.rule job.rule) s.rules h))
+
+-- and no other may be run
+pub unfree_waits : (s : State) (k : ℕ) (job : Waiting) → is_free atom_conflicts s.rules job.rule ≡ false → false ≡ may_run s k job
+unfree_waits s k job h = ap (λ b. b && is_none (admission s k job.rule)) (sym h)
+
 -- ---- rules stay apart
 
 abbrev pub Apart : List (Held WsAtom) → Type 0
@@ -90,11 +115,7 @@ pub apart_begun : (s : State) (k : ℕ) (rule : List WsAtom) → admission s k r
 apart_begun s k rule h apart = begun_apart atoms_lawful k rule s.rules apart (may_begin s k rule h)
 
 pub apart_run : (s : State) (k : ℕ) (job : Waiting) → may_run s k job ≡ true → Apart s.rules → Apart (s.rules ++ record { holder = k; rule = job.rule } ∷ [])
-apart_run s k job h = apart_begun s k job.rule (none (admission s k job.rule) (both (is_free atom_conflicts s.rules job.rule) (is_none (admission s k job.rule)) h).1)
-  where
-    none : (o : Option Refusal) → is_none o ≡ true → o ≡ None
-    none None g = refl
-    none (Some r) g = cc
+apart_run s k job h = apart_begun s k job.rule (run_admitted s k job h)
 
 pub apart_without : (k : ℕ) (all : List (Held WsAtom)) → Apart all → Apart (without k all)
 apart_without k all apart = pairs_filter (λ earlier later. fits atom_contains atom_conflicts earlier later ≡ true) (λ held. not (is_of k held)) all apart

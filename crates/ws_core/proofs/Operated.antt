@@ -1,7 +1,8 @@
 -- What operations do to a state, and what other events leave as it is.
-use Rattle.std.proofs.Common.{◌≡◌, ℕ, Bool, true, false, ◌==◌, List, length, refl, sym, ap, ◌∙◌}
+use Rattle.std.proofs.Common.{◌≡◌, ℕ, Bool, true, false, ◌==◌, List, refl, sym, ap, ◌∙◌}
 use Rattle.std.specs.Prelude.{Option, Some, None, Result, Ok, Err, OnOk, IfOk, if◌then◌else◌}
 use Rattle.std.specs.Option.{option_map}
+use Rattle.std.specs.FinMap.{len}
 use Rattle.sched_rules.specs.declared.ws_atom.WsAtom.{WsAtom}
 use Rattle.rule_table.specs.declared.held.Held.{Held}
 use Rattle.ws_elem.specs.Trees.{Tree}
@@ -10,6 +11,7 @@ use Rattle.op_kind.specs.declared.op.Op.TheVariants.{CreateFile, CreateFolder, C
 use Rattle.op_kind.specs.declared.refusal.OpRefusal.{OpRefusal}
 use Rattle.op_kind.specs.Resources.{Resources}
 use Rattle.op_kind.specs.Refusals as ops
+use Rattle.core_event.specs.Batches.{Batches}
 use Rattle.core_event.specs.declared.event.Event.{Event}
 use Rattle.core_event.specs.declared.event.Event.TheVariants.{Enter, Leave, Schedule, Take, Finish, Begin, TryBegin, End, Batch, EndBatch, Checkpoint, Operation}
 use Rattle.core_event.specs.declared.reply.Refusal.{Refusal}
@@ -18,11 +20,12 @@ use Rattle.ws_core.specs.declared.state.State.{State}
 use Rattle.core_event.specs.declared.waiting.Waiting.{Waiting}
 use Rattle.ws_core.proofs.Taken.{after_take}
 use Rattle.core_event.specs.Events.{is_read, change_of}
-use Rattle.ws_core.specs.States.{resources_of, with_resources, seen}
-use Rattle.ws_core.specs.Operations.{operated_by, operated, act_operation}
+use Rattle.ws_core.specs.States.{resources_of, with_resources}
+use Rattle.ws_core.specs.Inside.Views.{seen}
+use Rattle.ws_core.specs.Inside.Acts.{operated_by, operated, act_operation, act_admitted}
 use Rattle.ws_core.specs.Effects.{effect}
 use Rattle.ws_core.specs.Refusals.{own_refusal}
-use Rattle.ws_core.specs.Steps.{acted, act_admitted, tell, tells, told}
+use Rattle.ws_core.specs.Steps.{acted, tell, tells, told}
 
 -- what holds where a call succeeds follows from what holds there
 pub on_ok : {T E P Q : Type 0} (r : Result T E) → (P → Q) → OnOk r P → OnOk r Q
@@ -42,7 +45,7 @@ operation_acts s k op = by (ops.refusal (resources_of s) op)
     by (Some x) = refl
 
 -- an operation is a telling place where no batch is open
-pub operation_tells : (s : State) (k : ℕ) (op : Op) → (length s.batches == 0) ≡ tells (Operation op) (act_admitted s k (Operation op)).0
+pub operation_tells : (s : State) (k : ℕ) (op : Op) → (len s.batches == 0) ≡ tells (Operation op) (act_admitted s k (Operation op)).0
 operation_tells s k op = ap (λ d. tells (Operation op) d.0) (sym (operation_acts s k op))
 
 -- what only reads changes nothing
@@ -131,7 +134,7 @@ quiet_tree s k (Operation op) h =
     ap (λ d. d.0.tree) (operation_acts s k op) ∙ ap (λ (r : Resources). r.tree) (read_same (resources_of s) op (only_reads op h))
 
 -- a look leaves what is kept
-pub look_seen : (unchanged : Bool) (kept : Tree) (r t : Resources) (next_pass : ℕ) (passes batches : List ℕ) (rules : List (Held WsAtom)) (waiting : Option Waiting) (op : Op)
+pub look_seen : (unchanged : Bool) (kept : Tree) (r t : Resources) (next_pass : ℕ) (passes : List ℕ) (batches : Batches) (rules : List (Held WsAtom)) (waiting : Option Waiting) (op : Op)
     → is_read op ≡ true → t ≡ (operated r op).0
     → seen unchanged kept t next_pass passes batches rules waiting ≡ with_resources (seen unchanged kept r next_pass passes batches rules waiting) (operated r op).0
 look_seen unchanged kept r t next_pass passes batches rules waiting op h after =

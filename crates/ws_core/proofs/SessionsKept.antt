@@ -1,7 +1,10 @@
 -- An open workspace stays one.
 use Rattle.std.proofs.Common.{◌≡◌, ℕ, true, List, [], ◌∷◌, ◌++◌, refl, sym, ap, ◌∙◌, subst}
 use Rattle.std.specs.Prelude.{Result, Ok, Err, OnOk, OnErr}
+use Rattle.ws_elem.specs.Stamps.{SameContents}
 use Rattle.ws_elem.specs.Trees.{Tree, fresh_tree}
+use Rattle.delta_kind.specs.Deltas.{TellsContents}
+use Rattle.delta_kind.specs.declared.node.DeltaNode.{DeltaNode}
 use Rattle.core_event.specs.declared.event.Event.{Event}
 use Rattle.core_event.specs.declared.entry.Entry.{Entry}
 use Rattle.ws_core.specs.declared.state.State.{State}
@@ -10,15 +13,23 @@ use Rattle.ws_core.specs.Histories.{fresh, has_entered, notices, told_of}
 use Rattle.ws_core.specs.Sessions.{Session, IsSession}
 use Rattle.ws_core.proofs.Told.{told_notices}
 use Rattle.ws_core.proofs.Grown.{legal_more, replay_more}
-use Rattle.ws_core.proofs.SoundKept.{fresh_sound, step_sound}
+use Rattle.ws_core.proofs.SoundKept.{fresh_sound, step_sound, step_known}
 
 -- the replies tell the notices
 pub session_told : (x : Session) → IsSession x → told_of x.history ≡ notices x.opened x.history
 session_told x is = told_notices x.opened x.history is.opened is.legal
 
+-- a path without a node, of the opened tree to the tree, holds the same file bytes or no file
+pub told_between : (x : Session) (start now : Tree) (nodes : List DeltaNode) → IsSession x → start ≡ x.opened.tree → now ≡ x.state.tree
+    → (SameContents start now → TellsContents start now nodes) → TellsContents x.opened.tree x.state.tree nodes
+told_between x start now nodes is begins ends tells =
+    subst (λ t. SameContents x.opened.tree t → TellsContents x.opened.tree t nodes) ends
+    (subst (λ t. SameContents t now → TellsContents t now nodes) begins tells) is.opened_known.tree
+
 fresh_session : IsSession (record { opened = fresh; history = []; state = fresh })
 fresh_session = record {
   opened = refl;
+  opened_known = fresh_sound.resources.tree_known;
   legal = record { replies = refl; entered = refl };
   state = refl;
   sound = fresh_sound;
@@ -43,6 +54,7 @@ goes_on x k e s h is there after longer =
     let entry : Entry = record { pass = k; event = e; reply = (step x.state k e).1 } in
     let next : IsSession (record { opened = x.opened; history = x.history ++ entry ∷ []; state = (step x.state k e).0 }) = record {
       opened = is.opened;
+      opened_known = step_known x.state k e x.opened.tree is.sound is.opened_known;
       legal = legal_more x.opened x.history entry is.legal (subst (λ z. has_entered k z ≡ true) is.state there) (ap (λ z. (step z k e).1) is.state);
       state = ap (λ z. (step z k e).0) is.state ∙ sym (replay_more x.opened x.history entry);
       sound = step_sound x.state k e is.sound;

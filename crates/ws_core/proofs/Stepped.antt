@@ -8,7 +8,8 @@ use Rattle.core_event.specs.declared.reply.Refusal.{Refusal}
 use Rattle.ws_core.specs.declared.state.State.{State}
 use Rattle.ws_core.specs.Refusals.{own_refusal}
 use Rattle.ws_core.specs.Rules.{event_rule, admission}
-use Rattle.ws_core.specs.Steps.{acted, act_admitted, tell, step}
+use Rattle.ws_core.specs.Steps.{acted, tell, step}
+use Rattle.ws_core.specs.Inside.Acts.{act_admitted}
 
 -- an event that is admitted
 pub admitted_steps : (s : State) (k : ℕ) (e : Event) → admission s k (event_rule e) ≡ None → tell e (act_admitted s k e) ≡ step s k e

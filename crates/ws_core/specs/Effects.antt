@@ -13,7 +13,8 @@ use Rattle.core_event.specs.declared.reply.Answer.TheVariants.{Done, Id, None, J
 use Rattle.ws_core.specs.declared.state.State.{State}
 use Rattle.core_event.specs.declared.waiting.Waiting.{Waiting}
 use Rattle.ws_core.specs.States.{resources_of, with_resources}
-use Rattle.core_event.specs.Numbers.{without_number, without_newest}
+use Rattle.core_event.specs.Batches.{with_one_more, with_one_fewer, without_any}
+use Rattle.core_event.specs.Numbers.{without_number}
 use Rattle.ws_core.specs.Rules.{admission}
 use Rattle.core_event.specs.Replies.{answered}
 
@@ -48,7 +49,7 @@ take s pass (Some job) = if may_run s pass job then run s pass job else (s, None
 
 -- the pass has no open batch and no rule any more
 abbrev pub finish : State → ℕ → State
-finish s pass = record s { batches = without_number pass s.batches; rules = without pass s.rules }
+finish s pass = record s { batches = without_any pass s.batches; rules = without pass s.rules }
 
 -- the rule that the pass began last is over
 abbrev pub end : State → ℕ → State
@@ -56,11 +57,11 @@ end s pass = record s { rules = without_last pass s.rules }
 
 -- the pass has one more open batch
 abbrev pub open_batch : State → ℕ → State
-open_batch s pass = record s { batches = s.batches ++ pass ∷ [] }
+open_batch s pass = record s { batches = with_one_more pass s.batches }
 
 -- the pass's newest batch is closed
 abbrev pub close_batch : State → ℕ → State
-close_batch s pass = record s { batches = without_newest pass s.batches }
+close_batch s pass = record s { batches = with_one_fewer pass s.batches }
 
 -- the operation is done
 abbrev pub operate : State → Op → State × Answer

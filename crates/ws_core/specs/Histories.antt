@@ -24,7 +24,7 @@ fresh = record {
   next_pass = 1;
   partners = [];
   passes = 0 ∷ [];
-  batches = [];
+  batches = empty;
   rules = [];
   waiting = None;
 }

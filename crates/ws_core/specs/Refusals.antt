@@ -1,11 +1,12 @@
 -- Why an event is refused.
-use Rattle.std.specs.Prelude.{ℕ, Bool, not, if◌then◌else◌, List, Option, Some, None}
+use Rattle.std.specs.Prelude.{ℕ, Bool, not, ◌==◌, List, Option, Some, None}
 use Rattle.std.specs.Cmp.Lexicographic.{pointwise}
 use Rattle.std.specs.Option.{option_map, option_or}
 use Rattle.std.specs.Ordering.{eq_by_cmp}
 use Rattle.sched_rules.specs.Atoms.{atom_cmp}
 use Rattle.sched_rules.specs.declared.ws_atom.WsAtom.{WsAtom}
 use Rattle.rule_table.specs.Tables.{last_rule, rules_held}
+use Rattle.proj_desc.specs.FirstCause.{when}
 use Rattle.op_kind.specs.Refusals.{is_spent}
 use Rattle.op_kind.specs.Refusals as ops
 use Rattle.core_event.specs.declared.event.Event.{Event}
@@ -14,12 +15,8 @@ use Rattle.core_event.specs.declared.reply.Refusal.{Refusal}
 use Rattle.core_event.specs.declared.reply.Refusal.TheVariants as refusals
 use Rattle.ws_core.specs.declared.state.State.{State}
 use Rattle.ws_core.specs.States.{resources_of}
-use Rattle.core_event.specs.Numbers.{has_number}
+use Rattle.core_event.specs.Batches.{number_open}
 use Rattle.ws_core.specs.Rules.{event_rule, admission}
-
--- the refusal, where its cause holds
-abbrev pub when : Bool → Refusal → Option Refusal
-when holds r = if holds then Some r else None
 
 -- two rules have the same atoms
 abbrev pub same_rule : List WsAtom → List WsAtom → Bool
@@ -41,7 +38,7 @@ own_refusal s pass (Begin rule) = None
 own_refusal s pass (TryBegin rule) = None
 own_refusal s pass (End rule) = end_refusal (last_rule pass s.rules) (rules_held pass s.rules) rule
 own_refusal s pass Batch = None
-own_refusal s pass EndBatch = when (not (has_number pass s.batches)) refusals.NoBatch
+own_refusal s pass EndBatch = when (number_open pass s.batches == 0) refusals.NoBatch
 own_refusal s pass Checkpoint = None
 own_refusal s pass (Operation op) = option_map refusals.Operation (ops.refusal (resources_of s) op)
 

@@ -1,10 +1,11 @@
 -- A workspace while it is open.
-use Rattle.std.specs.Prelude.{◌≡◌, List}
+use Rattle.std.specs.Prelude.{◌≡◌, List, [], ◌∷◌}
+use Rattle.ws_elem.specs.Stamps.{AgreeByStamps}
 use Rattle.ws_elem.specs.Trees.{Whole}
 use Rattle.sched_rules.specs.Atoms.{atom_contains, atom_conflicts}
 use Rattle.rule_table.specs.Tables.{IsApart}
 use Rattle.op_kind.specs.Sound as ops
-use Rattle.op_kind.specs.Stamps.{IsKnown}
+use Rattle.op_kind.specs.Stamps.{AllDrawn, IsKnown}
 use Rattle.core_event.specs.declared.entry.Entry.{Entry}
 use Rattle.ws_core.specs.declared.state.State.{State}
 use Rattle.ws_core.specs.Histories.{Legal, replay}
@@ -17,12 +18,14 @@ pub record Session : Type 0 where
   pub state : State
 
 -- what holds of a state at every moment
-pub record IsSound (s : State) : Type 0 where
+pub record IsConsistent (s : State) : Type 0 where
   -- its resources are sound
-  pub resources : ops.IsSound (resources_of s)
-  -- the told tree is whole, and agrees by its stamps with what is there
+  pub resources : ops.IsConsistent (resources_of s)
+  -- the told tree is whole, and its numbers are below their counters
   pub told : Whole s.told
-  pub told_known : IsKnown (resources_of s) s.told
+  pub told_drawn : AllDrawn (resources_of s) s.told
+  -- in what is there and in the told tree equal stamps mean equal contents
+  pub alike : AgreeByStamps (s.tree ∷ s.shelf ∷ s.told ∷ [])
   -- each rule is within each non-null one that its pass began before, and no rules of two passes conflict
   pub apart : IsApart atom_contains atom_conflicts s.rules
 
@@ -30,6 +33,8 @@ pub record IsSound (s : State) : Type 0 where
 pub record IsSession (x : Session) : Type 0 where
   -- the opened state's tree has been told
   pub opened : x.opened.told ≡ x.opened.tree
+  -- and agrees by its stamps with what is there
+  pub opened_known : IsKnown (resources_of x.state) x.opened.tree
   pub legal : Legal x.opened x.history
   pub state : x.state ≡ replay x.opened x.history
-  pub sound : IsSound x.state
+  pub sound : IsConsistent x.state

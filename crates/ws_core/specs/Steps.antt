@@ -1,5 +1,6 @@
 -- One event of a pass: refused or done, and then told.
-use Rattle.std.specs.Prelude.{ℕ, Bool, true, false, ◌||◌, ◌==◌, List, [], ◌∷◌, length, Option, Some, None}
+use Rattle.std.specs.Prelude.{ℕ, Bool, true, false, ◌||◌, ◌==◌, List, Option, Some, None}
+use Rattle.std.specs.FinMap.{len}
 use Rattle.delta_kind.specs.Deltas.{delta}
 use Rattle.delta_kind.specs.declared.node.DeltaNode.{DeltaNode}
 use Rattle.core_event.specs.declared.event.Event.{Event}
@@ -11,24 +12,20 @@ use Rattle.ws_core.specs.declared.state.State.{State}
 use Rattle.core_event.specs.Events.{is_checkpoint}
 use Rattle.core_event.specs.Replies.{some_nodes}
 use Rattle.ws_core.specs.Effects.{effect}
-use Rattle.ws_core.specs.Refusals.{own_refusal, refusal}
+use Rattle.ws_core.specs.Refusals.{refusal}
 
 -- a refused event changes nothing
 abbrev pub acted : Option Refusal → State → ℕ → Event → State × Answer
 acted None s pass event = effect s pass event
 acted (Some r) s pass event = (s, Refused r)
 
--- the state after an event that is admitted, before anything is told, and the event's answer
-abbrev pub act_admitted : State → ℕ → Event → State × Answer
-act_admitted s pass event = acted (own_refusal s pass event) s pass event
-
--- the same after any event
+-- the state after an event, before anything is told, and the event's answer
 abbrev pub act : State → ℕ → Event → State × Answer
 act s pass event = acted (refusal s pass event) s pass event
 
 -- whether the event is a telling place: each Checkpoint, and each other event that leaves no batch open
 abbrev pub tells : Event → State → Bool
-tells event after = is_checkpoint event || length after.batches == 0
+tells event after = is_checkpoint event || len after.batches == 0
 
 -- what changed since the last telling place
 abbrev pub notice : State → Option (List DeltaNode)

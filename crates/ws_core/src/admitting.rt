@@ -1,17 +1,18 @@
 //! What the rules of the passes admit, and what they keep out.
-ghost use Rattle.std.specs.Prelude.{◌≡◌, false, None as nothing, IfOk, IfErr, OnOk, OnErr};
+ghost use Rattle.std.specs.Prelude.{◌≡◌, true, false, None as nothing, IfOk, IfErr, OnOk, OnErr};
 ghost use Rattle.std.specs.Option.{option_map_or};
 ghost use Rattle.sched_rules.specs.Atoms.{atom_contains};
 ghost use Rattle.sched_rules.specs.Rules.{rule_contains};
 ghost use Rattle.rule_table.specs.Tables.{outer_rule};
 ghost use Rattle.core_event.specs.declared.event.Event.TheVariants.{End};
 ghost use Rattle.ws_core.specs.Effects.{begin};
-ghost use Rattle.ws_core.specs.Rules.{admission, event_rule, operation_rule};
-ghost use Rattle.ws_core.specs.Steps.{act_admitted};
+ghost use Rattle.op_rule.specs.Rules.{operation_rule};
+ghost use Rattle.ws_core.specs.Rules.{admission, event_rule};
+ghost use Rattle.ws_core.specs.Inside.Acts.{act_admitted};
 
-use crate::operation_rules::{contains_operation, operation_rule};
 use crate::{Answer, Event, NoMemory, Refusal, State, WsRule};
 use op_kind::Op;
+use op_rule::{contains_operation, operation_rule};
 use rule_table::{BeginError, EndError};
 use std::alloc::{AllocError, Global};
 
@@ -55,6 +56,17 @@ impl State {
             Err(BeginError::NotContained { outer }) => Ok(Some(Refusal::NotContained(outer))),
             Err(BeginError::Conflict { holder, rule }) => Ok(Some(Refusal::Conflict(holder, rule))),
             Err(BeginError::Memory) => Err(AllocError),
+        }
+    }
+
+    /// Whether the rule is within the pass's topmost rule that isn't null, where it has such.
+    pub(crate) fn is_within(&self, pass: u64, rule: &WsRule) -> bool
+        ensures { result ≡ option_map_or (λ outer. rule_contains atom_contains outer rule.now)
+            (outer_rule pass self.now.rules) true }
+    {
+        match self.rules.outer(pass) {
+            None => true,
+            Some(outer) => outer.contains(rule),
         }
     }
 

@@ -1,7 +1,8 @@
 //! The events that concern passes, jobs and batches.
-ghost use Rattle.std.specs.Prelude.{◌≡◌, false, if◌then◌else◌, IfOk, OnOk, OnErr};
+ghost use Rattle.std.specs.Prelude.{◌≡◌, true, false, IfOk, OnOk, OnErr};
+ghost use Rattle.std.specs.Option.{option_map_or};
 ghost use Rattle.op_kind.specs.Refusals.{is_spent};
-ghost use Rattle.ws_core.specs.Effects.{enter, leave, schedule, begin, may_run, take, finish};
+ghost use Rattle.ws_core.specs.Effects.{enter, leave, schedule, may_run, take, finish};
 
 use crate::{Answer, Apart, NoMemory, State, Waiting, WsRule};
 use res_path::Name;
@@ -55,15 +56,44 @@ impl State {
         ensures answer { IfOk result (λ answer. answer ≡ (take self.old pass self.old.waiting).1) }
         ensures err { OnErr result (self.new ≡ self.old) }
     {
+        if !self.has_job(pass) {
+            return Ok(Answer::None);
+        }
+        self.run(pass)
+    }
+
+    /// Whether a job waits that the pass may run.
+    fn has_job(&self, pass: u64) -> bool
+        ensures { result ≡ option_map_or (may_run self.now pass) self.now.waiting false }
+    {
+        match &self.waiting {
+            None => false,
+            Some(job) => self.may_run(pass, job),
+        }
+    }
+
+    /// Whether the pass may run the job: the job's rule conflicts with none that is held, and the pass may have it.
+    fn may_run(&self, pass: u64, job: &Waiting) -> bool
+        ensures { result ≡ may_run self.now pass job.now }
+    {
+        if !self.rules.is_free(&job.rule) {
+            return false;
+        }
+        self.is_within(pass, &job.rule)
+    }
+
+    /// The pass gets the rule of the job that waits, which it may run. Where memory wants, the job still waits.
+    fn run(&mut self, pass: u64) -> Result<Answer, NoMemory>
+        requires { option_map_or (may_run self.old pass) self.old.waiting false ≡ true }
+        ensures state { OnOk result (self.new ≡ (take self.old pass self.old.waiting).0) }
+        ensures answer { IfOk result (λ answer. answer ≡ (take self.old pass self.old.waiting).1) }
+        ensures err { OnErr result (self.new ≡ self.old) }
+    {
         let Some(job) = self.waiting.take() else {
             return Ok(Answer::None);
         };
-        match self.run(pass, &job) {
-            Ok(true) => Ok(Answer::Job(job.name)),
-            Ok(false) => {
-                self.waiting = Some(job);
-                Ok(Answer::None)
-            }
+        match self.begin(pass, &job.rule) {
+            Ok(()) => Ok(Answer::Job(job.name)),
             Err(error) => {
                 self.waiting = Some(job);
                 Err(error)
@@ -71,24 +101,11 @@ impl State {
         }
     }
 
-    /// The pass gets the job's rule, where it may run the job.
-    fn run(&mut self, pass: u64, job: &Waiting) -> Result<bool, NoMemory>
-        ensures may { IfOk result (λ b. b ≡ may_run self.old pass job.now) }
-        ensures state { IfOk result (λ b. self.new ≡ (if b then begin self.old pass job.now.rule else self.old)) }
-        ensures err { OnErr result (self.new ≡ self.old) }
-    {
-        if !self.rules.is_free(&job.rule) || self.rule_admission(pass, &job.rule)?.is_some() {
-            return Ok(false);
-        }
-        self.begin(pass, &job.rule)?;
-        Ok(true)
-    }
-
     /// The pass's job is over.
     pub(crate) fn finish(&mut self, pass: u64)
         ensures { self.new ≡ finish self.old pass }
     {
-        self.batches.remove_all(pass);
+        self.batches.end_all(pass);
         self.rules.drop_all(pass);
     }
 }

@@ -1,14 +1,15 @@
 //! What was done.
-ghost use Rattle.std.specs.Prelude.{◌≡◌, ◌↔◌, [], length, IsTrue};
+ghost use Rattle.std.specs.Prelude.{◌≡◌, ◌↔◌, [], length, IsTrue, IfOk};
 
-use crate::{Entry, State};
+use crate::{Entry, NoMemory, State};
+use std::alloc::Global;
 use std::marker::Model;
 
 /// What was done, in order. A contract sees the list of entries.
 ///
 /// The history of a workspace keeps the state that it led to until it is let go itself, so that nothing is let go where
 /// the program ends with it.
-#[derive(Debug, Drop)]
+#[derive(Drop)]
 pub struct History {
     entries: Vec<Entry>,
     // the state that the entries led to, where a workspace gave them
@@ -29,6 +30,16 @@ impl Model for History {
 }
 
 impl History {
+    /// The history in which nothing was done. It takes no memory.
+    pub fn empty(alloc: Global) -> History
+        ensures { result ≡ [] }
+    {
+        History {
+            entries: Vec::new(alloc),
+            state: None,
+        }
+    }
+
     /// The history with these entries, of which nothing is copied.
     pub fn of(entries: Vec<Entry>) -> History
         ensures { result ≡ entries.items }
@@ -68,5 +79,12 @@ impl History {
         ensures { IsTrue result ↔ (self.now ≡ []) }
     {
         self.entries.is_empty()
+    }
+
+    /// An equal history, whose entries share their texts. It keeps no state.
+    pub fn copy(&self) -> Result<History, NoMemory>
+        ensures { IfOk result (λ copy. copy ≡ self.now) }
+    {
+        Ok(History::of(self.entries.clone()?))
     }
 }

@@ -1,11 +1,10 @@
 //! The workspace's core: what an event of a pass does, and the history of what was done.
 //!
-//! What events are, and what they are answered, stands in core_event.
+//! What events are, and what they are answered, stands in core_event, and the rules of operations in op_rule.
 //!
 //! - `history`: a `History`, entries in order.
 //! - `state`: a `State`, what there is at one moment.
 //! - `stepping`: one step of a state: an event is done or refused, and what changed is told.
-//! - `operation_rules`: the rules of operations.
 //! - `admitting`: what the rules of the passes admit, and how rules begin and end.
 //! - `arranging`: the events that concern passes, jobs and batches.
 //! - `operating`: the operations, and what they change.
@@ -17,17 +16,16 @@ mod admitting;
 mod arranging;
 mod history;
 mod operating;
-mod operation_rules;
 mod session;
 mod state;
 mod stepping;
 mod telling;
 
 pub use core_event::{
-    Answer, Apart, Entry, Event, Notice, Numbers, Refusal, Reply, Waiting, WsRule,
+    Answer, Apart, Batches, Entry, Event, Notice, Numbers, Refusal, Reply, Waiting, WsRule,
 };
 pub use history::History;
-pub use operation_rules::operation_rule;
+pub use op_rule::operation_rule;
 pub use res_path::NoMemory;
 pub use session::Core;
 pub use state::State;

@@ -2,11 +2,11 @@
 ghost use Rattle.std.specs.Prelude.{◌≡◌, IfOk, OnOk, OnErr};
 ghost use Rattle.delta_kind.specs.Deltas.{delta};
 ghost use Rattle.op_plan.specs.Backs.{taken_back};
-ghost use Rattle.op_plan.specs.Changes.{HasRooms};
+ghost use Rattle.op_plan.specs.Edits.{HasRooms};
 ghost use Rattle.op_kind.specs.Refusals.{refusal};
 ghost use Rattle.op_kind.specs.Resources.{resources};
-ghost use Rattle.op_kind.specs.Sound.{IsSound};
-ghost use Rattle.ws_core.specs.Operations.{operated};
+ghost use Rattle.op_kind.specs.Sound.{IsConsistent};
+ghost use Rattle.ws_core.specs.Inside.Acts.{operated};
 ghost use Rattle.core_event.specs.Replies.{answered, some_nodes};
 
 use crate::telling::notice_between;
@@ -24,19 +24,13 @@ pub fn refusal_of(
     side: &mut Side,
     op: &Op,
 ) -> Result<Option<OpRefusal>, NoMemory>
-    requires { IsSound (resources tree.old.map side.old) }
+    requires { IsConsistent (resources tree.old.map side.old) }
     ensures refusal { IfOk result (λ r. r ≡ refusal (resources tree.old.map side.old) op.now) }
     ensures same { resources tree.new.map side.new ≡ resources tree.old.map side.old }
 {
     match apply(alloc, tree, side, op) {
-        Ok(
-            Applied {
-                answer: _,
-                back: way_back,
-            },
-        ) => {
-            take_back(tree, side, way_back);
-            drop_room(tree, side);
+        Ok(done) => {
+            undo(tree, side, done);
             Ok(None)
         }
         Err(OpError::Refused(refusal)) => {
@@ -50,6 +44,18 @@ pub fn refusal_of(
     }
 }
 
+/// Takes back what was done, and lets its answer go.
+fn undo(tree: &mut FlatTree, side: &mut Side, done: Applied)
+    requires tree { HasRooms tree.old.room done.back.tree }
+    requires shelf { HasRooms side.old.shelf.room done.back.shelf }
+    ensures { resources tree.new.map side.new ≡ taken_back (resources tree.old.map side.old) done.back }
+{
+    let Applied { answer, back } = done;
+    drop(answer);
+    take_back(tree, side, back);
+    drop_room(tree, side);
+}
+
 /// Does the operation, or refuses it. Where memory wants, nothing has changed.
 pub fn operate(
     alloc: Global,
@@ -57,7 +63,7 @@ pub fn operate(
     side: &mut Side,
     op: &Op,
 ) -> Result<Answer, NoMemory>
-    requires { IsSound (resources tree.old.map side.old) }
+    requires { IsConsistent (resources tree.old.map side.old) }
     ensures resources { OnOk result (resources tree.new.map side.new ≡ (operated (resources tree.old.map side.old) op.now).0) }
     ensures answer { IfOk result (λ answer. answer ≡ (operated (resources tree.old.map side.old) op.now).1) }
     ensures err { OnErr result (resources tree.new.map side.new ≡ resources tree.old.map side.old) }
@@ -95,6 +101,7 @@ fn answer_done(
     } = done;
     match Answer::of(alloc, answer) {
         Ok(answer) => {
+            drop(way_back);
             drop_room(tree, side);
             Ok(answer)
         }
@@ -115,7 +122,7 @@ pub fn operate_and_tell(
     told: &ElemMap,
     op: &Op,
 ) -> Result<Reply, NoMemory>
-    requires { IsSound (resources tree.old.map side.old) }
+    requires { IsConsistent (resources tree.old.map side.old) }
     ensures resources { OnOk result (resources tree.new.map side.new ≡ (operated (resources tree.old.map side.old) op.now).0) }
     ensures answer { IfOk result (λ reply. reply.answer ≡ (operated (resources tree.old.map side.old) op.now).1) }
     ensures notice { IfOk result (λ reply. reply.notice
@@ -154,6 +161,7 @@ fn tell_done(
     let Applied { answer, back } = done;
     match answer_told(alloc, told, tree.map(), answer) {
         Ok(reply) => {
+            drop(back);
             drop_room(tree, side);
             Ok(reply)
         }

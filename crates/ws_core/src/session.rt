@@ -2,10 +2,10 @@
 ghost use Rattle.std.specs.Prelude.{◌≡◌, ◌<◌, [], ◌∷◌, ◌++◌, true, IfOk, IsOk, IsErr, OnOk, OnErr, MatchResult, vec_len, vec_capacity};
 ghost use Rattle.sched_rules.specs.Atoms.{atom_contains, atom_conflicts};
 ghost use Rattle.rule_table.specs.Tables.{IsApart};
-ghost use Rattle.delta_kind.specs.Deltas.{delta};
+ghost use Rattle.delta_kind.specs.Deltas.{delta, TellsContents};
 ghost use Rattle.ws_core.specs.Steps.{step};
 ghost use Rattle.ws_core.specs.Histories.{fresh, has_entered, Legal, notices, replay, told_of};
-ghost use Rattle.ws_core.specs.Sessions.{IsSound};
+ghost use Rattle.ws_core.specs.Sessions.{IsConsistent};
 
 use crate::{Entry, Event, History, NoMemory, Reply, State};
 use delta_kind::{Delta, compare};
@@ -114,16 +114,18 @@ impl Core {
     pub fn state(&self) -> &State
         ensures state { result.now ≡ self.now.state }
         ensures replayed { result.now ≡ replay self.now.opened self.now.history }
-        ensures sound { IsSound result.now }
+        ensures sound { IsConsistent result.now }
         ensures apart { IsApart atom_contains atom_conflicts result.now.rules }
     {
         &self.state
     }
 
-    /// What changed since the workspace was opened. Costs a walk of both trees.
+    /// What changed since the workspace was opened: a path without a node holds the same file bytes, or no file, as it did
+    /// then. Costs a walk of both trees.
     pub fn since_start(&self, alloc: Global) -> Result<Delta, NoMemory>
         ensures changed { IfOk result (λ d. d ≡ delta self.now.opened.tree self.now.state.tree) }
         ensures replayed { IfOk result (λ d. d ≡ delta self.now.opened.tree (replay self.now.opened self.now.history).tree) }
+        ensures contents { IfOk result (λ d. TellsContents self.now.opened.tree self.now.state.tree d) }
     {
         compare(alloc, &self.start, self.state.tree())
     }
@@ -144,7 +146,7 @@ fn step_and_write(
     pass: u64,
     event: Event,
 ) -> Result<(), NoMemory>
-    requires { IsSound state.old }
+    requires { IsConsistent state.old }
     ensures state { OnOk result (state.new ≡ (step state.old pass event).0) }
     ensures entries { OnOk result (entries.new.items
         ≡ entries.old.items ++ record { pass = pass; event = event; reply = (step state.old pass event).1 } ∷ []) }
@@ -163,7 +165,7 @@ fn step_with_room(
     pass: u64,
     event: &Event,
 ) -> Result<Reply, NoMemory>
-    requires { IsSound state.old }
+    requires { IsConsistent state.old }
     ensures state { OnOk result (state.new ≡ (step state.old pass event.now).0) }
     ensures reply { IfOk result (λ reply. reply ≡ (step state.old pass event.now).1) }
     ensures same { OnErr result (state.new ≡ state.old) }
@@ -191,7 +193,10 @@ fn write(
             push_entry(entries, pass, event, reply);
             Ok(())
         }
-        Err(wanted) => Err(wanted),
+        Err(wanted) => {
+            drop(event);
+            Err(wanted)
+        }
     }
 }
 
@@ -200,5 +205,5 @@ fn push_entry(entries: &mut Vec<Entry>, pass: u64, event: Event, reply: Reply)
     requires { vec_len entries.old < vec_capacity entries.old }
     ensures { entries.new.items ≡ entries.old.items ++ record { pass = pass; event = event; reply = reply } ∷ [] }
 {
-    let _ = entries.push(Entry { pass, event, reply });
+    entries.push_reserved(Entry { pass, event, reply });
 }

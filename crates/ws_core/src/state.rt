@@ -2,9 +2,9 @@
 ghost use Rattle.std.specs.Prelude.{◌≡◌, IfOk};
 ghost use Rattle.std.specs.Option.{option_copied};
 ghost use Rattle.ws_core.specs.Histories.{fresh};
-ghost use Rattle.ws_core.specs.Sessions.{IsSound};
+ghost use Rattle.ws_core.specs.Sessions.{IsConsistent};
 
-use crate::{NoMemory, Numbers, Waiting};
+use crate::{Batches, NoMemory, Numbers, Waiting};
 use op_kind::{Partners, Side};
 use rule_table::RuleTable;
 use sched_rules::WsAtom;
@@ -14,13 +14,12 @@ use tree_flat::FlatTree;
 use ws_elem::ElemMap;
 
 /// The state of a workspace. A contract sees the record of its tree, the members of closed projects, the tree as it
-/// was last told, the counters that new resources, contents, markers and passes are numbered from, the synchronisation partners,
-/// the passes that have
-/// entered, those of the open batches, the rules that passes hold in the order in which they were begun, and the job
-/// that waits.
+/// was last told, the counters that new resources, contents, markers and passes are numbered from, the synchronisation
+/// partners, the passes that have entered, how many batches each has open, the rules that passes hold in the order in
+/// which they were begun, and the job that waits.
 ///
 /// The told tree is kept only from the first change after a telling place to the next one.
-#[derive(Debug, Drop)]
+#[derive(Drop)]
 pub struct State {
     pub(crate) tree: FlatTree,
     pub(crate) side: Side,
@@ -30,7 +29,7 @@ pub struct State {
     pub(crate) unchanged: bool,
     pub(crate) next_pass: u64,
     pub(crate) passes: Numbers,
-    pub(crate) batches: Numbers,
+    pub(crate) batches: Batches,
     pub(crate) rules: RuleTable<WsAtom>,
     pub(crate) waiting: Option<Waiting>,
 }
@@ -39,11 +38,12 @@ impl Model for State {
     ghost use Rattle.ws_elem.specs.contracts.element.Element as element;
     ghost use Rattle.sched_rules.specs.contracts.ws_atom.WsAtom as atom;
     ghost use Rattle.op_kind.specs.Resources.{resources};
-    ghost use Rattle.ws_core.specs.States.{Workspace, workspace_code, seen};
+    ghost use Rattle.ws_core.specs.States.{Moment};
+    ghost use Rattle.ws_core.specs.Inside.Views.{moment_code, seen};
 
-    ghost Value = { Workspace };
+    ghost Value = { Moment };
 
-    ghost coded = { workspace_code element.the_row.coded atom.the_row.coded };
+    ghost coded = { moment_code element.the_row.coded atom.the_row.coded };
 
     ghost view = { λ s. seen s.unchanged s.told.map (resources s.tree.map s.side) s.next_pass s.passes s.batches s.rules s.waiting };
 }
@@ -52,7 +52,7 @@ impl State {
     /// The fresh workspace: the root alone, as node 1, and pass 0.
     pub fn fresh(alloc: Global) -> Result<State, NoMemory>
         ensures fresh { IfOk result (λ state. state ≡ fresh) }
-        ensures sound { IfOk result IsSound }
+        ensures sound { IfOk result IsConsistent }
     {
         let mut passes = Numbers::empty(alloc);
         passes.push(0)?;
@@ -64,7 +64,7 @@ impl State {
             unchanged: true,
             next_pass: 1,
             passes,
-            batches: Numbers::empty(alloc),
+            batches: Batches::empty(alloc),
             rules: RuleTable::empty(alloc),
             waiting: None,
         })
@@ -136,8 +136,8 @@ impl State {
         &self.passes
     }
 
-    /// The pass of each open batch, the newest last.
-    pub fn batches(&self) -> &Numbers
+    /// How many batches each pass has open.
+    pub fn batches(&self) -> &Batches
         ensures { result.now ≡ self.now.batches }
     {
         &self.batches
@@ -161,16 +161,22 @@ impl State {
     pub fn copy(&self) -> Result<State, NoMemory>
         ensures { IfOk result (λ copy. copy ≡ self.now) }
     {
+        // What is let go in many steps comes last: each step that may fail lets go of what is copied by then.
+        let passes = self.passes.copy()?;
+        let batches = self.batches.copy()?;
+        let rules = self.rules.copy()?;
+        let told = self.told.copy()?;
         let tree = self.tree.map().copy()?;
+        let side = self.side.copy()?;
         Ok(State {
             tree: FlatTree::of(tree),
-            side: self.side.copy()?,
-            told: self.told.copy()?,
+            side,
+            told,
             unchanged: self.unchanged,
             next_pass: self.next_pass,
-            passes: self.passes.copy()?,
-            batches: self.batches.copy()?,
-            rules: self.rules.copy()?,
+            passes,
+            batches,
+            rules,
             waiting: self.waiting.clone()?,
         })
     }

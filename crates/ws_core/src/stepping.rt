@@ -4,11 +4,12 @@ ghost use Rattle.op_kind.specs.Refusals as ops;
 ghost use Rattle.core_event.specs.declared.event.Event.TheVariants.{Operation};
 ghost use Rattle.core_event.specs.declared.reply.Answer.TheVariants.{Refused};
 ghost use Rattle.core_event.specs.Events.{change_of};
-ghost use Rattle.ws_core.specs.Operations.{act_operation};
-ghost use Rattle.ws_core.specs.Sessions.{IsSound};
-ghost use Rattle.ws_core.specs.States.{resources_of, told_tree};
+ghost use Rattle.ws_core.specs.Inside.Acts.{act_operation, act_admitted};
+ghost use Rattle.ws_core.specs.Inside.Views.{told_tree};
+ghost use Rattle.ws_core.specs.Sessions.{IsConsistent};
+ghost use Rattle.ws_core.specs.States.{resources_of};
 ghost use Rattle.ws_core.specs.Rules.{admission, event_rule};
-ghost use Rattle.ws_core.specs.Steps.{act_admitted, step, tell, tells, told, notice};
+ghost use Rattle.ws_core.specs.Steps.{step, tell, tells, told, notice};
 
 use crate::arranging::is_spent;
 use crate::operating::{operate, operate_and_tell, refusal_of};
@@ -28,10 +29,10 @@ impl State {
     /// does not only read, costs that twice, and a copy of the tree, which shares all contents. At a telling place the
     /// told tree and the tree are walked, where such an operation came since the one before, or is the event.
     pub fn step(&mut self, alloc: Global, pass: u64, event: &Event) -> Result<Reply, NoMemory>
-        requires { IsSound self.old }
+        requires { IsConsistent self.old }
         ensures state { OnOk result (self.new ≡ (step self.old pass event.now).0) }
         ensures reply { IfOk result (λ reply. reply ≡ (step self.old pass event.now).1) }
-        ensures sound { IsSound self.new }
+        ensures sound { IsConsistent self.new }
         ensures err { OnErr result (self.new ≡ self.old) }
     {
         match self.admission(alloc, pass, event)? {
@@ -78,7 +79,7 @@ impl State {
 
     /// Does an event that is admitted, or refuses it for a cause of its own, and tells.
     fn step_admitted(&mut self, alloc: Global, pass: u64, event: &Event) -> Result<Reply, NoMemory>
-        requires sound { IsSound self.old }
+        requires sound { IsConsistent self.old }
         requires admitted { admission self.old pass (event_rule event.now) ≡ nothing }
         ensures state { OnOk result (self.new ≡ (tell event.now (act_admitted self.old pass event.now)).0) }
         ensures reply { IfOk result (λ reply. reply ≡ (tell event.now (act_admitted self.old pass event.now)).1) }
@@ -101,7 +102,7 @@ impl State {
             Event::Checkpoint => true,
             Event::Batch => false,
             Event::Finish => self.batches.has_no_other(pass),
-            Event::EndBatch if self.batches.contains(pass) => self.batches.len() == 1,
+            Event::EndBatch if !self.batches.has_none(pass) => self.batches.has_at_most_one(pass),
             Event::EndBatch
             | Event::Enter
             | Event::Leave
@@ -116,7 +117,7 @@ impl State {
 
     /// Does an event that is no telling place, or refuses it.
     fn act_untold(&mut self, alloc: Global, pass: u64, event: &Event) -> Result<Reply, NoMemory>
-        requires sound { IsSound self.old }
+        requires sound { IsConsistent self.old }
         requires admitted { admission self.old pass (event_rule event.now) ≡ nothing }
         requires untold { tells event.now (act_admitted self.old pass event.now).0 ≡ false }
         ensures state { OnOk result (self.new ≡ (tell event.now (act_admitted self.old pass event.now)).0) }
@@ -132,7 +133,7 @@ impl State {
 
     /// Does the event, or refuses it, and tells nothing.
     fn act(&mut self, alloc: Global, pass: u64, event: &Event) -> Result<Answer, NoMemory>
-        requires sound { IsSound self.old }
+        requires sound { IsConsistent self.old }
         requires admitted { admission self.old pass (event_rule event.now) ≡ nothing }
         ensures state { OnOk result (self.new ≡ (act_admitted self.old pass event.now).0) }
         ensures answer { IfOk result (λ answer. answer ≡ (act_admitted self.old pass event.now).1) }
@@ -146,7 +147,7 @@ impl State {
 
     /// Does an event that changes no resources, or refuses it, and tells nothing.
     fn act_quietly(&mut self, alloc: Global, pass: u64, event: &Event) -> Result<Answer, NoMemory>
-        requires sound { IsSound self.old }
+        requires sound { IsConsistent self.old }
         requires admitted { admission self.old pass (event_rule event.now) ≡ nothing }
         requires quiet { change_of event.now ≡ nothing }
         ensures state { OnOk result (self.new ≡ (act_admitted self.old pass event.now).0) }
@@ -164,11 +165,11 @@ impl State {
             Event::Finish => self.finish(pass),
             Event::Begin(rule) | Event::TryBegin(rule) => self.begin(pass, rule)?,
             Event::End(rule) => return self.end(alloc, pass, rule),
-            Event::Batch => self.batches.push(pass)?,
-            Event::EndBatch if !self.batches.contains(pass) => {
+            Event::Batch => self.batches.begin(pass)?,
+            Event::EndBatch if self.batches.has_none(pass) => {
                 return Answer::refused(alloc, Refusal::NoBatch);
             }
-            Event::EndBatch => self.batches.remove_newest(pass),
+            Event::EndBatch => self.batches.end(pass),
             Event::Checkpoint => {}
             Event::Operation(op) => return self.look(alloc, op),
         }
@@ -177,7 +178,7 @@ impl State {
 
     /// Does an operation that only reads, or refuses it. No tree is copied.
     fn look(&mut self, alloc: Global, op: &Op) -> Result<Answer, NoMemory>
-        requires sound { IsSound self.old }
+        requires sound { IsConsistent self.old }
         requires quiet { change_of (Operation op.now) ≡ nothing }
         ensures state { OnOk result (self.new ≡ (act_operation self.old op.now).0) }
         ensures answer { IfOk result (λ answer. answer ≡ (act_operation self.old op.now).1) }
@@ -188,7 +189,7 @@ impl State {
 
     /// Does an operation, or refuses it, and tells nothing.
     fn change(&mut self, alloc: Global, op: &Op) -> Result<Answer, NoMemory>
-        requires { IsSound self.old }
+        requires { IsConsistent self.old }
         ensures state { OnOk result (self.new ≡ (act_operation self.old op.now).0) }
         ensures answer { IfOk result (λ answer. answer ≡ (act_operation self.old op.now).1) }
         ensures err { OnErr result (self.new ≡ self.old) }
@@ -201,7 +202,7 @@ impl State {
 
     /// The same. The first one after a telling place keeps the told tree.
     fn change_kept(&mut self, alloc: Global, op: &Op) -> Result<Answer, NoMemory>
-        requires { IsSound self.old }
+        requires { IsConsistent self.old }
         ensures state { OnOk result (self.new ≡ (act_operation self.old op.now).0) }
         ensures answer { IfOk result (λ answer. answer ≡ (act_operation self.old op.now).1) }
         ensures err { OnErr result (self.new ≡ self.old) }
@@ -214,7 +215,7 @@ impl State {
     /// Why the operation is refused, where nothing changed since the tree was told: such a refusal needs no copy of
     /// the tree.
     fn first_refusal(&mut self, alloc: Global, op: &Op) -> Result<Option<OpRefusal>, NoMemory>
-        requires { IsSound self.old }
+        requires { IsConsistent self.old }
         ensures refusal { IfOk result (λ r. IfSome r (λ x. ops.refusal (resources_of self.old) op.now ≡ Some x)) }
         ensures same { self.new ≡ self.old }
     {
@@ -226,7 +227,7 @@ impl State {
 
     /// Does an operation that is a telling place, or refuses it, and tells.
     fn change_and_tell(&mut self, alloc: Global, op: &Op) -> Result<Reply, NoMemory>
-        requires { IsSound self.old }
+        requires { IsConsistent self.old }
         ensures state { OnOk result (self.new ≡ (told true (act_operation self.old op.now).0 (act_operation self.old op.now).1).0) }
         ensures reply { IfOk result (λ reply. reply ≡ (told true (act_operation self.old op.now).0 (act_operation self.old op.now).1).1) }
         ensures err { OnErr result (self.new ≡ self.old) }
@@ -242,7 +243,7 @@ impl State {
 
     /// The same. The first one after a telling place keeps the told tree.
     fn change_kept_and_tell(&mut self, alloc: Global, op: &Op) -> Result<Reply, NoMemory>
-        requires { IsSound self.old }
+        requires { IsConsistent self.old }
         ensures state { OnOk result (self.new ≡ (told true (act_operation self.old op.now).0 (act_operation self.old op.now).1).0) }
         ensures reply { IfOk result (λ reply. reply ≡ (told true (act_operation self.old op.now).0 (act_operation self.old op.now).1).1) }
         ensures err { OnErr result (self.new ≡ self.old) }
@@ -256,7 +257,7 @@ impl State {
 
     /// Does an event that is a telling place and changes no resources, or refuses it. What it tells is made before.
     fn tell_and_act(&mut self, alloc: Global, pass: u64, event: &Event) -> Result<Reply, NoMemory>
-        requires sound { IsSound self.old }
+        requires sound { IsConsistent self.old }
         requires tells { tells event.now (act_admitted self.old pass event.now).0 ≡ true }
         requires admitted { admission self.old pass (event_rule event.now) ≡ nothing }
         requires quiet { change_of event.now ≡ nothing }

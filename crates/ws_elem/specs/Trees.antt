@@ -32,6 +32,10 @@ entry_after t p = find (λ e. is_lt (path_cmp p e.0)) (entries t)
 abbrev pub paths_below : Tree → Names → List Names
 paths_below t p = filter (is_prefix p) (keys t)
 
+-- all at or below p, in path order
+abbrev pub branch : Tree → Names → List (Names × Element)
+branch t p = filter (λ e. is_prefix p e.0) (entries t)
+
 -- the tree without p and all below it
 abbrev pub without : Tree → Names → Tree
 without t p = retain_keys t (λ q. not (is_prefix p q))

@@ -3,14 +3,14 @@ ghost use Rattle.std.specs.Prelude.{◌≡◌, None, Some, IfOk, IfErr, OnOk, On
 ghost use Rattle.ws_elem.specs.Trees.{Tree};
 ghost use Rattle.ws_ops.specs.Inside.AtOnce.{IsDone};
 ghost use Rattle.op_plan.specs.Backs.{HasWay, taken_back};
-ghost use Rattle.op_plan.specs.Changes.{HasRooms, KeepsRoom};
+ghost use Rattle.op_plan.specs.Edits.{HasRooms, KeepsRoom};
 ghost use Rattle.op_kind.specs.Effects.{effect};
 ghost use Rattle.op_kind.specs.Judging.{IfRefused};
 ghost use Rattle.op_kind.specs.Partners.{with_partner};
 ghost use Rattle.op_plan.specs.Inside.Plans.{Plans, planned};
 ghost use Rattle.op_kind.specs.Refusals.{refusal};
 ghost use Rattle.op_kind.specs.Resources.{resources};
-ghost use Rattle.op_kind.specs.Sound.{IsSound};
+ghost use Rattle.op_kind.specs.Sound.{IsConsistent};
 ghost use Rattle.op_kind.specs.Stamps.{IsKnown};
 
 use crate::at_once::create_at_once;
@@ -18,7 +18,7 @@ use crate::{
     NoMemory, Op, OpError, Side, contents, creation, deletion, marking, projects, reading, syncing,
     transfer,
 };
-use op_plan::changes::room_for;
+use op_plan::edits::room_for;
 use op_plan::{Applied, Back, Plan};
 use res_path::Name;
 use std::alloc::Global;
@@ -48,9 +48,9 @@ pub fn apply<T: TreeRep>(
     ensures room { KeepsRoom (T.room tree.old) (T.room tree.new) }
     ensures shelf_room { KeepsRoom side.old.shelf.room side.new.shelf.room }
     // Sound resources stay so.
-    ensures sound { IsSound (resources (T.tree tree.old) side.old) → IsSound (resources (T.tree tree.new) side.new) }
+    ensures sound { IsConsistent (resources (T.tree tree.old) side.old) → IsConsistent (resources (T.tree tree.new) side.new) }
     // A remembered tree still agrees with the contents that are there.
-    ensures known { IsSound (resources (T.tree tree.old) side.old) → (t : Tree) → IsKnown (resources (T.tree tree.old) side.old) t → IsKnown (resources (T.tree tree.new) side.new) t }
+    ensures known { IsConsistent (resources (T.tree tree.old) side.old) → (t : Tree) → IsKnown (resources (T.tree tree.old) side.old) t → IsKnown (resources (T.tree tree.new) side.new) t }
     ensures refused { IfErr result (IfRefused (λ r. refusal (resources (T.tree tree.old) side.old) op.now ≡ Some r)) }
     ensures same { OnErr result (resources (T.tree tree.new) side.new ≡ resources (T.tree tree.old) side.old) }
 {

@@ -1,17 +1,18 @@
 //! Creations done at once: one search finds that nothing is at the path, makes room and puts the element there.
 ghost use Rattle.std.specs.Prelude.{◌≡◌, ◌&&◌, true, is_none, None, IfOk, IfSome, OnErr};
 ghost use Rattle.ws_ops.specs.Inside.AtOnce.{IsDone, IsPut};
-ghost use Rattle.op_plan.specs.Changes.{KeepsRoom};
+ghost use Rattle.op_plan.specs.Edits.{KeepsRoom};
 ghost use Rattle.op_kind.specs.Places.{is_member_path};
 ghost use Rattle.op_plan.specs.Inside.Plans.{CanDraw};
-ghost use Rattle.op_kind.specs.Refusals.{first_cause, around_causes};
+ghost use Rattle.proj_desc.specs.FirstCause.{first_cause};
+ghost use Rattle.op_kind.specs.Refusals.{around_causes};
 ghost use Rattle.op_kind.specs.Resources.{resources};
 
 use crate::creation::new_file;
 use crate::{NoMemory, Op, OpAnswer, OpError, Side};
 use bytes::Bytes;
-use op_plan::changes::Earlier;
 use op_plan::checks::check_around;
+use op_plan::edits::Earlier;
 use op_plan::{Applied, Back};
 use res_path::Path;
 use std::alloc::{AllocError, Global};

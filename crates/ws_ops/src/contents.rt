@@ -2,7 +2,8 @@
 ghost use Rattle.std.specs.Prelude.{◌≡◌, ◌+◌, ◌<◌, ◌^◌, Some, IfOk};
 ghost use Rattle.std.specs.FinMap.{get};
 ghost use Rattle.op_kind.specs.Judging.{Judges};
-ghost use Rattle.op_kind.specs.Refusals.{first_cause, derived_causes};
+ghost use Rattle.proj_desc.specs.FirstCause.{first_cause};
+ghost use Rattle.op_kind.specs.Refusals.{derived_causes};
 ghost use Rattle.op_kind.specs.Resources.{resources};
 ghost use Rattle.op_plan.specs.Inside.Plans.{Plans, put_at, stamp_at};
 

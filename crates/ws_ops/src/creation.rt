@@ -3,7 +3,8 @@ ghost use Rattle.std.specs.Prelude.{◌≡◌, ◌∷◌, not, IfOk, OnOk};
 ghost use Rattle.op_kind.specs.Effects.{new_file, new_folder, new_project};
 ghost use Rattle.op_kind.specs.Judging.{Judges};
 ghost use Rattle.op_kind.specs.Places.{is_member_path, is_project_path};
-ghost use Rattle.op_kind.specs.Refusals.{first_cause, when, creation_causes};
+ghost use Rattle.proj_desc.specs.FirstCause.{first_cause, when};
+ghost use Rattle.op_kind.specs.Refusals.{creation_causes};
 ghost use Rattle.op_kind.specs.Resources.{resources};
 ghost use Rattle.op_plan.specs.Inside.Plans.{CanDraw, Plans, create_at};
 

@@ -1,8 +1,9 @@
 //! The plan of a deletion.
 ghost use Rattle.std.specs.Prelude.{◌≡◌, IfOk};
 ghost use Rattle.op_kind.specs.Judging.{Judges};
-ghost use Rattle.op_kind.specs.Members.{branch};
-ghost use Rattle.op_kind.specs.Refusals.{first_cause, deletion_causes};
+ghost use Rattle.ws_elem.specs.Trees.{branch};
+ghost use Rattle.proj_desc.specs.FirstCause.{first_cause};
+ghost use Rattle.op_kind.specs.Refusals.{deletion_causes};
 ghost use Rattle.op_kind.specs.Resources.{resources};
 ghost use Rattle.op_plan.specs.Inside.Lists.{taken};
 ghost use Rattle.op_plan.specs.Inside.Plans.{Plans, no_change};

@@ -5,7 +5,8 @@ ghost use Rattle.std.specs.FinMap.{get, remove};
 ghost use Rattle.mark_set.specs.Causes.{marker_cause, change_cause};
 ghost use Rattle.op_kind.specs.Judging.{Decides, Judges};
 ghost use Rattle.op_kind.specs.Marking.{has_marker, with_marks, with_marker, with_attribute_of, reached};
-ghost use Rattle.op_kind.specs.Refusals.{first_cause, when, marking_causes, mark_causes, attr_causes, unmark_causes};
+ghost use Rattle.proj_desc.specs.FirstCause.{first_cause, when};
+ghost use Rattle.op_kind.specs.Refusals.{marking_causes, mark_causes, attr_causes, unmark_causes};
 ghost use Rattle.op_kind.specs.Resources.{resources};
 ghost use Rattle.op_plan.specs.Inside.Plans.{Plans, put_at, unmark_at};
 

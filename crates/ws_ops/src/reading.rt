@@ -3,7 +3,8 @@ ghost use Rattle.std.specs.Prelude.{◌≡◌, not, Some, IfOk};
 ghost use Rattle.std.specs.FinMap.{get};
 ghost use Rattle.op_kind.specs.Effects.{read};
 ghost use Rattle.op_kind.specs.Judging.{Judges};
-ghost use Rattle.op_kind.specs.Refusals.{first_cause, read_causes, cannot_be_read};
+ghost use Rattle.proj_desc.specs.FirstCause.{first_cause};
+ghost use Rattle.op_kind.specs.Refusals.{read_causes, cannot_be_read};
 ghost use Rattle.op_kind.specs.Resources.{resources};
 ghost use Rattle.op_plan.specs.Inside.Plans.{Plans, no_change};
 

@@ -5,7 +5,8 @@ ghost use Rattle.sync_set.specs.Syncs.{with_bytes};
 ghost use Rattle.op_kind.specs.Judging.{Judges};
 ghost use Rattle.op_kind.specs.Marking.{reached};
 ghost use Rattle.op_kind.specs.Partners.{is_partner, number_of};
-ghost use Rattle.op_kind.specs.Refusals.{first_cause, when, sync_causes, flush_causes};
+ghost use Rattle.proj_desc.specs.FirstCause.{first_cause, when};
+ghost use Rattle.op_kind.specs.Refusals.{sync_causes, flush_causes};
 ghost use Rattle.op_kind.specs.Resources.{resources};
 ghost use Rattle.op_plan.specs.Inside.Plans.{Plans, put_at, unsync_at};
 

@@ -6,12 +6,14 @@ ghost use Rattle.std.specs.List.{list_all};
 ghost use Rattle.res_path.specs.Paths.{is_prefix, path_text};
 ghost use Rattle.op_kind.specs.Effects.{copies, renumbered, stamped};
 ghost use Rattle.op_kind.specs.Judging.{Decides, Judges, IfRefused};
-ghost use Rattle.op_kind.specs.Members.{branch, carried, rebased};
+ghost use Rattle.ws_elem.specs.Trees.{branch};
+ghost use Rattle.op_kind.specs.Members.{carried, rebased};
 ghost use Rattle.op_kind.specs.Numbers.{has_stamp, stamps_of, stamps_of_all};
 ghost use Rattle.op_kind.specs.Places.{is_root_path, is_project_path, project_name};
 ghost use Rattle.op_plan.specs.Inside.Lists.{put, taken};
 ghost use Rattle.op_plan.specs.Inside.Plans.{CanDraw, Plans, no_change};
-ghost use Rattle.op_kind.specs.Refusals.{first_cause, when, standing_causes, fit_causes, transfer_causes, copy_causes, goes_too_deep, gets_too_long, description_cause};
+ghost use Rattle.proj_desc.specs.FirstCause.{first_cause, when};
+ghost use Rattle.op_kind.specs.Refusals.{standing_causes, fit_causes, transfer_causes, copy_causes, goes_too_deep, gets_too_long, description_cause};
 ghost use Rattle.op_kind.specs.Resources.{resources};
 
 use crate::{Entries, NoMemory, Op, OpError, OpRefusal, Side};

@@ -1,7 +1,8 @@
-pub mod Dropped
-pub mod Written
-pub mod Printed
+pub mod Lines
+pub mod Fronts
 pub mod Taken
-pub mod Ended
 pub mod Stays
-pub mod Judged
+pub mod Asked
+pub mod Performed
+pub mod Responded
+pub mod Answered

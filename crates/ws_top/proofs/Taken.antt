@@ -2,6 +2,9 @@
 use Rattle.std.proofs.Common.{◌≡◌, ◌⊎◌, inl, inr, ℕ, ◌+◌, ◌≤◌, List, [], ◌++◌, length, Option, Some, None, refl, sym, ◌∙◌, ap, subst, arith, append_assoc, length-append}
 use Rattle.std.specs.Prelude.{option_map, IfSome}
 use Rattle.ws_outside.specs.Streams.{Takes, CountsOne}
+use Rattle.ws_top.specs.declared.reading.Unread.{Unread}
+use Rattle.ws_top.specs.declared.reading.Unread.TheVariants.{Fault, TooLong, Memory}
+use Rattle.ws_top.specs.Inside.Parts.{IsUnreadCause, IsUnreadLength}
 use Rattle.ws_top.specs.Limits.{longest, Reads, ReadsShort, ReadsLong}
 
 pub takes_none : (told : Option (List ℕ)) → Takes told [] told
@@ -75,3 +78,13 @@ short_more a b c xs ys h g l = (xs ++ ys, omega (arith, l, length-append xs ys),
 
 pub long_more : (a b c : Option (List ℕ)) (xs ys : List ℕ) → Takes a xs b → Takes b ys c → length xs + length ys ≡ longest + 1 → ReadsLong a c
 long_more a b c xs ys h g l = (xs ++ ys, omega (arith, l, length-append xs ys), takes_more a b c xs ys h g)
+
+-- a cause that comes later, where no read failed before
+pub cause_on : (e : Unread) (f g h : ℕ) → g ≡ f → IsUnreadCause e g h → IsUnreadCause e f h
+cause_on e f g h c k = subst (λ (n : ℕ). IsUnreadCause e n h) c k
+
+-- no more was read than the longest script has
+pub length_short : (e : Unread) (a b : Option (List ℕ)) → (e ≡ TooLong → ⊥) → ReadsShort a b → IsUnreadLength e a b
+length_short Fault a b n s = s
+length_short TooLong a b n s = absurd (n refl)
+length_short Memory a b n s = s

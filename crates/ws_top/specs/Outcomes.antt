@@ -1,24 +1,28 @@
 -- What a run read, did and wrote, by its status.
-use Rattle.std.specs.Prelude.{◌≡◌, ◌≢◌, ◌⊎◌, ◌↔◌, ℕ, List, [], ◌++◌, map, Option, Some}
+use Rattle.std.specs.Prelude.{◌≡◌, ◌≢◌, ◌⊎◌, ◌↔◌, ◌≤◌, ℕ, List, [], ◌∷◌, ◌++◌, map, length, Option, Some, None}
 use Rattle.ws_outside.specs.Faults.{Rose}
-use Rattle.ws_outside.specs.Streams.{Gains, GainsFront}
+use Rattle.ws_outside.specs.Streams.{Gains, GainsFront, IsAtEnd}
 use Rattle.script_lang.specs.declared.script.Script.{Script}
 use Rattle.script_lang.specs.Scripts.{IsScript, IsFirstBad}
 use Rattle.core_event.specs.declared.entry.Entry.{Entry}
+use Rattle.ws_core.specs.declared.state.State.{State}
+use Rattle.ws_core.specs.Histories.{fresh, Legal, notices, told_of}
 use Rattle.ws_top.specs.declared.words.Form.{Form}
-use Rattle.ws_top.specs.declared.words.Form.TheVariants.{Run, Help, Version}
-use Rattle.ws_core.specs.Histories.{fresh}
-use Rattle.ws_top.specs.Limits.{ReadsAll}
+use Rattle.ws_top.specs.declared.words.Form.TheVariants.{Help, Version}
+use Rattle.ws_top.specs.Forms.{IsRun, help_text, version_text}
+use Rattle.ws_top.specs.Limits.{longest, Reads, ReadsAll, ReadsShort, ReadsLong}
 use Rattle.ws_top.specs.Texts.{text, status_line, bad_line}
 use Rattle.ws_top.specs.Runs.{Call, call_of, calls}
 
--- the words ask for a run
-abbrev pub IsRun : Option Form → Type 0
-IsRun form = form ≡ Some Run
+-- the state that a run opens
+abbrev pub opened_state : State
+opened_state = fresh
 
--- the words ask for a text of the program's own
-abbrev pub IsTelling : Option Form → Type 0
-IsTelling form = (form ≡ Some Help) ⊎ (form ≡ Some Version)
+-- ---- statuses
+
+-- the statuses with which the program ends
+abbrev pub IsStatus : ℕ → Type 0
+IsStatus status = (status ≡ 0) ⊎ (status ≡ 2) ⊎ (status ≡ 3) ⊎ (status ≡ 4) ⊎ (status ≡ 6) ⊎ (status ≡ 8) ⊎ (status ≡ 9)
 
 -- the status is none of those of a source that wasn't read to its end, and memory sufficed
 pub record WasRead (status : ℕ) : Type 0 where
@@ -39,9 +43,21 @@ WasUnread status = (status ≡ 2) ⊎ (status ≡ 3) ⊎ (status ≡ 9)
 abbrev pub WasIdle : ℕ → Type 0
 WasIdle status = WasUnread status ⊎ (status ≡ 6)
 
--- one of the statuses of a run whose source was read to its end
-abbrev pub IsResponse : ℕ → Type 0
-IsResponse status = WasRun status ⊎ (status ≡ 6) ⊎ (status ≡ 8)
+-- ---- faults
+
+-- A failed read is told by the status 3, and by no other.
+pub record TellsReadFault (before after status : ℕ) : Type 0 where
+  pub rose_at_3 : status ≡ 3 → Rose before after
+  pub calm_else : status ≢ 3 → after ≡ before
+
+-- A failed write is told by the status 4, or by one whose cause came earlier: at 8 that is where memory had wanted
+-- before the first failed write.
+pub record TellsWriteFault (before after status : ℕ) (WantedBefore : Type 0) : Type 0 where
+  pub rose_at_4 : status ≡ 4 → Rose before after
+  pub calm_at_0 : status ≡ 0 → after ≡ before
+  pub calm_or_later_at_8 : status ≡ 8 → (after ≡ before) ⊎ WantedBefore
+
+-- ---- what is done
 
 -- the bytes spell no script
 abbrev pub SpellsNone : List ℕ → Type 0
@@ -55,9 +71,15 @@ Shuffle script h = map call_of h ≡ calls script.phases
 abbrev pub CutShuffle : Script → List Entry → Type 0
 CutShuffle script h = (others : List Call) × (map call_of h ++ others ≡ calls script.phases)
 
--- the source was read to its end; its bytes spell a script or spell none, as the status says
-abbrev pub Judges : Option (List ℕ) → Option (List ℕ) → ℕ → Type 0
-Judges old new status = (bytes : List ℕ) × ReadsAll old new bytes × ((status ≡ 6) ↔ SpellsNone bytes)
+-- the same, and at least one call was not made
+abbrev pub StoppedShuffle : Script → List Entry → Type 0
+StoppedShuffle script h = (next : Call) × (later : List Call) × (map call_of h ++ next ∷ later ≡ calls script.phases)
+
+-- the bytes spell a script, and what was run is made of it in this way
+pub record Spelled (Made : Script → List Entry → Type 0) (bytes : List ℕ) (h : List Entry) : Type 0 where
+  pub script : Script
+  pub spelled : IsScript bytes script
+  pub made : Made script h
 
 -- the source was read to its end, its bytes spell a script, and what was run is made of it in this way
 pub record Ran (Made : Script → List Entry → Type 0) (old new : Option (List ℕ)) (h : List Entry) : Type 0 where
@@ -75,6 +97,44 @@ RanAll = Ran Shuffle
 abbrev pub RanSome : Option (List ℕ) → Option (List ℕ) → List Entry → Type 0
 RanSome = Ran CutShuffle
 
+-- memory wanted before the run's end: nothing was done, or at least one call was not made
+abbrev pub WasStopped : Option (List ℕ) → Option (List ℕ) → List Entry → Type 0
+WasStopped old new h = (h ≡ []) ⊎ Ran StoppedShuffle old new h
+
+-- The run's history is one thread's: from the opened state each reply is the one that the table of steps gives at its
+-- place, and each notice is the delta between two telling places.
+pub record IsOneThread (opened : State) (h : List Entry) : Type 0 where
+  pub legal : Legal opened h
+  pub told : told_of h ≡ notices opened h
+
+-- What was done: `All` says that it is all of the script, `Front` that it is a front of it.
+pub record DoesScript (All Front : List Entry → Type 0) (status : ℕ) (h : List Entry) : Type 0 where
+  pub all_at_0_and_4 : WasRun status → All h
+  pub some_at_8 : status ≡ 8 → (h ≡ []) ⊎ Front h
+
+-- ---- what is written
+
+-- the text of a want of memory: of what was done and the status, or the status alone where nothing was opened
+abbrev pub IsTextCut : State → List Entry → List ℕ → Type 0
+IsTextCut opened h written = (written ≡ text opened h 8) ⊎ ((h ≡ []) × (written ≡ status_line 8))
+
+-- some front of that text was written
+pub record WritesCut (opened : State) (old new : Option (List ℕ)) (h : List Entry) : Type 0 where
+  pub written : List ℕ
+  pub is_cut : IsTextCut opened h written
+  pub front : GainsFront old written new
+
+-- What was written is the text of what was done: all of it, a front of it where a write failed, or a front of the text of
+-- a want of memory.
+pub record WritesText (opened : State) (old new : Option (List ℕ)) (status : ℕ) (h : List Entry) : Type 0 where
+  pub all_at_0 : status ≡ 0 → Gains old (text opened h 0) new
+  pub front_at_4 : status ≡ 4 → GainsFront old (text opened h 0) new
+  pub front_at_8 : status ≡ 8 → WritesCut opened old new h
+
+-- the text was written; or a front of it, and then a write failed
+abbrev pub Writes : Option (List ℕ) → Option (List ℕ) → ℕ → ℕ → List ℕ → Type 0
+Writes old new before after text = Gains old text new ⊎ (GainsFront old text new × Rose before after)
+
 -- the source was read to its end, its bytes spell no script, and this is the text that names the first bad line
 pub record IsTextBad (old new : Option (List ℕ)) (written : List ℕ) : Type 0 where
   pub bytes : List ℕ
@@ -84,16 +144,56 @@ pub record IsTextBad (old new : Option (List ℕ)) (written : List ℕ) : Type 0
   pub place : IsFirstBad bytes line
   pub line_is : written ≡ bad_line line
 
--- the text of a want of memory: of what was done and the status, or the status alone where nothing was opened
-abbrev pub IsTextCut : List Entry → List ℕ → Type 0
-IsTextCut h written = (written ≡ text fresh h 8) ⊎ ((h ≡ []) × (written ≡ status_line 8))
+-- ---- a whole run
 
--- some front of that text was written
-pub record WritesCut (old new : Option (List ℕ)) (h : List Entry) : Type 0 where
-  pub written : List ℕ
-  pub is_cut : IsTextCut h written
-  pub front : GainsFront old written new
+-- What was read, at most one byte more than the longest script has, and so much just at the status 9.
+pub record ReadsNoMore (old new : Option (List ℕ)) (before after : Option ℕ) (status : ℕ) : Type 0 where
+  pub few : (bytes : List ℕ) × Reads old new before after bytes
+  pub one_too_many_at_9 : status ≡ 9 → ReadsLong old new
+  pub short_else : status ≢ 9 → ReadsShort old new
 
--- the text was written; or a front of it, and then a write failed
-abbrev pub Writes : Option (List ℕ) → Option (List ℕ) → ℕ → ℕ → List ℕ → Type 0
-Writes old new before after text = Gains old text new ⊎ (GainsFront old text new × Rose before after)
+-- the source was read to its end; its bytes spell a script or spell none, as the status says
+abbrev pub Judges : Option (List ℕ) → Option (List ℕ) → ℕ → Type 0
+Judges old new status = (bytes : List ℕ) × ReadsAll old new bytes × ((status ≡ 6) ↔ SpellsNone bytes)
+
+-- where nothing failed and the bytes to read spell a script that isn't too long, it is run, or memory wants
+abbrev pub Completes : Option (List ℕ) → Type 0 → Type 0 → ℕ → Type 0
+Completes left ReadFailed WriteFailed status = (ReadFailed → ⊥) → (WriteFailed → ⊥)
+    → (bytes : List ℕ) (script : Script) → left ≡ Some bytes → length bytes ≤ longest → IsScript bytes script → (status ≡ 0) ⊎ (status ≡ 8)
+
+-- The source `left` what it had to read, and the sink went from `old` to `new`.
+pub record RunsScript (opened : State) (left after_reading old new : Option (List ℕ)) (before after status : ℕ) (h : List Entry) : Type 0 where
+  pub to_its_end : WasRead status → IsAtEnd after_reading
+  pub judged : WasRead status → Judges left after_reading status
+  pub nothing_if_idle : WasIdle status → h ≡ []
+  pub done : DoesScript (RanAll left after_reading) (RanSome left after_reading) status h
+  pub text : WritesText opened old new status h
+  pub bad_line_at_6 : status ≡ 6 → (written : List ℕ) × IsTextBad left after_reading written × Writes old new before after written
+
+-- the text was told, where no write failed, and nothing else was done
+pub record Tells (text : List ℕ) (old new : Option (List ℕ)) (before after status : ℕ) : Type 0 where
+  pub told : Writes old new before after text
+  pub ends : (status ≡ 0) ⊎ ((status ≡ 4) × Rose before after)
+
+-- no read was made, and nothing was done
+pub record DoesNothing (old new : Option (List ℕ)) (reads_before reads_after : Option ℕ) (before after : ℕ) (h : List Entry) : Type 0 where
+  pub left : new ≡ old
+  pub reads : reads_after ≡ reads_before
+  pub faults : after ≡ before
+  pub nothing : h ≡ []
+
+-- What the program answers to words of a form, or of none.
+pub record EndsProgram (form : Option Form) (left after_reading : Option (List ℕ)) (reads_before reads_after : Option ℕ) (reads_failed reads_fail : ℕ)
+    (old new : Option (List ℕ)) (before after status : ℕ) (h : List Entry) : Type 0 where
+  pub ends : IsStatus status
+  pub usage : (status ≡ 2) ↔ (form ≡ None)
+  pub read_fault : TellsReadFault reads_failed reads_fail status
+  pub write_fault : TellsWriteFault before after status (WasStopped left after_reading h)
+  pub complete : IsRun form → Completes left (Rose reads_failed reads_fail) (Rose before after) status
+  pub reads : ReadsNoMore left after_reading reads_before reads_after status
+  pub thread : IsOneThread opened_state h
+  pub runs : IsRun form → RunsScript opened_state left after_reading old new before after status h
+  pub line : WasUnread status → Writes old new before after (status_line status)
+  pub help : form ≡ Some Help → Tells help_text old new before after status
+  pub version : form ≡ Some Version → Tells version_text old new before after status
+  pub unread : (IsRun form → ⊥) → DoesNothing left after_reading reads_before reads_after reads_failed reads_fail h

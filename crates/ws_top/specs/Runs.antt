@@ -1,5 +1,5 @@
 -- The order in which a script is run by one worker.
-use Rattle.std.specs.Prelude.{◌≡◌, ℕ, true, List, [], ◌∷◌, ◌++◌, map}
+use Rattle.std.specs.Prelude.{ℕ, List, [], ◌∷◌, ◌++◌, map}
 use Rattle.std.specs.List.{flat_map}
 use Rattle.script_lang.specs.declared.script.Command.{Command}
 use Rattle.script_lang.specs.declared.script.Command.TheVariants as commands
@@ -9,8 +9,6 @@ use Rattle.script_lang.specs.Commands.{priority_number}
 use Rattle.core_event.specs.declared.event.Event.{Event}
 use Rattle.core_event.specs.declared.event.Event.TheVariants.{Enter, Leave, Schedule, Take, Finish, Begin, TryBegin, End, Batch, EndBatch, Checkpoint, Operation}
 use Rattle.core_event.specs.declared.entry.Entry.{Entry}
-use Rattle.ws_core.specs.declared.state.State.{State}
-use Rattle.ws_core.specs.Histories.{has_entered}
 
 -- who asks what
 abbrev pub Call : Type 0
@@ -51,16 +49,3 @@ phase_calls phase = map schedule_call phase.jobs ++ flat_map job_calls phase.job
 abbrev pub calls : List Phase → List Call
 calls [] = []
 calls (phase ∷ phases) = (0, Enter) ∷ flat_map phase_calls (phase ∷ phases) ++ (1, Leave) ∷ []
-
--- these calls were made after what was done before, in this order
-abbrev pub Asks : List Entry → List Entry → List Call → Type 0
-Asks old new made = map call_of new ≡ map call_of old ++ made
-
--- the first of these calls were made after what was done before, in this order
-pub record AsksFront (old new : List Entry) (made : List Call) : Type 0 where
-  pub others : List Call
-  pub front : map call_of new ++ others ≡ map call_of old ++ made
-
--- each pass that had entered is still there
-abbrev pub Stay : State → State → Type 0
-Stay s t = (p : ℕ) → has_entered p s ≡ true → has_entered p t ≡ true

@@ -1,14 +1,17 @@
 //! A script is run by one worker, event by event.
-ghost use Rattle.std.specs.Prelude.{◌≡◌, ◌∷◌, [], map, true, false, IfOk, OnOk, OnErr};
+ghost use Rattle.std.specs.Prelude.{◌≡◌, ◌∷◌, ◌++◌, [], map, true, false, IfOk, OnOk, MatchResult};
 ghost use Rattle.std.specs.List.{flat_map};
 ghost use Rattle.core_event.specs.Events.{is_leave};
-ghost use Rattle.ws_core.specs.Histories.{has_entered, fresh};
-ghost use Rattle.ws_top.specs.Runs.{Asks, AsksFront, Stay, event_of, command_call, schedule_event, schedule_call, job_calls, phase_calls, calls};
+ghost use Rattle.ws_core.specs.Histories.{has_entered};
+ghost use Rattle.ws_top.specs.Inside.Asking.{DoesCalls, DoesFront, Does};
+ghost use Rattle.ws_top.specs.Outcomes.{opened_state};
+ghost use Rattle.ws_top.specs.Runs.{event_of, command_call, schedule_event, schedule_call, job_calls, phase_calls, calls};
 
 use crate::NoMemory;
+use core_event::Event;
 use script_lang::{Command, Job, Phase, Phases};
 use std::alloc::Global;
-use ws_core::{Core, Event};
+use ws_core::Core;
 
 /// What a command asks.
 fn event_of(command: Command) -> Event
@@ -25,15 +28,11 @@ fn event_of(command: Command) -> Event
     }
 }
 
-/// The pass asks the core.
-#[tactic(auto, using(crate::proofs::Stays::asks_one, crate::proofs::Stays::stay_step, crate::proofs::Stays::front_same))]
+/// The pass asks the core, and stays.
 fn ask(core: &mut Core, alloc: Global, pass: u64, event: Event) -> Result<(), NoMemory>
-    requires { has_entered pass core.old.state ≡ true }
-    ensures opened { core.new.opened ≡ core.old.opened }
-    ensures asked { OnOk result (Asks core.old.history core.new.history ((pass, event) ∷ [])) }
-    ensures front { OnErr result (AsksFront core.old.history core.new.history ((pass, event) ∷ [])) }
-    ensures stays { OnOk result (is_leave event ≡ false → Stay core.old.state core.new.state) }
-    ensures err { OnErr result (core.new ≡ core.old) }
+    requires entered { has_entered pass core.old.state ≡ true }
+    requires stays { is_leave event ≡ false }
+    ensures does { Does core.old core.new ((pass, event) ∷ []) result }
 {
     match core.step(alloc, pass, event) {
         Ok(()) => Ok(()),
@@ -42,13 +41,9 @@ fn ask(core: &mut Core, alloc: Global, pass: u64, event: Event) -> Result<(), No
 }
 
 /// The worker does the command.
-#[tactic(auto, using(crate::proofs::Stays::command_stays, crate::proofs::Stays::front_here))]
 fn do_command(core: &mut Core, alloc: Global, command: Command) -> Result<(), NoMemory>
     requires { has_entered 1 core.old.state ≡ true }
-    ensures opened { core.new.opened ≡ core.old.opened }
-    ensures asked { OnOk result (Asks core.old.history core.new.history (command_call command ∷ [])) }
-    ensures front { OnErr result (AsksFront core.old.history core.new.history (command_call command ∷ [])) }
-    ensures stays { OnOk result (Stay core.old.state core.new.state) }
+    ensures does { Does core.old core.new (command_call command ∷ []) result }
 {
     ask(core, alloc, 1, event_of(command))
 }
@@ -63,13 +58,9 @@ fn schedule_of(job: &Job) -> Result<Event, NoMemory>
 }
 
 /// Pass 0 schedules the job.
-#[tactic(auto, using(crate::proofs::Stays::front_here))]
 fn schedule_one(core: &mut Core, alloc: Global, job: &Job) -> Result<(), NoMemory>
     requires { has_entered 0 core.old.state ≡ true }
-    ensures opened { core.new.opened ≡ core.old.opened }
-    ensures asked { OnOk result (Asks core.old.history core.new.history (schedule_call job.now ∷ [])) }
-    ensures front { OnErr result (AsksFront core.old.history core.new.history (schedule_call job.now ∷ [])) }
-    ensures stays { OnOk result (Stay core.old.state core.new.state) }
+    ensures does { Does core.old core.new (schedule_call job.now ∷ []) result }
 {
     match schedule_of(job) {
         Ok(event) => ask(core, alloc, 0, event),
@@ -78,13 +69,9 @@ fn schedule_one(core: &mut Core, alloc: Global, job: &Job) -> Result<(), NoMemor
 }
 
 /// The worker does the commands, in order.
-#[tactic(auto, using(crate::proofs::Stays::stay_on, crate::proofs::Stays::front_first))]
 fn do_commands(core: &mut Core, alloc: Global, commands: Vec<Command>) -> Result<(), NoMemory>
     requires { has_entered 1 core.old.state ≡ true }
-    ensures opened { core.new.opened ≡ core.old.opened }
-    ensures asked { OnOk result (Asks core.old.history core.new.history (map command_call commands.items)) }
-    ensures front { OnErr result (AsksFront core.old.history core.new.history (map command_call commands.items)) }
-    ensures stays { OnOk result (Stay core.old.state core.new.state) }
+    ensures does { Does core.old core.new (map command_call commands.items) result }
 {
     for command in commands {
         match do_command(core, alloc, command) {
@@ -96,13 +83,9 @@ fn do_commands(core: &mut Core, alloc: Global, commands: Vec<Command>) -> Result
 }
 
 /// Pass 0 schedules the jobs, in order.
-#[tactic(auto, using(crate::proofs::Stays::stay_on, crate::proofs::Stays::front_in_map))]
 fn schedule(core: &mut Core, alloc: Global, jobs: &[Job]) -> Result<(), NoMemory>
     requires { has_entered 0 core.old.state ≡ true }
-    ensures opened { core.new.opened ≡ core.old.opened }
-    ensures asked { OnOk result (Asks core.old.history core.new.history (map schedule_call jobs.now)) }
-    ensures front { OnErr result (AsksFront core.old.history core.new.history (map schedule_call jobs.now)) }
-    ensures stays { OnOk result (Stay core.old.state core.new.state) }
+    ensures does { Does core.old core.new (map schedule_call jobs.now) result }
 {
     for job in jobs {
         match schedule_one(core, alloc, job) {
@@ -113,34 +96,32 @@ fn schedule(core: &mut Core, alloc: Global, jobs: &[Job]) -> Result<(), NoMemory
     Ok(())
 }
 
-/// The worker takes the job, does its commands and finishes.
-#[tactic(auto, using(crate::proofs::Stays::asks_none, crate::proofs::Stays::asks_more, crate::proofs::Stays::stay_same, crate::proofs::Stays::stay_on, crate::proofs::Stays::front_before, crate::proofs::Stays::front_between, crate::proofs::Stays::front_last))]
-fn do_job(core: &mut Core, alloc: Global, job: Job) -> Result<(), NoMemory>
+/// The worker takes a job and does its commands.
+fn take_and_do(core: &mut Core, alloc: Global, commands: Vec<Command>) -> Result<(), NoMemory>
     requires { has_entered 1 core.old.state ≡ true }
-    ensures opened { core.new.opened ≡ core.old.opened }
-    ensures asked { OnOk result (Asks core.old.history core.new.history (job_calls job)) }
-    ensures front { OnErr result (AsksFront core.old.history core.new.history (job_calls job)) }
-    ensures stays { OnOk result (Stay core.old.state core.new.state) }
+    ensures does { Does core.old core.new ((1, Event.Take) ∷ map command_call commands.items) result }
 {
     match ask(core, alloc, 1, Event::Take) {
-        Ok(()) => {}
-        Err(error) => return Err(error),
+        Ok(()) => do_commands(core, alloc, commands),
+        Err(error) => Err(error),
     }
-    match do_commands(core, alloc, job.commands.into_vec()) {
-        Ok(()) => {}
-        Err(error) => return Err(error),
+}
+
+/// The worker takes the job, does its commands and finishes.
+fn do_job(core: &mut Core, alloc: Global, job: Job) -> Result<(), NoMemory>
+    requires { has_entered 1 core.old.state ≡ true }
+    ensures does { Does core.old core.new (job_calls job) result }
+{
+    match take_and_do(core, alloc, job.commands.into_vec()) {
+        Ok(()) => ask(core, alloc, 1, Event::Finish),
+        Err(error) => Err(error),
     }
-    ask(core, alloc, 1, Event::Finish)
 }
 
 /// The worker does the jobs, one after another.
-#[tactic(auto, using(crate::proofs::Stays::stay_on, crate::proofs::Stays::front_in))]
 fn do_jobs(core: &mut Core, alloc: Global, jobs: Vec<Job>) -> Result<(), NoMemory>
     requires { has_entered 1 core.old.state ≡ true }
-    ensures opened { core.new.opened ≡ core.old.opened }
-    ensures asked { OnOk result (Asks core.old.history core.new.history (flat_map job_calls jobs.items)) }
-    ensures front { OnErr result (AsksFront core.old.history core.new.history (flat_map job_calls jobs.items)) }
-    ensures stays { OnOk result (Stay core.old.state core.new.state) }
+    ensures does { Does core.old core.new (flat_map job_calls jobs.items) result }
 {
     for job in jobs {
         match do_job(core, alloc, job) {
@@ -152,31 +133,22 @@ fn do_jobs(core: &mut Core, alloc: Global, jobs: Vec<Job>) -> Result<(), NoMemor
 }
 
 /// The jobs of a phase are scheduled and then run.
-#[tactic(auto, using(crate::proofs::Stays::asks_none, crate::proofs::Stays::asks_more, crate::proofs::Stays::stay_same, crate::proofs::Stays::stay_on, crate::proofs::Stays::front_before, crate::proofs::Stays::front_after))]
 fn do_phase(core: &mut Core, alloc: Global, phase: Phase) -> Result<(), NoMemory>
     requires first { has_entered 0 core.old.state ≡ true }
     requires worker { has_entered 1 core.old.state ≡ true }
-    ensures opened { core.new.opened ≡ core.old.opened }
-    ensures asked { OnOk result (Asks core.old.history core.new.history (phase_calls phase)) }
-    ensures front { OnErr result (AsksFront core.old.history core.new.history (phase_calls phase)) }
-    ensures stays { OnOk result (Stay core.old.state core.new.state) }
+    ensures does { Does core.old core.new (phase_calls phase) result }
 {
     match schedule(core, alloc, phase.jobs.as_slice()) {
-        Ok(()) => {}
-        Err(error) => return Err(error),
+        Ok(()) => do_jobs(core, alloc, phase.jobs.into_vec()),
+        Err(error) => Err(error),
     }
-    do_jobs(core, alloc, phase.jobs.into_vec())
 }
 
 /// The phases are run, one after another.
-#[tactic(auto, using(crate::proofs::Stays::stay_on, crate::proofs::Stays::front_in))]
 fn do_phases(core: &mut Core, alloc: Global, phases: Vec<Phase>) -> Result<(), NoMemory>
     requires first { has_entered 0 core.old.state ≡ true }
     requires worker { has_entered 1 core.old.state ≡ true }
-    ensures opened { core.new.opened ≡ core.old.opened }
-    ensures asked { OnOk result (Asks core.old.history core.new.history (flat_map phase_calls phases.items)) }
-    ensures front { OnErr result (AsksFront core.old.history core.new.history (flat_map phase_calls phases.items)) }
-    ensures stays { OnOk result (Stay core.old.state core.new.state) }
+    ensures does { Does core.old core.new (flat_map phase_calls phases.items) result }
 {
     for phase in phases {
         match do_phase(core, alloc, phase) {
@@ -187,13 +159,10 @@ fn do_phases(core: &mut Core, alloc: Global, phases: Vec<Phase>) -> Result<(), N
     Ok(())
 }
 
-/// A worker enters the fresh workspace.
-#[tactic(auto, using(crate::proofs::Stays::asks_one, crate::proofs::Stays::first_entered, crate::proofs::Stays::pass_0_entered, crate::proofs::Stays::front_same))]
+/// A worker enters the workspace that was opened.
 fn enter(core: &mut Core, alloc: Global) -> Result<(), NoMemory>
-    requires { core.old.state ≡ fresh }
-    ensures opened { core.new.opened ≡ core.old.opened }
-    ensures asked { OnOk result (Asks core.old.history core.new.history ((0, Event.Enter) ∷ [])) }
-    ensures front { OnErr result (AsksFront core.old.history core.new.history ((0, Event.Enter) ∷ [])) }
+    requires { core.old.state ≡ opened_state }
+    ensures does { Does core.old core.new ((0, Event.Enter) ∷ []) result }
     ensures first { OnOk result (has_entered 0 core.new.state ≡ true) }
     ensures worker { OnOk result (has_entered 1 core.new.state ≡ true) }
 {
@@ -203,24 +172,40 @@ fn enter(core: &mut Core, alloc: Global) -> Result<(), NoMemory>
     }
 }
 
-/// Runs the phases of a script on a fresh workspace: a worker enters, does their jobs and leaves.
-#[tactic(auto, using(crate::proofs::Stays::asks_none, crate::proofs::Stays::asks_more, crate::proofs::Stays::front_before, crate::proofs::Stays::front_between, crate::proofs::Stays::front_last))]
+/// The worker does the phases and leaves.
+fn do_and_leave(core: &mut Core, alloc: Global, phases: Vec<Phase>) -> Result<(), NoMemory>
+    requires first { has_entered 0 core.old.state ≡ true }
+    requires worker { has_entered 1 core.old.state ≡ true }
+    ensures does { MatchResult result (λ _. DoesCalls core.old core.new (flat_map phase_calls phases.items ++ (1, Event.Leave) ∷ []))
+        (λ _. DoesFront core.old core.new (flat_map phase_calls phases.items ++ (1, Event.Leave) ∷ [])) }
+{
+    match do_phases(core, alloc, phases) {
+        Ok(()) => leave(core, alloc),
+        Err(error) => Err(error),
+    }
+}
+
+/// The worker leaves.
+fn leave(core: &mut Core, alloc: Global) -> Result<(), NoMemory>
+    requires { has_entered 1 core.old.state ≡ true }
+    ensures does { MatchResult result (λ _. DoesCalls core.old core.new ((1, Event.Leave) ∷ [])) (λ _. DoesFront core.old core.new ((1, Event.Leave) ∷ [])) }
+{
+    match core.step(alloc, 1, Event::Leave) {
+        Ok(()) => Ok(()),
+        Err(error) => Err(error),
+    }
+}
+
+/// Runs the phases of a script on the workspace that was opened: a worker enters, does their jobs and leaves.
 pub fn run_phases(core: &mut Core, alloc: Global, phases: Phases) -> Result<(), NoMemory>
-    requires { core.old.state ≡ fresh }
-    ensures opened { core.new.opened ≡ core.old.opened }
-    ensures asked { OnOk result (Asks core.old.history core.new.history (calls phases)) }
-    ensures front { OnErr result (AsksFront core.old.history core.new.history (calls phases)) }
+    requires { core.old.state ≡ opened_state }
+    ensures does { MatchResult result (λ _. DoesCalls core.old core.new (calls phases)) (λ _. DoesFront core.old core.new (calls phases)) }
 {
     if phases.as_slice().is_empty() {
         return Ok(());
     }
     match enter(core, alloc) {
-        Ok(()) => {}
-        Err(error) => return Err(error),
+        Ok(()) => do_and_leave(core, alloc, phases.into_vec()),
+        Err(error) => Err(error),
     }
-    match do_phases(core, alloc, phases.into_vec()) {
-        Ok(()) => {}
-        Err(error) => return Err(error),
-    }
-    ask(core, alloc, 1, Event::Leave)
 }

@@ -1,8 +1,9 @@
 //! A source is read to its end.
-ghost use Rattle.std.specs.Prelude.{◌≡◌, ◌+◌, ◌≤◌, ◌<◌, ◌⊎◌, ◌≢◌, ℕ, List, length, Err, IfOk, OnErr, OnOk};
+ghost use Rattle.std.specs.Prelude.{◌≡◌, ◌+◌, ◌≤◌, ◌⊎◌, ◌≢◌, ℕ, List, length, Err, IfOk, IfErr, OnErr, OnOk};
 ghost use Rattle.ws_outside.specs.Faults.{Rose};
 ghost use Rattle.ws_outside.specs.Streams.{Takes, IsAtEnd, CountsOne};
-ghost use Rattle.ws_top.specs.Limits.{longest, Reads, ReadsAll, ReadsShort, ReadsLong};
+ghost use Rattle.ws_top.specs.Inside.Parts.{IsUnreadCause, IsUnreadLength};
+ghost use Rattle.ws_top.specs.Limits.{longest, Reads, ReadsAll};
 
 use crate::NoMemory;
 use std::alloc::Global;
@@ -28,11 +29,10 @@ pub enum Unread {
 /// Reads the source to its end. At most one byte more is read than the longest script has.
 pub fn read_all<S: Source>(alloc: Global, source: &mut S) -> Result<Vec<u8>, Unread>
     ensures read { IfOk result (λ bytes. ReadsAll (S.left source.old) (S.left source.new) bytes.items) }
-    ensures fault { result ≡ Err Unread.Fault → Rose (S.faults source.old) (S.faults source.new) }
-    ensures too_long { result ≡ Err Unread.TooLong → ReadsLong (S.left source.old) (S.left source.new) }
-    ensures short { result ≢ Err Unread.TooLong → ReadsShort (S.left source.old) (S.left source.new) }
-    ensures some { (bytes : List ℕ) × Reads (S.left source.old) (S.left source.new) (S.reads source.old) (S.reads source.new) bytes }
     ensures calm { OnOk result (S.faults source.new ≡ S.faults source.old) }
+    ensures cause { IfErr result (λ e. IsUnreadCause e (S.faults source.old) (S.faults source.new)) }
+    ensures much { IfErr result (λ e. IsUnreadLength e (S.left source.old) (S.left source.new)) }
+    ensures some { (bytes : List ℕ) × Reads (S.left source.old) (S.left source.new) (S.reads source.old) (S.reads source.new) bytes }
 {
     let mut bytes = Vec::new(alloc);
     loop {
@@ -70,7 +70,7 @@ fn read_piece<S: Source>(alloc: Global, source: &mut S, room: usize) -> Result<V
     ensures short { IfOk result (λ piece. length piece.items ≤ room) }
     ensures ended { IfOk result (λ piece. length piece.items ≡ 0 → IsAtEnd (S.left source.new)) }
     ensures calm { OnOk result (S.faults source.new ≡ S.faults source.old) }
-    ensures fault { result ≡ Err Unread.Fault → Rose (S.faults source.old) (S.faults source.new) }
+    ensures cause { IfErr result (λ e. IsUnreadCause e (S.faults source.old) (S.faults source.new)) }
     ensures never { result ≢ Err Unread.TooLong }
     ensures unread { OnErr result (S.left source.new ≡ S.left source.old) }
     ensures counts { (S.reads source.new ≡ S.reads source.old) ⊎ CountsOne (S.reads source.old) (S.reads source.new) }

@@ -1,27 +1,20 @@
-//! The program: its words, standard input and standard output go to `top`, with whose status it ends.
+//! The program: its words, standard input and standard output go to `answer`, with whose status it ends.
 #![tactic(auto)]
 
 ghost use Rattle.std.specs.Prelude.{◌≡◌};
 ghost use Rattle.std.specs.Process.{exit_status};
 
-use std::alloc::Global;
+use std::alloc::{AllocError, Global};
 use std::process::ExitCode;
 use std::{env, io, mem};
-use ws_outside::{Sink, StdSink, StdSource};
-use ws_top::{Outcome, top};
+use ws_outside::{StdSink, StdSource};
+use ws_top::{Outcome, answer};
 
 fn main(rt: HostRuntime) -> ExitCode {
     let alloc = rt.alloc();
     let mut source = StdSource::new(rt.stdin());
     let mut sink = StdSink::new(rt.stdout());
-    match words(&rt, alloc) {
-        Ok(words) => ended(top(alloc, words.as_slice(), &mut source, &mut sink)),
-        // a word that is no text is of no form
-        Err(error) if error.kind() == io::ErrorKind::InvalidData => {
-            say(&mut sink, b"status 2\n", 2)
-        }
-        Err(_) => say(&mut sink, b"status 8\n", 8),
-    }
+    ended(answer(alloc, words(&rt, alloc), &mut source, &mut sink))
 }
 
 /// The status with which the program ends. What was done is not let go entry by entry: the system takes the memory back
@@ -37,8 +30,16 @@ fn ended(outcome: Outcome) -> ExitCode
     ExitCode::from(code)
 }
 
-/// The words that the program was called with, without its name.
-fn words(rt: &HostRuntime, alloc: Global) -> io::Result<Vec<String>> {
+/// The words that the program was called with, without its name: none where one of them is no UTF-8.
+fn words(rt: &HostRuntime, alloc: Global) -> Result<Vec<String>, AllocError> {
+    match given(rt, alloc) {
+        Ok(words) => Ok(words),
+        Err(error) if error.kind() == io::ErrorKind::InvalidData => Ok(Vec::new(alloc)),
+        Err(_) => Err(AllocError),
+    }
+}
+
+fn given(rt: &HostRuntime, alloc: Global) -> io::Result<Vec<String>> {
     let mut words = Vec::new(alloc);
     for word in env::args(rt)?.skip(1) {
         if words.push(word).is_err() {
@@ -46,12 +47,4 @@ fn words(rt: &HostRuntime, alloc: Global) -> io::Result<Vec<String>> {
         }
     }
     Ok(words)
-}
-
-/// Writes the text, as far as that goes; the status with which the program ends.
-fn say(sink: &mut StdSink, text: &[u8], status: u8) -> ExitCode
-    ensures { exit_status result ≡ status }
-{
-    let _ = sink.write(text);
-    ExitCode::from(status)
 }

@@ -8,7 +8,7 @@ use Rattle.op_kind.specs.declared.op.Op.{Op}
 use Rattle.op_plan.specs.declared.plan.Plan.{Plan}
 use Rattle.op_kind.specs.declared.refusal.OpError.{OpError}
 use Rattle.op_kind.specs.declared.side.Side.{Side}
-use Rattle.op_plan.specs.Changes.{changed}
+use Rattle.op_plan.specs.Edits.{changed}
 use Rattle.op_plan.specs.Inside.Lists.{put}
 use Rattle.op_kind.specs.Entries.{Entries}
 use Rattle.op_kind.specs.Marking.{change_all, count_all, unmarked, count_marks, unsynced, count_bytes}

@@ -4,6 +4,7 @@ use Rattle.ws_outside.specs.Disk.{held}
 use Rattle.disk_area.specs.Area.{record_behind}
 use Rattle.disk_area.specs.Moments.{Growing}
 use Rattle.disk_area.specs.Writes.{Recording}
+use Rattle.disk_area.proofs.Chain.{gains_record}
 use Rattle.disk_area.proofs.ReadingBack.{record_back, growing}
 use Rattle.disk_area.proofs.Staging.{wider_run}
 use Rattle.disk_area.proofs.save.write_record.Goals as goal
@@ -19,3 +20,9 @@ pub returns-clause-recorded : goal.returns-clause-recorded
 returns-clause-recorded g c =
     let a = c.args in
     on_ok_weaker c.append.result (λ done i left. record_back a.gate a.body.now (held a.area (done i left).0) (held a.area i) (omega (arith, c.requires.small)) (done i left).2.here) c.append.ensures.done
+
+pub returns-clause-gained : goal.returns-clause-gained
+returns-clause-gained g c =
+    let a = c.args in
+    on_ok_weaker c.append.result (λ done i left. let d = done i left in
+    (d.0, d.1, record { here = gains_record a.gate a.body.now (held a.area d.0) (held a.area i) d.2.here; there = d.2.there })) c.append.ensures.done

@@ -1,4 +1,5 @@
-use Rattle.op_kind.specs.Refusals.{first_cause, above_causes, number_causes}
+use Rattle.proj_desc.specs.FirstCause.{first_cause}
+use Rattle.op_kind.specs.Refusals.{above_causes, number_causes}
 use Rattle.op_kind.specs.Resources.{resources}
 use Rattle.op_plan.proofs.Causes.{stops, handed_on}
 use Rattle.op_plan.proofs.checks.check_around.Goals as goal

@@ -1,7 +1,8 @@
 use Rattle.std.proofs.Common.{◌∷◌, ◌∙◌}
 use Rattle.std.specs.FinMap.{contains_key}
 use Rattle.op_kind.specs.declared.refusal.OpRefusal.TheVariants.{Exists}
-use Rattle.op_kind.specs.Refusals.{when, first_cause, above_causes, number_causes}
+use Rattle.proj_desc.specs.FirstCause.{when, first_cause}
+use Rattle.op_kind.specs.Refusals.{above_causes, number_causes}
 use Rattle.op_kind.specs.Resources.{resources}
 use Rattle.op_plan.proofs.Causes.{stops, goes_on, stops_first, handed_on}
 use Rattle.op_plan.proofs.checks.check_creation.Goals as goal

@@ -1,4 +1,3 @@
-use Rattle.std.proofs.Common.{◌≡◌}
 use Rattle.op_plan.proofs.Lost.{problems_removed}
 use Rattle.op_plan.proofs.losing.unmark_problems.Goals as goal
 

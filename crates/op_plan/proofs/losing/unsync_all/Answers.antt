@@ -1,7 +1,7 @@
 use Rattle.std.proofs.Common.{rules, ◌≡◌, ◌==◌, ◌++◌, length, not, sym, ap, ◌∙◌}
 use Rattle.std.specs.Prelude.{filter}
 use Rattle.std.proofs.lemmas.List.{append-nil}
-use Rattle.op_plan.specs.Changes.{Changes}
+use Rattle.op_plan.specs.Edits.{Edits}
 use Rattle.op_plan.specs.Inside.Lists.{put}
 use Rattle.op_kind.specs.Entries.{Entries}
 use Rattle.op_kind.specs.Marking.{change_all, unsynced, count_bytes}
@@ -10,7 +10,7 @@ use Rattle.op_plan.proofs.losing.unsync_all.Goals as goal
 
 pub returns-clause-changes : goal.returns-clause-changes
 returns-clause-changes c =
-    let lost : Entries → Changes = λ es. put (change_all (unsynced c.args.number) (filter (λ e. not (count_bytes c.args.number e.1 == 0)) es)) in
+    let lost : Entries → Edits = λ es. put (change_all (unsynced c.args.number) (filter (λ e. not (count_bytes c.args.number e.1 == 0)) es)) in
     let none : length c.loop-entry.rest.now ≡ 0 = search rules in
     sym (append-nil c.loop-entry.changes) ∙ ap (λ es. c.loop-entry.changes ++ lost es) (sym (none_left c.loop-entry.rest.now none)) ∙ c.loop-entry.invariant.changes
     ∙ ap (λ es. c.args.changes.now ++ lost es) c.as_slice-rest.ensures

@@ -3,7 +3,7 @@ use Rattle.std.proofs.lemmas.Result.{err_from_is_err_and}
 use Rattle.script_words.specs.declared.error.ScriptError.TheVariants.{BadLine}
 use Rattle.script_words.specs.declared.words.Token.{Token}
 use Rattle.script_words.specs.Lines.{lines_of}
-use Rattle.script_lang.specs.inside.Reading.{IsLineOf}
+use Rattle.script_lang.specs.Inside.Reading.{IsLineOf}
 use Rattle.script_lang.proofs.Whole.{unspelled, unsaid, err_same, same_number}
 use Rattle.script_lang.proofs.grammar.next_line.Goals as goal
 

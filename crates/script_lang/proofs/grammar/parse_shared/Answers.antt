@@ -4,8 +4,8 @@ use Rattle.script_words.specs.declared.error.ScriptError.TheVariants.{BadLine}
 use Rattle.script_lang.specs.declared.progress.Progress.{Progress}
 use Rattle.script_words.specs.declared.reader.Reader.{Reader}
 use Rattle.script_words.specs.Lines.{lines_of}
-use Rattle.script_words.specs.inside.Passing.{Skips}
-use Rattle.script_words.specs.inside.Counts.{Advances}
+use Rattle.script_words.specs.Inside.Passing.{Skips}
+use Rattle.script_words.specs.Inside.Counts.{Advances}
 use Rattle.script_lang.proofs.Whole.{HasRead, read_none, read_skips, read_step, whole_script, whole_alone, first_bad, stuck_none, refused, not_both, err_same}
 use Rattle.script_lang.proofs.grammar.parse_shared.Goals as goal
 

@@ -2,7 +2,7 @@ use Rattle.std.proofs.Common.{◌≡◌, ◌++◌, ◌∷◌, [], take}
 use Rattle.std.specs.List.{flat_map, AllByRecursion}
 use Rattle.script_lang.specs.declared.line.Line.TheVariants.{InJob}
 use Rattle.script_lang.specs.Scripts.{line_text}
-use Rattle.script_lang.specs.inside.Printed.{IsLine}
+use Rattle.script_lang.specs.Inside.Printed.{IsLine}
 use Rattle.script_lang.proofs.printing.put_job.Given as goal
 
 abbrev pub invariant-loop-command : goal.invariant-loop-command

@@ -1,7 +1,7 @@
 use Rattle.std.proofs.Common.{◌≡◌, ◌++◌, take}
 use Rattle.std.specs.List.{flat_map, AllByRecursion}
-use Rattle.script_lang.specs.Scripts.{job_lines}
-use Rattle.script_lang.specs.inside.Printed.{ended, AreLines}
+use Rattle.script_lang.specs.Scripts.{job_lines, ended}
+use Rattle.script_lang.specs.Inside.Printed.{AreLines}
 use Rattle.script_lang.proofs.printing.put_phase.Given as goal
 
 abbrev pub invariant-loop-job : goal.invariant-loop-job

@@ -1,9 +1,9 @@
 use Rattle.std.proofs.Common.{ℕ, List, ◌++◌, sym, ◌∙◌, ap, subst}
 use Rattle.std.specs.List.{flat_map, AllByRecursion}
+use Rattle.std.proofs.lemmas.List.{take_all}
 use Rattle.mark_set.specs.declared.value.RawValue.{RawValue}
 use Rattle.script_parts.specs.Parts.{attribute_parts}
-use Rattle.script_parts.specs.inside.Printed.{AreParts, spaced}
-use Rattle.script_parts.proofs.Spaced.{all_taken}
+use Rattle.script_parts.specs.Inside.Printed.{AreParts, spaced}
 use Rattle.script_parts.proofs.Spaced.{spaced_each, parts_each, text_more, all_more}
 use Rattle.script_words.proofs.Grown.{grows_on}
 use Rattle.script_parts.proofs.attribute_text.put_attributes.Goals as goal
@@ -13,14 +13,14 @@ returns-clause-text c =
     c.loop-attribute.invariant.text
     ∙ ap (λ (text : List ℕ). c.args.out.now.items ++ text)
     (ap (flat_map (λ (attribute : List ℕ × RawValue). spaced (attribute_parts attribute)))
-    (all_taken c.loop-attribute.attribute-index c.args.attributes.now c.loop-attribute-test.false c.loop-attribute.auto.attribute-index-end)
+    (take_all c.loop-attribute.attribute-index c.args.attributes.now c.loop-attribute-test.false)
     ∙ sym (spaced_each attribute_parts c.args.attributes.now))
 
 pub returns-clause-parts : goal.returns-clause-parts
 returns-clause-parts c =
     parts_each attribute_parts c.args.attributes.now
     (subst (AllByRecursion (λ (attribute : List ℕ × RawValue). AreParts (attribute_parts attribute)))
-    (all_taken c.loop-attribute.attribute-index c.args.attributes.now c.loop-attribute-test.false c.loop-attribute.auto.attribute-index-end) c.loop-attribute.invariant.parts)
+    (take_all c.loop-attribute.attribute-index c.args.attributes.now c.loop-attribute-test.false) c.loop-attribute.invariant.parts)
 
 pub loop-attribute-preserved : goal.loop-attribute-preserved
 loop-attribute-preserved c = record {

@@ -2,7 +2,7 @@ use Rattle.std.proofs.Common.{◌≡◌, ◌++◌, take}
 use Rattle.std.specs.List.{flat_map, AllByRecursion}
 use Rattle.script_words.specs.Words.{Grows}
 use Rattle.script_parts.specs.Parts.{attribute_parts}
-use Rattle.script_parts.specs.inside.Printed.{AreParts, spaced}
+use Rattle.script_parts.specs.Inside.Printed.{AreParts, spaced}
 use Rattle.script_parts.proofs.attribute_text.put_attributes.Given as goal
 
 abbrev pub invariant-loop-attribute : goal.invariant-loop-attribute

@@ -2,7 +2,7 @@ use Rattle.std.proofs.Common.{ℕ, List, sym, subst}
 use Rattle.std.specs.List.{flat_map}
 use Rattle.mark_set.specs.declared.value.RawValue.{RawValue}
 use Rattle.script_parts.specs.Parts.{attribute_parts}
-use Rattle.script_parts.specs.inside.Found.{FitsFront}
+use Rattle.script_parts.specs.Inside.Found.{FitsFront}
 use Rattle.script_parts.proofs.Fitting.{no_tokens, some_tokens, one_more, stuck, front_whole}
 use Rattle.script_parts.proofs.Fronts.{attributes_once}
 use Rattle.script_parts.proofs.attributes.attributes_of.Goals as goal

@@ -1,7 +1,7 @@
 use Rattle.std.proofs.Common.{length}
 use Rattle.std.specs.List.{flat_map}
 use Rattle.script_parts.specs.Parts.{attribute_parts}
-use Rattle.script_parts.specs.inside.Found.{FitsFront}
+use Rattle.script_parts.specs.Inside.Found.{FitsFront}
 use Rattle.script_parts.proofs.attributes.attributes_of.Given as goal
 
 abbrev pub invariant-loop-rest : goal.invariant-loop-rest

@@ -1,10 +1,10 @@
 use Rattle.std.proofs.Common.{ℕ, List, ◌++◌, sym, ◌∙◌, ap, subst}
 use Rattle.std.specs.List.{flat_map, AllByRecursion}
+use Rattle.std.proofs.lemmas.List.{take_all}
 use Rattle.sched_rules.specs.declared.ws_atom.WsAtom.{WsAtom}
 use Rattle.script_parts.specs.Parts.{atom_parts}
 use Rattle.script_parts.specs.RuleLines.{HasLines}
-use Rattle.script_parts.specs.inside.Printed.{AreParts, spaced}
-use Rattle.script_parts.proofs.Spaced.{all_taken}
+use Rattle.script_parts.specs.Inside.Printed.{AreParts, spaced}
 use Rattle.script_parts.proofs.Spaced.{spaced_each, parts_if, text_more, all_more}
 use Rattle.script_words.proofs.Grown.{grows_on}
 use Rattle.script_parts.proofs.rule_text.put_atoms.Goals as goal
@@ -13,14 +13,14 @@ pub returns-clause-text : goal.returns-clause-text
 returns-clause-text c =
     c.loop-atom.invariant.text
     ∙ ap (λ (text : List ℕ). c.args.out.now.items ++ text)
-    (ap (flat_map (λ (atom : WsAtom). spaced (atom_parts atom))) (all_taken c.loop-atom.atom-index c.args.atoms.now c.loop-atom-test.false c.loop-atom.auto.atom-index-end)
+    (ap (flat_map (λ (atom : WsAtom). spaced (atom_parts atom))) (take_all c.loop-atom.atom-index c.args.atoms.now c.loop-atom-test.false)
     ∙ sym (spaced_each atom_parts c.args.atoms.now))
 
 pub returns-clause-parts : goal.returns-clause-parts
 returns-clause-parts c =
     parts_if atom_parts HasLines c.args.atoms.now
     (subst (AllByRecursion (λ (atom : WsAtom). HasLines atom → AreParts (atom_parts atom)))
-    (all_taken c.loop-atom.atom-index c.args.atoms.now c.loop-atom-test.false c.loop-atom.auto.atom-index-end) c.loop-atom.invariant.parts) c.requires
+    (take_all c.loop-atom.atom-index c.args.atoms.now c.loop-atom-test.false) c.loop-atom.invariant.parts) c.requires
 
 pub loop-atom-preserved : goal.loop-atom-preserved
 loop-atom-preserved c = record {

@@ -3,7 +3,7 @@ use Rattle.std.specs.List.{flat_map, AllByRecursion}
 use Rattle.script_words.specs.Words.{Grows}
 use Rattle.script_parts.specs.Parts.{atom_parts}
 use Rattle.script_parts.specs.RuleLines.{HasLines}
-use Rattle.script_parts.specs.inside.Printed.{AreParts, spaced}
+use Rattle.script_parts.specs.Inside.Printed.{AreParts, spaced}
 use Rattle.script_parts.proofs.rule_text.put_atoms.Given as goal
 
 abbrev pub invariant-loop-atom : goal.invariant-loop-atom

@@ -1,7 +1,7 @@
 use Rattle.std.proofs.Common.{◌≡◌, true, false, sym, ◌∙◌, ap, subst, IsUtf8}
 use Rattle.std.specs.List.{list_all}
 use Rattle.script_words.specs.Words.{is_plain, SpellsQuoted}
-use Rattle.script_words.specs.inside.Quoted.{denoted}
+use Rattle.script_words.specs.Inside.Quoted.{denoted}
 use Rattle.script_words.specs.declared.quoted.State.TheVariants.{Between}
 use Rattle.script_words.proofs.Items.{denoted_items, quoted_utf8, quoted_denoted, all_plain}
 use Rattle.script_words.proofs.quoted.denoted.Goals as goal

@@ -1,5 +1,5 @@
 use Rattle.std.proofs.Common.{◌≡◌, false, drop}
-use Rattle.script_words.specs.inside.Quoted.{quote_from}
+use Rattle.script_words.specs.Inside.Quoted.{quote_from}
 use Rattle.script_words.proofs.quoted.quote_place.Given as goal
 
 abbrev pub invariant-loop-at : goal.invariant-loop-at

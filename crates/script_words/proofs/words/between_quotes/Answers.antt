@@ -1,6 +1,6 @@
 use Rattle.std.proofs.Common.{◌≡◌, ◌<◌, ◌∷◌, ◌++◌, length, take, drop, get_or, Some, false, sym, ◌∙◌, ap, arith}
 use Rattle.std.proofs.lemmas.List.{length-take-le}
-use Rattle.script_words.specs.inside.Quoted.{quote_from}
+use Rattle.script_words.specs.Inside.Quoted.{quote_from}
 use Rattle.script_words.proofs.Tokens.{between}
 use Rattle.script_words.proofs.words.between_quotes.Goals as goal
 

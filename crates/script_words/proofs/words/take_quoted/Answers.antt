@@ -1,5 +1,5 @@
 use Rattle.std.proofs.Common.{subst}
-use Rattle.script_words.specs.inside.Tokens.{StartsWithNone}
+use Rattle.script_words.specs.Inside.Tokens.{StartsWithNone}
 use Rattle.script_words.proofs.words.take_quoted.Goals as goal
 
 pub returns-in_default : goal.returns-in_default

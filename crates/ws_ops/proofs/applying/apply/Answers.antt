@@ -7,21 +7,21 @@ use Rattle.op_kind.specs.declared.op.Op.{Op}
 use Rattle.op_kind.specs.declared.refusal.OpError.{OpError}
 use Rattle.ws_ops.specs.Inside.AtOnce.{IsDone}
 use Rattle.op_kind.specs.Resources.{Resources, resources}
-use Rattle.op_kind.specs.Sound.{IsSound}
+use Rattle.op_kind.specs.Sound.{IsConsistent}
 use Rattle.op_kind.specs.Stamps.{IsKnown}
 use Rattle.op_sound.proofs.SoundKept.{effect_sound, effect_known}
 use Rattle.ws_ops.proofs.applying.apply.Goals as goal
 
-module _ (before now : Resources) (op : Op) (room shelf_room : Room) (sound : IsSound before) where
-  sound_done : (done : Applied) → IsDone before op room shelf_room now done → IsSound now
-  sound_done done d = subst IsSound (sym d.resources) (effect_sound before op sound d.allowed)
+module _ (before now : Resources) (op : Op) (room shelf_room : Room) (sound : IsConsistent before) where
+  sound_done : (done : Applied) → IsDone before op room shelf_room now done → IsConsistent now
+  sound_done done d = subst IsConsistent (sym d.resources) (effect_sound before op sound d.allowed)
 
   known_done : (t : Tree) (done : Applied) → IsDone before op room shelf_room now done → IsKnown before t → IsKnown now t
   known_done t done d known = subst (λ z. IsKnown z t) (sym d.resources) (effect_known before op t sound d.allowed known)
 
-  sound_after : (result : Result Applied OpError) → IfOk result (IsDone before op room shelf_room now) → OnErr result (now ≡ before) → IsSound now
+  sound_after : (result : Result Applied OpError) → IfOk result (IsDone before op room shelf_room now) → OnErr result (now ≡ before) → IsConsistent now
   sound_after (Ok done) d e = sound_done done d
-  sound_after (Err error) d e = subst IsSound (sym e) sound
+  sound_after (Err error) d e = subst IsConsistent (sym e) sound
 
   known_after : (t : Tree) (result : Result Applied OpError) → IfOk result (IsDone before op room shelf_room now) → OnErr result (now ≡ before)
       → IsKnown before t → IsKnown now t
@@ -51,7 +51,7 @@ returns-in-None-clause-sound g c sound =
     let before : Resources = resources (g.T.TreeRep.tree c.create_at_once.new.tree) c.create_at_once.new.side in
     let now : Resources = resources (g.T.TreeRep.tree c.apply_planned.new.tree) c.apply_planned.new.side in
     let same : before ≡ resources (g.T.TreeRep.tree c.args.tree.now) c.args.side.now = c.in_ok-done.ensures.none c.in-None.is in
-    sound_after before now c.args.op.now (g.T.TreeRep.room c.apply_planned.new.tree) c.apply_planned.new.side.shelf.room (subst IsSound (sym same) sound)
+    sound_after before now c.args.op.now (g.T.TreeRep.room c.apply_planned.new.tree) c.apply_planned.new.side.shelf.room (subst IsConsistent (sym same) sound)
     c.apply_planned.result c.apply_planned.ensures.done c.apply_planned.ensures.same
 
 pub returns-in-None-clause-known : goal.returns-in-None-clause-known
@@ -59,5 +59,5 @@ returns-in-None-clause-known g c sound t known =
     let before : Resources = resources (g.T.TreeRep.tree c.create_at_once.new.tree) c.create_at_once.new.side in
     let now : Resources = resources (g.T.TreeRep.tree c.apply_planned.new.tree) c.apply_planned.new.side in
     let same : before ≡ resources (g.T.TreeRep.tree c.args.tree.now) c.args.side.now = c.in_ok-done.ensures.none c.in-None.is in
-    known_after before now c.args.op.now (g.T.TreeRep.room c.apply_planned.new.tree) c.apply_planned.new.side.shelf.room (subst IsSound (sym same) sound) t
+    known_after before now c.args.op.now (g.T.TreeRep.room c.apply_planned.new.tree) c.apply_planned.new.side.shelf.room (subst IsConsistent (sym same) sound) t
     c.apply_planned.result c.apply_planned.ensures.done c.apply_planned.ensures.same (subst (λ z. IsKnown z t) (sym same) known)

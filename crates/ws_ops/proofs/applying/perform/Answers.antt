@@ -2,7 +2,7 @@ use Rattle.std.proofs.Common.{◌≡◌, take, sym, ap, subst, ◌∙◌}
 use Rattle.ws_elem.specs.Trees.{Tree}
 use Rattle.op_kind.specs.declared.side.Side.{Side}
 use Rattle.op_plan.specs.Backs.{HasWay}
-use Rattle.op_plan.specs.Changes.{HasRooms, changed}
+use Rattle.op_plan.specs.Edits.{HasRooms, changed}
 use Rattle.op_kind.specs.Partners.{with_partner}
 use Rattle.op_kind.specs.Resources.{resources}
 use Rattle.op_plan.proofs.Effected.{undone}

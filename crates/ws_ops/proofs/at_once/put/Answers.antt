@@ -7,7 +7,7 @@ use Rattle.ws_elem.specs.Trees.{Tree}
 use Rattle.ws_elem.proofs.Rooms.{room_added}
 use Rattle.op_kind.specs.declared.side.Side.{Side}
 use Rattle.op_plan.specs.Backs.{HasWay, way_to}
-use Rattle.op_plan.specs.Changes.{changed}
+use Rattle.op_plan.specs.Edits.{changed}
 use Rattle.op_kind.specs.Resources.{resources}
 use Rattle.op_plan.proofs.Effected.{undone}
 use Rattle.op_plan.proofs.Made.{keeps_itself, keeps_more, partners_back}

@@ -2,7 +2,8 @@ use Rattle.std.proofs.Common.{[], ◌∷◌}
 use Rattle.std.specs.Option.{option_map}
 use Rattle.mark_set.specs.Causes.{change_cause}
 use Rattle.op_kind.specs.declared.refusal.OpRefusal.TheVariants.{BadValue}
-use Rattle.op_kind.specs.Refusals.{first_cause, unmark_causes}
+use Rattle.proj_desc.specs.FirstCause.{first_cause}
+use Rattle.op_kind.specs.Refusals.{unmark_causes}
 use Rattle.op_plan.proofs.Causes.{stops, handed_on}
 use Rattle.ws_ops.proofs.marking.attributable.Goals as goal
 

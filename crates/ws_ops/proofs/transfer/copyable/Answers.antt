@@ -1,7 +1,8 @@
 use Rattle.std.proofs.Common.{◌≡◌, length, sym, ap, ◌∙◌}
-use Rattle.op_kind.specs.Members.{branch, carried}
+use Rattle.ws_elem.specs.Trees.{branch}
 use Rattle.op_kind.specs.Numbers.{stamps_of_all}
-use Rattle.op_kind.specs.Refusals.{first_cause, transfer_causes, number_causes}
+use Rattle.proj_desc.specs.FirstCause.{first_cause}
+use Rattle.op_kind.specs.Refusals.{transfer_causes, number_causes}
 use Rattle.op_kind.specs.Resources.{Resources, resources}
 use Rattle.op_plan.proofs.Carried.{carried_numbers}
 use Rattle.op_plan.proofs.Causes.{stops, goes_on, handed_on, told_on}

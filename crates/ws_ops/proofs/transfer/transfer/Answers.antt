@@ -1,6 +1,7 @@
 use Rattle.std.proofs.Common.{sym, subst}
 use Rattle.op_kind.specs.Judging.{Judges}
-use Rattle.op_kind.specs.Refusals.{first_cause, standing_causes, fit_causes}
+use Rattle.proj_desc.specs.FirstCause.{first_cause}
+use Rattle.op_kind.specs.Refusals.{standing_causes, fit_causes}
 use Rattle.op_plan.proofs.Causes.{stops, goes_on, handed_on}
 use Rattle.ws_ops.proofs.transfer.transfer.Goals as goal
 

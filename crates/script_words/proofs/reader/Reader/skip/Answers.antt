@@ -1,5 +1,5 @@
 use Rattle.std.proofs.Common.{◌≡◌, true, length, sym, ◌∙◌, ap, arith}
-use Rattle.script_words.specs.inside.Passing.{starts_skipped}
+use Rattle.script_words.specs.Inside.Passing.{starts_skipped}
 use Rattle.script_words.proofs.Lined.{skips_more, next_skipped}
 use Rattle.script_words.proofs.reader.Reader.skip.Goals as goal
 

@@ -1,7 +1,7 @@
 use Rattle.std.proofs.Common.{◌≡◌, ◌<◌, ◌+◌, ◌^◌, length}
 use Rattle.script_words.specs.Lines.{lines_of}
-use Rattle.script_words.specs.inside.Passing.{next_number, Skips}
-use Rattle.script_words.specs.inside.Counts.{Advances}
+use Rattle.script_words.specs.Inside.Passing.{next_number, Skips}
+use Rattle.script_words.specs.Inside.Counts.{Advances}
 use Rattle.script_words.proofs.reader.Reader.skip.Given as goal
 
 abbrev pub invariant-loop-self : goal.invariant-loop-self

@@ -1,5 +1,5 @@
 use Rattle.std.proofs.Common.{ap, sym, ◌∙◌}
-use Rattle.ws_core.specs.Steps.{act_admitted}
+use Rattle.ws_core.specs.Inside.Acts.{act_admitted}
 use Rattle.ws_core.proofs.Operated.{on_ok, if_ok, operation_acts}
 use Rattle.ws_core.proofs.state.State.act_quietly.Goals as goal
 

@@ -7,8 +7,8 @@ use Rattle.core_event.specs.declared.event.Event.TheVariants.{End}
 use Rattle.core_event.specs.declared.reply.Answer.TheVariants.{Done, Refused}
 use Rattle.ws_core.specs.declared.state.State.{State}
 use Rattle.ws_core.specs.Effects.{end}
-use Rattle.ws_core.specs.States.{seen}
-use Rattle.ws_core.specs.Steps.{act_admitted}
+use Rattle.ws_core.specs.Inside.Views.{seen}
+use Rattle.ws_core.specs.Inside.Acts.{act_admitted}
 use Rattle.ws_core.proofs.Ended.{ended, not_last, holds_nothing}
 use Rattle.ws_core.proofs.state.State.end_last.Goals.{in-Ok, in-Err-NotLast, in-Err-HoldsNothing, in-Err-TargetHolds}
 use Rattle.ws_core.proofs.state.State.end_last.Goals as goal

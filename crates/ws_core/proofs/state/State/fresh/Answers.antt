@@ -3,7 +3,7 @@ use Rattle.std.specs.Prelude.{None}
 use Rattle.ws_elem.specs.Trees.{fresh_tree}
 use Rattle.ws_elem.specs.RoomyTrees.{RoomyTree}
 use Rattle.ws_core.specs.Histories.{fresh}
-use Rattle.ws_core.specs.Sessions.{IsSound}
+use Rattle.ws_core.specs.Sessions.{IsConsistent}
 use Rattle.ws_core.proofs.SoundKept.{fresh_sound}
 use Rattle.ws_core.proofs.state.State.fresh.Goals as goal
 
@@ -25,4 +25,4 @@ returns-clause-sound c =
       rules = sym c.empty-3.ensures i;
       waiting = None;
     } in
-    subst IsSound is fresh_sound
+    subst IsConsistent is fresh_sound

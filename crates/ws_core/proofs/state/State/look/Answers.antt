@@ -1,7 +1,7 @@
 use Rattle.std.proofs.Common.{ap, ◌∙◌}
 use Rattle.op_kind.specs.Resources.{resources}
 use Rattle.ws_core.specs.declared.state.State.{State}
-use Rattle.ws_core.specs.Operations.{act_operation}
+use Rattle.ws_core.specs.Inside.Acts.{act_operation}
 use Rattle.ws_core.proofs.Operated.{on_ok, only_reads, look_seen}
 use Rattle.ws_core.proofs.state.State.look.Goals as goal
 

@@ -1,6 +1,6 @@
 use Rattle.std.proofs.Common.{◌≡◌, ap, ◌∙◌, subst}
 use Rattle.ws_core.specs.declared.state.State.{State}
-use Rattle.ws_core.specs.States.{told_tree}
+use Rattle.ws_core.specs.Inside.Views.{told_tree}
 use Rattle.ws_core.proofs.Seen.{unchanged_tells}
 use Rattle.ws_core.proofs.state.State.notice.Goals as goal
 

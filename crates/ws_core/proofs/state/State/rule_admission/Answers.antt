@@ -1,4 +1,4 @@
-use Rattle.std.proofs.Common.{◌≡◌, true, ap, sym, ◌∙◌}
+use Rattle.std.proofs.Common.{ap, sym, ◌∙◌}
 use Rattle.sched_rules.specs.Atoms.{atom_contains, atom_conflicts}
 use Rattle.rule_table.specs.Tables.{admits}
 use Rattle.ws_core.specs.declared.state.State.{State}

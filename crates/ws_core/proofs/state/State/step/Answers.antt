@@ -1,4 +1,4 @@
-use Rattle.std.proofs.Common.{◌≡◌, ap, sym, ◌∙◌}
+use Rattle.std.proofs.Common.{ap, sym, ◌∙◌}
 use Rattle.ws_core.proofs.Operated.{on_ok, if_ok}
 use Rattle.ws_core.proofs.SoundKept.{sound_after}
 use Rattle.ws_core.proofs.Stepped.{admitted_steps, refused_steps}

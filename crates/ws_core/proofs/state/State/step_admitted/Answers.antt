@@ -1,5 +1,6 @@
 use Rattle.std.proofs.Common.{◌≡◌, true, ap, sym, ◌∙◌}
-use Rattle.ws_core.specs.Steps.{act_admitted, tells}
+use Rattle.ws_core.specs.Steps.{tells}
+use Rattle.ws_core.specs.Inside.Acts.{act_admitted}
 use Rattle.ws_core.proofs.Operated.{on_ok, if_ok, change_steps}
 use Rattle.ws_core.proofs.state.State.step_admitted.Goals as goal
 

@@ -1,0 +1,5 @@
+pub mod Looks
+pub mod Taking
+pub mod Composing
+pub mod Settling
+pub mod Undoing

@@ -1,0 +1,4 @@
+pub mod Forms
+pub mod Gives
+pub mod Laws
+pub mod Lists

@@ -1,2 +1,0 @@
--- Words of private code: the verbs that lines begin with.
-pub mod Verbs

@@ -1,0 +1,3 @@
+-- Words that private code alone speaks of.
+pub mod Asking
+pub mod Parts
