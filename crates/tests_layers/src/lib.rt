@@ -1,0 +1,19 @@
+//! Tests of recorded changes, and of the deltas that are made of them. What their rows give was worked by hand.
+//!
+//! - `asserting`: the assertions.
+//! - `rows`: a table of rows, each of layers of changes from a tree on, and how a row is told.
+//! - `elements`: elements and trees as they are written in rows.
+//! - `changes`: changes as they are recorded, composed and undone.
+//! - `deltas`: the deltas of changes.
+#![tactic(auto)]
+
+#[cfg(test)]
+mod asserting;
+#[cfg(test)]
+mod changes;
+#[cfg(test)]
+mod deltas;
+#[cfg(test)]
+mod elements;
+#[cfg(test)]
+mod rows;
