@@ -195,14 +195,14 @@ fn put_change(
     put(out, " ")
 }
 
-/// The entries of each path, in path order.
+/// The entries of each path, in path order, of a copy of its change.
 pub fn put_changes(
     rt: &(impl Abort + AllocGlobal),
     out: &mut String,
     changes: &Changes,
 ) -> Result<(), NoMemory> {
     for (path, change) in changes.iter() {
-        put_change(rt.alloc(), out, path, change)?;
+        put_change(rt.alloc(), out, path, &change.copy()?)?;
         holds(rt, changes.get(path).is_some());
     }
     Ok(())
