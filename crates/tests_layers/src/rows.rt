@@ -2,7 +2,7 @@
 //! the changes lead, with bars between.
 //!
 //! A row is told again where memory wanted: so each test passes also where one allocation fails, whichever it is
-//! (`rt try --test --fail-alloc 1..`).
+//! (`rt try --test --fail-alloc N`).
 use crate::asserting::must;
 use crate::changes::{layers_of, net_of, put_changes, put_counted, put_undone};
 use crate::deltas::put_delta_of;
