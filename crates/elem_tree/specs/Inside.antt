@@ -1,0 +1,6 @@
+-- What only the crate's own code speaks of.
+pub mod Codes
+pub mod Entries
+pub mod Gathered
+pub mod Shown
+pub mod Slots
