@@ -1,16 +1,15 @@
 -- The top part of a search, with nothing to meet, is closed as a component.
-use Rattle.std.proofs.Common.{◌≡◌, ◌≢◌, ◌⊎◌, inl, inr, ℕ, ◌+◌, ◌<◌, ◌≤◌, ◌==◌, Bool, true, false, cond, List, [], ◌∷◌, ◌++◌, length, get_or, refl, sym, ap, ◌∙◌, subst, arith, length-append}
+use Rattle.std.proofs.Common.{◌≡◌, ◌≢◌, ◌⊎◌, inl, inr, ℕ, ◌+◌, ◌<◌, ◌≤◌, ◌==◌, cond, List, [], ◌∷◌, length, get_or, refl, sym, ◌∙◌, subst, arith, length-append}
 use Rattle.std.specs.List.{Contains}
-use Rattle.std.proofs.lemmas.Bool.{cases_eq, cases_lt}
-use Rattle.std.proofs.lemmas.List.{get_or_default, get_or_append_left}
-use Rattle.std.proofs.lemmas.List.Elements.{Contains-append_left, Contains-append_right, Contains-append_cases}
+use Rattle.std.proofs.lemmas.Bool.{cases_lt}
+use Rattle.std.proofs.lemmas.List.{get_or_append_left}
+use Rattle.std.proofs.lemmas.List.Elements.{Contains-append_left}
 use Rattle.build_order.specs.declared.search.Mark.{Mark}
 use Rattle.build_order.specs.declared.search.Mark.TheVariants.{New, Open, Closed}
-use Rattle.build_order.specs.Orders.{Leads}
 use Rattle.build_order.specs.Inside.Graphs.{Graph, Refers}
-use Rattle.build_order.specs.Inside.Searches.{Part, members_of, todo_of, mark_at, IsKnown, IsPast, IsPart, AreParts, AreOpen, AreClosed, IsUnderWay, AreMarked}
+use Rattle.build_order.specs.Inside.Searches.{Part, members_of, todo_of, mark_at, IsPast, IsUnderWay, AreMarked}
 use Rattle.build_order.proofs.Members.{none}
-use Rattle.build_order.proofs.Parts.{start_of, start_within, parts_by, among_open, upper_open, upper_place, lower_place}
+use Rattle.build_order.proofs.Parts.{parts_by, upper_open, upper_place}
 
 pub open_not_closed : (m : Mark) (p l : ℕ) → m ≡ Open p → m ≡ Closed l → ⊥
 open_not_closed m p l e f = apart (sym e ∙ f)

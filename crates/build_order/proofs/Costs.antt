@@ -1,5 +1,5 @@
 -- What a search has still to do.
-use Rattle.std.proofs.Common.{◌≡◌, ℕ, zero, suc, ◌+◌, ◌<◌, ◌≤◌, List, [], ◌∷◌, length, get_or, set, refl, sym, ap, ◌∙◌, arith}
+use Rattle.std.proofs.Common.{◌≡◌, ℕ, zero, suc, ◌+◌, ◌<◌, ◌≤◌, List, [], ◌∷◌, length, get_or, set, refl, ap, arith}
 use Rattle.build_order.specs.declared.search.Mark.{Mark}
 use Rattle.build_order.specs.declared.search.Mark.TheVariants.{New, Open, Closed}
 use Rattle.build_order.specs.Inside.Graphs.{Graph}

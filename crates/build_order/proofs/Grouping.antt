@@ -1,11 +1,11 @@
 -- Components, each under its least number, number after number.
-use Rattle.std.proofs.Common.{◌≡◌, ◌≢◌, ◌⊎◌, inl, inr, ℕ, ◌+◌, ◌<◌, ◌≤◌, List, [], ◌∷◌, ◌++◌, length, get_or, set, replicate, refl, sym, ap, ◌∙◌, subst, arith}
+use Rattle.std.proofs.Common.{◌≡◌, ◌≢◌, inl, inr, ℕ, ◌+◌, ◌<◌, ◌≤◌, List, [], ◌∷◌, ◌++◌, length, get_or, set, replicate, refl, sym, ap, ◌∙◌, subst, arith}
 use Rattle.std.specs.List.{All, AllPairs, Contains}
 use Rattle.std.proofs.lemmas.Bool.{cases_eq, cases_lt}
 use Rattle.std.proofs.lemmas.List.{length-set, get_or-set_same, get_or-set_other, get_or-replicate, get_or_past, length-replicate, get_or_default}
 use Rattle.std.proofs.lemmas.List.Elements.{Contains-append_left, Contains-append_right, Contains-append_cases, Contains-push, Contains-push_cases, Contains-get_or}
 use Rattle.std.proofs.lemmas.List.Quantifiers.{all_pairs_push}
-use Rattle.build_order.specs.Inside.Graphs.{Graph, Refers, AreLeads, at}
+use Rattle.build_order.specs.Inside.Graphs.{Graph, AreLeads, at}
 use Rattle.build_order.specs.Inside.Groups.{AreMembers, AreTargets}
 use Rattle.build_order.proofs.Members.{none}
 
@@ -29,17 +29,6 @@ leads_within g leads h k d lt =
   where
     get_or_default_of : (xs : List ℕ) (i d : ℕ) → i < length xs → get_or xs i d ≡ get_or xs i 0
     get_or_default_of xs i d lt = get_or_default xs i d 0 lt
-
-pub members_none : (leads : List ℕ) (members : List (List ℕ)) → members ≡ replicate (length leads) [] → AreMembers leads 0 members
-members_none leads members e = record {
-  as_long = ap length e ∙ length-replicate {A = List ℕ} (length leads) [];
-  rising = λ l. subst (AllPairs (λ a b. a < b)) (sym (empty l)) (λ i j d lt le. absurd (omega (arith, le)));
-  own = λ l a i. absurd (none a (subst (λ xs. Contains xs a) (empty l) i));
-  all = λ a lt. absurd (omega (arith, lt));
-}
-  where
-    empty : (l : ℕ) → get_or members l [] ≡ []
-    empty l = ap (λ ms. get_or ms l []) e ∙ nothing_at (length leads) l
 
 pub members_more : (leads : List ℕ) (members new : List (List ℕ)) (n l : ℕ) → l < length leads → at leads n ≡ l
     → new ≡ set members l (get_or members l [] ++ n ∷ []) → AreMembers leads n members → AreMembers leads (n + 1) new
@@ -74,13 +63,6 @@ members_more leads members new n l lt is e h = record {
       | inl same ↦ subst (λ xs. Contains xs a) (sym (here (at leads a) same)) (Contains-append_left (get_or members l []) (n ∷ []) a (subst (λ k. Contains (get_or members k []) a) same i))
       | inr ne ↦ subst (λ xs. Contains xs a) (sym (there (at leads a) ne)) i
     ]
-
-pub targets_none : (g : Graph) (leads : List ℕ) (targets : List (List ℕ)) → targets ≡ replicate (length leads) [] → AreTargets g leads 0 targets
-targets_none g leads targets e = record {
-  as_long = ap length e ∙ length-replicate {A = List ℕ} (length leads) [];
-  own = λ l w i. absurd (none w (subst (λ xs. Contains xs w) (ap (λ ms. get_or ms l []) e ∙ nothing_at (length leads) l) i));
-  all = λ u w lt. absurd (omega (arith, lt));
-}
 
 pub targets_more : (g : Graph) (leads : List ℕ) (targets new : List (List ℕ)) (n l : ℕ) → l < length leads → at leads n ≡ l
     → new ≡ set targets l (get_or targets l [] ++ get_or g n []) → AreTargets g leads n targets → AreTargets g leads (n + 1) new

@@ -1,12 +1,12 @@
 -- The two top parts of a search are joined.
-use Rattle.std.proofs.Common.{◌≡◌, ◌⊎◌, inl, inr, ℕ, ◌+◌, ◌<◌, ◌≤◌, List, [], ◌∷◌, ◌++◌, length, get_or, refl, sym, ap, ◌∙◌, subst, arith, length-append, append_assoc}
+use Rattle.std.proofs.Common.{◌≡◌, inl, inr, ℕ, ◌<◌, List, [], ◌∷◌, ◌++◌, length, sym, subst, arith, length-append, append_assoc}
 use Rattle.std.specs.List.{Contains}
 use Rattle.std.proofs.lemmas.List.Elements.{Contains-append_left, Contains-append_right, Contains-append_cases}
 use Rattle.build_order.specs.declared.search.Mark.{Mark}
-use Rattle.build_order.specs.declared.search.Mark.TheVariants.{New, Open, Closed}
+use Rattle.build_order.specs.declared.search.Mark.TheVariants.{Open}
 use Rattle.build_order.specs.Orders.{Leads}
 use Rattle.build_order.specs.Inside.Graphs.{Graph, Refers}
-use Rattle.build_order.specs.Inside.Searches.{Part, members_of, todo_of, mark_at, IsKnown, IsPast, IsPart, AreParts, AreOpen, AreClosed, IsUnderWay}
+use Rattle.build_order.specs.Inside.Searches.{Part, members_of, todo_of, mark_at, IsPart, AreOpen, IsUnderWay}
 use Rattle.build_order.proofs.Members.{leads_on}
 use Rattle.build_order.proofs.Parts.{past_from, lower_place}
 

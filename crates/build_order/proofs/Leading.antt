@@ -1,14 +1,13 @@
 -- What a search that has met all numbers tells.
-use Rattle.std.proofs.Common.{◌≡◌, ◌≢◌, ◌⊎◌, inl, inr, ℕ, ◌+◌, ◌<◌, ◌≤◌, List, [], ◌∷◌, length, map, get_or, refl, sym, ap, ◌∙◌, subst, arith}
+use Rattle.std.proofs.Common.{◌≡◌, inl, inr, ℕ, ◌<◌, ◌≤◌, List, [], length, map, refl, sym, ap, ◌∙◌, subst, arith}
 use Rattle.std.specs.List.{Contains}
 use Rattle.std.proofs.lemmas.Bool.{cases_lt}
 use Rattle.std.proofs.lemmas.List.{get_or-map, get_or_past, length-map}
 use Rattle.build_order.specs.declared.search.Mark.{Mark}
 use Rattle.build_order.specs.declared.search.Mark.TheVariants.{New, Open, Closed}
-use Rattle.build_order.specs.Orders.{Leads}
 use Rattle.build_order.specs.Inside.Graphs.{Graph, Refers, IsWithin, AreLeads, at}
 use Rattle.build_order.specs.declared.search.Search.{Search}
-use Rattle.build_order.specs.Inside.Searches.{mark_at, members_of, todo_of, frames_of, IsKnown, IsUnderWay, Stands, lead_of}
+use Rattle.build_order.specs.Inside.Searches.{mark_at, IsKnown, IsUnderWay, Stands, lead_of}
 use Rattle.build_order.proofs.Members.{none}
 use Rattle.build_order.proofs.Steps.{no_parts}
 

@@ -1,5 +1,5 @@
 -- A component is looked at.
-use Rattle.std.proofs.Common.{◌≡◌, ◌≢◌, ◌⊎◌, inl, inr, ℕ, ◌+◌, ◌-◌, ◌<◌, ◌≤◌, Bool, true, false, List, [], ◌∷◌, ◌++◌, length, get_or, set, take, refl, sym, ap, ◌∙◌, subst, arith}
+use Rattle.std.proofs.Common.{◌≡◌, ◌≢◌, ◌⊎◌, inl, inr, ℕ, ◌-◌, ◌<◌, ◌≤◌, false, List, [], ◌∷◌, ◌++◌, length, get_or, set, take, refl, sym, ap, ◌∙◌, subst, arith}
 use Rattle.std.specs.List.{Contains}
 use Rattle.std.specs.Ordering.{nat_cmp}
 use Rattle.std.specs.BTreeSet.{insert_key}
@@ -7,8 +7,8 @@ use Rattle.std.proofs.lemmas.Bool.{cases_eq}
 use Rattle.std.proofs.lemmas.List.{length-set}
 use Rattle.std.proofs.lemmas.List.Elements.{Contains-append_left, Contains-push, Contains-push_cases}
 use Rattle.build_order.specs.declared.places.Places.{Places}
-use Rattle.build_order.specs.Inside.Graphs.{Graph, Refers, IsWithin, AreLeads, at}
-use Rattle.build_order.specs.Inside.Placings.{Holds, IsBehind, IsWaiting, IsParked, IsFree, is_done, InTurn, IsLast}
+use Rattle.build_order.specs.Inside.Graphs.{Graph, Refers, at}
+use Rattle.build_order.specs.Inside.Placings.{Holds, IsBehind, IsWaiting, IsParked, IsFree, is_done, IsLast}
 use Rattle.build_order.proofs.Members.{none, cons_cases, behind, at_front}
 use Rattle.build_order.proofs.Grouping.{set_same, set_other}
 use Rattle.build_order.proofs.Steps.{popped_front}

@@ -1,5 +1,5 @@
 -- A new number is opened.
-use Rattle.std.proofs.Common.{◌≡◌, ◌≢◌, ◌⊎◌, inl, inr, ℕ, ◌+◌, ◌<◌, ◌≤◌, List, [], ◌∷◌, ◌++◌, length, get_or, set, refl, sym, ap, ◌∙◌, subst, arith, length-append}
+use Rattle.std.proofs.Common.{◌≡◌, ◌≢◌, inl, inr, ℕ, ◌<◌, ◌≤◌, List, [], ◌∷◌, ◌++◌, length, get_or, set, sym, ap, ◌∙◌, subst, arith, length-append}
 use Rattle.std.specs.List.{Contains}
 use Rattle.std.proofs.lemmas.Bool.{cases_eq, cases_lt}
 use Rattle.std.proofs.lemmas.List.{length-set, get_or-set_same, get_or-set_other, get_or_append_left, get_or_push}
@@ -8,9 +8,9 @@ use Rattle.build_order.specs.declared.search.Mark.{Mark}
 use Rattle.build_order.specs.declared.search.Mark.TheVariants.{New, Open, Closed}
 use Rattle.build_order.specs.Orders.{Leads}
 use Rattle.build_order.specs.Inside.Graphs.{Graph, Refers, IsWithin}
-use Rattle.build_order.specs.Inside.Searches.{Part, members_of, todo_of, mark_at, IsKnown, IsPast, IsPart, AreParts, AreOpen, AreClosed, IsUnderWay}
-use Rattle.build_order.proofs.Members.{none, only_one, only_one_is, leads_here, one_step}
-use Rattle.build_order.proofs.Parts.{start_of, start_within, parts_by, closed_by}
+use Rattle.build_order.specs.Inside.Searches.{Part, members_of, todo_of, mark_at, IsPast, AreOpen, IsUnderWay}
+use Rattle.build_order.proofs.Members.{only_one, only_one_is, leads_here, one_step}
+use Rattle.build_order.proofs.Parts.{start_within, parts_by, closed_by}
 
 -- the number w gets the mark m
 pub marked_here : (marks : List Mark) (w : ℕ) (m : Mark) → w < length marks → mark_at (set marks w m) w ≡ m

@@ -1,5 +1,5 @@
 -- Components in turn are the order of the projects.
-use Rattle.std.proofs.Common.{◌≡◌, ◌≢◌, ◌⊎◌, ◌↔◌, inl, inr, ℕ, ◌+◌, ◌<◌, ◌≤◌, List, [], ◌∷◌, ◌++◌, Result, Ok, Err, length, get_or, map, take, refl, sym, ap, ◌∙◌, subst, arith, append_assoc, append-nil}
+use Rattle.std.proofs.Common.{◌≡◌, ◌⊎◌, inl, inr, ℕ, ◌+◌, ◌<◌, ◌≤◌, List, [], ◌∷◌, ◌++◌, Result, Ok, Err, length, get_or, map, take, refl, sym, ap, ◌∙◌, subst, arith, append_assoc, append-nil}
 use Rattle.std.specs.List.{All, AllPairs, Contains, filter, flat_map}
 use Rattle.std.proofs.lemmas.Bool.{cases_eq, cases_lt}
 use Rattle.std.proofs.lemmas.List.{length-map, get_or-map, get_or_default, get_or_past, get_or_read, take_more, map_push, map_more}
@@ -12,8 +12,8 @@ use Rattle.build_order.specs.Inside.Graphs.{Graph, Refers, IsWithin, AreLeads, a
 use Rattle.build_order.specs.Inside.Groups.{AreMembers}
 use Rattle.build_order.specs.Inside.Placings.{InTurn}
 use Rattle.build_order.specs.Inside.Placings as placing
-use Rattle.build_order.specs.Inside.Rows.{name_at, RefersIn, AreNames, AreRows, group_of}
-use Rattle.build_order.proofs.Members.{none, only_one, at_front, leads_here}
+use Rattle.build_order.specs.Inside.Rows.{name_at, AreNames, AreRows, group_of}
+use Rattle.build_order.proofs.Members.{none, at_front, leads_here}
 use Rattle.build_order.proofs.Placing.{turn_within}
 use Rattle.build_order.proofs.Sorted.{same_place}
 

@@ -1,14 +1,14 @@
 -- The parts of a search, as marks change.
-use Rattle.std.proofs.Common.{◌≡◌, ◌≢◌, ◌⊎◌, inl, inr, ℕ, ◌+◌, ◌-◌, ◌<◌, ◌≤◌, List, [], ◌∷◌, ◌++◌, length, get_or, refl, sym, ap, ◌∙◌, subst, arith, length-append}
+use Rattle.std.proofs.Common.{◌≡◌, ◌⊎◌, inl, inr, ℕ, ◌+◌, ◌-◌, ◌<◌, ◌≤◌, List, [], ◌∷◌, ◌++◌, length, refl, sym, ◌∙◌, subst, arith, length-append}
 use Rattle.std.specs.List.{Contains}
 use Rattle.std.proofs.lemmas.List.{get_or_default, get_or_append_left, get_or-append_right, get_or-append-add}
-use Rattle.std.proofs.lemmas.List.Elements.{Contains-append_left, Contains-append_right, Contains-append_cases, Contains-push, Contains-push_cases}
+use Rattle.std.proofs.lemmas.List.Elements.{Contains-append_left, Contains-append_right, Contains-append_cases, Contains-push}
 use Rattle.build_order.specs.declared.search.Mark.{Mark}
-use Rattle.build_order.specs.declared.search.Mark.TheVariants.{New, Open, Closed}
+use Rattle.build_order.specs.declared.search.Mark.TheVariants.{Open, Closed}
 use Rattle.build_order.specs.Orders.{Leads}
 use Rattle.build_order.specs.Inside.Graphs.{Graph, Refers}
-use Rattle.build_order.specs.Inside.Searches.{Part, members_of, todo_of, mark_at, IsKnown, IsPast, IsPart, AreParts, AreOpen, AreClosed, IsUnderWay}
-use Rattle.build_order.proofs.Members.{none, cons_cases, only_one, only_one_is, leads_on}
+use Rattle.build_order.specs.Inside.Searches.{Part, members_of, todo_of, mark_at, IsPast, AreParts, AreOpen, AreClosed, IsUnderWay}
+use Rattle.build_order.proofs.Members.{none, only_one, leads_on}
 
 -- where the top part begins
 abbrev pub start_of : List Part → ℕ
@@ -53,10 +53,6 @@ closed_by g marks new back on h = record {
   together = λ a b l i j. h.together a b l (back a l i) (back b l j);
   down = λ a b l is r. let d = h.down a b l (back a l is) r in (d.0, on b d.0 d.1, d.2);
 }
-
--- an open number stands at its place
-pub among_open : (marks : List Mark) (members : List ℕ) (n p : ℕ) → AreOpen marks members → mark_at marks n ≡ Open p → Contains members n
-among_open marks members n p o is = (p, (o.there n p is).0, get_or_default members p n 0 (o.there n p is).0 ∙ (o.there n p is).1)
 
 pub opened : (marks : List Mark) (members : List ℕ) (n : ℕ) → AreOpen marks members → (h : Contains members n) → mark_at marks n ≡ Open h.0
 opened marks members n o h = subst (λ x. mark_at marks x ≡ Open h.0) (get_or_default members h.0 0 n h.1 ∙ h.2) (o.here h.0 h.1)

@@ -2,7 +2,7 @@
 use Rattle.std.proofs.Common.{◌≡◌, ◌≢◌, ◌⊎◌, inl, inr, ℕ, ◌+◌, ◌-◌, ◌<◌, ◌≤◌, List, [], ◌∷◌, ◌++◌, length, get_or, set, take, drop, replicate, refl, sym, ap, ◌∙◌, subst, arith, length-append, append_assoc, append-nil}
 use Rattle.std.specs.List.{Contains, All}
 use Rattle.std.proofs.lemmas.Bool.{cases_eq, cases_lt}
-use Rattle.std.proofs.lemmas.List.{same_from_push, take_at, drop_at, nil_from_length, get_or_past, get_or-set_same, get_or-set_other, get_or-replicate, length-replicate, length-set, length-drop, get_or-drop, take_more, take_rest}
+use Rattle.std.proofs.lemmas.List.{same_from_push, take_at, drop_at, nil_from_length, get_or_past, get_or-replicate, length-replicate, length-drop, get_or-drop, take_more, take_rest}
 use Rattle.std.proofs.lemmas.List.Elements.{Contains-append_left, Contains-push_cases, Contains-push, Contains-get_or}
 use Rattle.build_order.specs.declared.search.Mark.{Mark}
 use Rattle.build_order.specs.declared.search.Mark.TheVariants.{New, Open, Closed}
@@ -10,7 +10,7 @@ use Rattle.build_order.specs.declared.search.Frame.{Frame}
 use Rattle.build_order.specs.declared.search.Search.{Search}
 use Rattle.build_order.specs.Orders.{Leads}
 use Rattle.build_order.specs.Inside.Graphs.{Graph, Refers, IsWithin}
-use Rattle.build_order.specs.Inside.Searches.{Part, members_of, todo_of, frames_of, mark_at, IsKnown, IsPast, AreOpen, AreParts, IsUnderWay, Stands, Meets, IsTop, GoesOn, IsFresh, AreMarked, cost_of, work}
+use Rattle.build_order.specs.Inside.Searches.{Part, members_of, todo_of, frames_of, mark_at, IsKnown, IsPast, IsUnderWay, Stands, Meets, IsTop, GoesOn, IsFresh, AreMarked, cost_of, work}
 use Rattle.build_order.proofs.Members.{none}
 use Rattle.build_order.proofs.Parts.{start_of, popped, popped_leads, met, opened}
 use Rattle.build_order.proofs.Opening.{opening, marked_here, marked_other, past_here}

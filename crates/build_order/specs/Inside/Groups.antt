@@ -1,5 +1,5 @@
 -- Components, each under its least number.
-use Rattle.std.specs.Prelude.{◌≡◌, ◌↔◌, ℕ, ◌<◌, List, [], length, get_or}
+use Rattle.std.specs.Prelude.{◌≡◌, ℕ, ◌<◌, List, [], length, get_or}
 use Rattle.std.specs.List.{AllPairs, Contains}
 use Rattle.build_order.specs.Inside.Graphs.{Graph, Refers, at}
 

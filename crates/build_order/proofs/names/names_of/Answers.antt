@@ -1,4 +1,3 @@
-use Rattle.std.proofs.Common.{◌∙◌}
 use Rattle.build_order.proofs.Rowing.{names_are}
 use Rattle.build_order.proofs.names.names_of.Goals as goal
 

@@ -1,4 +1,3 @@
-use Rattle.std.proofs.Common.{sym}
 use Rattle.build_order.proofs.Placing.{can_place, all_in_turn}
 use Rattle.build_order.proofs.places.places_of.Goals as goal
 

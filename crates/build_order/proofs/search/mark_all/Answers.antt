@@ -1,4 +1,4 @@
-use Rattle.std.proofs.Common.{arith, get_or, length, ◌<◌, refl, take, subst}
+use Rattle.std.proofs.Common.{arith, get_or, length, ◌<◌, refl, subst}
 use Rattle.std.proofs.lemmas.List.{take_all}
 use Rattle.build_order.specs.Inside.Searches.{AreMarked}
 use Rattle.build_order.proofs.Steps.{marked_none, marked_more}

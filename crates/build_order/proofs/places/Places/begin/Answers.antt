@@ -1,4 +1,4 @@
-use Rattle.std.proofs.Common.{◌≡◌, ◌≢◌, ◌+◌, drop, subst, sym, ◌∙◌}
+use Rattle.std.proofs.Common.{◌≢◌, ◌+◌, drop, subst, sym, ◌∙◌}
 use Rattle.build_order.specs.Inside.Graphs.{at}
 use Rattle.build_order.specs.Inside.Placings.{Holds, leads_from}
 use Rattle.build_order.proofs.Placing.{pending_is, pending_not}

@@ -1,5 +1,5 @@
-use Rattle.std.proofs.Common.{◌≡◌, ◌⊎◌, true, [], ◌∷◌, length, get_or, set, subst, sym, ap, ◌∙◌, arith}
-use Rattle.build_order.specs.Inside.Placings.{Holds, is_done}
+use Rattle.std.proofs.Common.{◌≡◌, ◌⊎◌, true, [], get_or, set, subst, sym, ap, ◌∙◌, arith}
+use Rattle.build_order.specs.Inside.Placings.{is_done}
 use Rattle.build_order.proofs.Looking.{waits_behind, target_within, without_last, passed, parked_at, freed}
 use Rattle.build_order.proofs.places.Places.look.Goals as goal
 

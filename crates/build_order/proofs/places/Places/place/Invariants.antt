@@ -1,4 +1,4 @@
-use Rattle.std.proofs.Common.{◌≡◌, ◌<◌, drop}
+use Rattle.std.proofs.Common.{◌<◌, drop}
 use Rattle.build_order.specs.Inside.Graphs.{Graph}
 use Rattle.build_order.specs.Inside.Placings.{Holds, CanPlace, left}
 use Rattle.build_order.proofs.places.Places.place.Given as goal

@@ -1,4 +1,4 @@
-use Rattle.std.proofs.Common.{◌≡◌, ap, sym, subst, ◌∙◌, arith}
+use Rattle.std.proofs.Common.{ap, subst, ◌∙◌, arith}
 use Rattle.std.specs.List.{Contains}
 use Rattle.build_order.specs.Inside.Searches.{mark_at}
 use Rattle.build_order.specs.declared.search.Search.{Search}

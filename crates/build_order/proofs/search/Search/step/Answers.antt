@@ -1,4 +1,4 @@
-use Rattle.std.proofs.Common.{◌≡◌, refl, arith}
+use Rattle.std.proofs.Common.{refl, arith}
 use Rattle.build_order.specs.declared.search.Search.{Search}
 use Rattle.build_order.proofs.Steps.{top_within, next_meets}
 use Rattle.build_order.proofs.search.Search.step.Goals as goal
