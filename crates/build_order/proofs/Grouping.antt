@@ -7,7 +7,6 @@ use Rattle.std.proofs.lemmas.List.Elements.{Contains-append_left, Contains-appen
 use Rattle.std.proofs.lemmas.List.Quantifiers.{all_pairs_push}
 use Rattle.build_order.specs.Inside.Graphs.{Graph, AreLeads, at}
 use Rattle.build_order.specs.Inside.Groups.{AreMembers, AreTargets}
-use Rattle.build_order.proofs.Members.{none}
 
 -- the list at a place, after one was set
 pub set_same : (lists : List (List ℕ)) (i : ℕ) (xs : List ℕ) → i < length lists → get_or (set lists i xs) i [] ≡ xs
