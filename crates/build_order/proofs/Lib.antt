@@ -1,0 +1,15 @@
+pub mod Members
+pub mod Parts
+pub mod Opening
+pub mod Joining
+pub mod Closing
+pub mod Costs
+pub mod Steps
+pub mod Leading
+pub mod FreeSets
+pub mod Grouping
+pub mod Looking
+pub mod Placing
+pub mod Sorted
+pub mod Rowing
+pub mod Ordered
