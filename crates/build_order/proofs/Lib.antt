@@ -13,3 +13,4 @@ pub mod Placing
 pub mod Sorted
 pub mod Rowing
 pub mod Ordered
+pub mod Single

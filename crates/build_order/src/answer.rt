@@ -1,5 +1,5 @@
 //! The order of projects, and its knots.
-ghost use Rattle.std.specs.Prelude.{◌≡◌, ◌<◌, ◌++◌, ℕ, [], ◌∷◌, length, get_or, map, if◌then◌else◌, All, IfOk, OnOk};
+ghost use Rattle.std.specs.Prelude.{◌≡◌, ◌<◌, ◌++◌, ℕ, List, [], ◌∷◌, length, get_or, map, if◌then◌else◌, All, IfOk, OnOk};
 ghost use Rattle.std.specs.List.{flat_map, filter};
 ghost use Rattle.build_order.specs.Orders.{IsOrder, is_knot};
 ghost use Rattle.build_order.specs.Inside.Rows.{name_at, group_of};
@@ -28,7 +28,9 @@ pub struct ProjectOrder {
 /// next, its members by name. A component of two or more is a knot. Where two projects have one name they are
 /// one, which refers to all to which either does. Costs a sort of the names and a search among them for each reference.
 pub fn order(alloc: Global, projects: &[(Name, Vec<Name>)]) -> Result<ProjectOrder, NoMemory>
-    ensures { IfOk result (λ o. IsOrder (map (λ p. (p.0, p.1.items)) projects.now) o.order o.knots) }
+    ensures right { IfOk result (λ o. IsOrder (map (λ p. (p.0, p.1.items)) projects.now) o.order o.knots) }
+    ensures only { IfOk result (λ o. (order : List (List ℕ)) (knots : List (List (List ℕ)))
+        → IsOrder (map (λ p. (p.0, p.1.items)) projects.now) order knots → (o.order ≡ order) × (o.knots ≡ knots)) }
 {
     let names = names_of(alloc, projects)?;
     let graph = graph_of(alloc, &names, projects)?;
