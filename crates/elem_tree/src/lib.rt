@@ -2,6 +2,7 @@
 //!
 //! - `slot`: a `Slot`, what a layer keeps of one path.
 //! - `notes`: `Notes`, the slots of one layer.
+//! - `joining`: two layers made one, the smaller taken into the larger.
 //! - `newest`: `Newest`, the newest tree, which can tell its paths with room.
 //! - `noting`: puts and takes that note what was there before.
 //! - `layer`: a `Mark`, a `Layer`, and the layers from a mark on.
@@ -10,6 +11,7 @@
 #![tactic(auto)]
 
 mod gathering;
+mod joining;
 mod layer;
 mod newest;
 mod notes;
