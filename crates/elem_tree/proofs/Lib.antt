@@ -1,5 +1,6 @@
 pub mod Entries
 pub mod Gathers
+pub mod Joins
 pub mod Marks
 pub mod Rooms
 pub mod Seals
