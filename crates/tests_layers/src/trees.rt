@@ -135,6 +135,35 @@ fn since(alloc: Global, tree: &LayerTree, mark: &Mark) -> Result<Changes, NoMemo
     Ok(changes)
 }
 
+fn put_mark(
+    rt: &(impl Abort + AllocGlobal),
+    out: &mut String,
+    word: &str,
+    tree: &LayerTree,
+    mark: &Mark,
+) -> Result<(), NoMemory> {
+    let alloc = rt.alloc();
+    match word {
+        "at" => put_tree(alloc, out, &tree.at(alloc, mark)?)?,
+        "since" => put_delta_of(alloc, out, &since(alloc, tree, mark)?)?,
+        _ => put_changes(rt, out, &since(alloc, tree, mark)?)?,
+    }
+    put(out, "; ")
+}
+
+fn put_each(
+    rt: &(impl Abort + AllocGlobal),
+    out: &mut String,
+    word: &str,
+    tree: &LayerTree,
+    marks: &[Mark],
+) -> Result<(), NoMemory> {
+    for mark in marks {
+        put_mark(rt, out, word, tree, mark)?;
+    }
+    Ok(())
+}
+
 /// What the word tells of each mark.
 pub fn put_marks(
     rt: &(impl Abort + AllocGlobal),
@@ -143,18 +172,9 @@ pub fn put_marks(
     map: ElemMap,
     text: &str,
 ) -> Result<(), NoMemory> {
-    let alloc = rt.alloc();
-    let mut tree = LayerTree::of(alloc, map);
-    let marks = marks_of(alloc, &mut tree, text)?;
-    for mark in &marks {
-        match word {
-            "at" => put_tree(alloc, out, &tree.at(alloc, mark)?)?,
-            "since" => put_delta_of(alloc, out, &since(alloc, &tree, mark)?)?,
-            _ => put_changes(rt, out, &since(alloc, &tree, mark)?)?,
-        }
-        put(out, "; ")?;
-    }
-    Ok(())
+    let mut tree = LayerTree::of(rt.alloc(), map);
+    let marks = marks_of(rt.alloc(), &mut tree, text)?;
+    put_each(rt, out, word, &tree, marks.as_slice())
 }
 
 /// A mark, and the flat tree as it was then.
@@ -192,6 +212,30 @@ fn text_of(alloc: Global, tree: &ElemMap) -> Result<String, NoMemory> {
     Ok(out)
 }
 
+/// Both are written alike.
+fn are_alike(
+    rt: &(impl Abort + AllocGlobal),
+    one: &ElemMap,
+    other: &ElemMap,
+) -> Result<(), NoMemory> {
+    let one = text_of(rt.alloc(), one)?;
+    let other = text_of(rt.alloc(), other)?;
+    holds(rt, one.as_str() == other.as_str());
+    Ok(())
+}
+
+fn hold_all(
+    rt: &(impl Abort + AllocGlobal),
+    tree: &LayerTree,
+    moments: &[Moment],
+) -> Result<(), NoMemory> {
+    for moment in moments {
+        let then = tree.at(rt.alloc(), &moment.mark)?;
+        are_alike(rt, moment.flat.map(), &then)?;
+    }
+    Ok(())
+}
+
 /// The answers of a flat tree, which a tree with marks gives too. Of each mark it has the flat tree as it was then.
 pub fn put_both(
     rt: &(impl Abort + AllocGlobal),
@@ -199,20 +243,11 @@ pub fn put_both(
     map: ElemMap,
     text: &str,
 ) -> Result<(), NoMemory> {
-    let alloc = rt.alloc();
     let mut flat = FlatTree::of(map.copy()?);
-    let mut tree = LayerTree::of(alloc, map);
+    let mut tree = LayerTree::of(rt.alloc(), map);
     let moments = moments_of(rt, out, &mut flat, &mut tree, text)?;
-    for moment in &moments {
-        let then = text_of(alloc, moment.flat.map())?;
-        holds(
-            rt,
-            text_of(alloc, &tree.at(alloc, &moment.mark)?)?.as_str() == then.as_str(),
-        );
-    }
-    let newest = text_of(alloc, tree.newest())?;
-    holds(rt, text_of(alloc, flat.map())?.as_str() == newest.as_str());
-    Ok(())
+    hold_all(rt, &tree, moments.as_slice())?;
+    are_alike(rt, flat.map(), tree.newest())
 }
 
 #[test]
