@@ -1,5 +1,7 @@
 pub mod Entries
+pub mod Forgets
 pub mod Gathers
+pub mod Joins
 pub mod Marks
 pub mod Rooms
 pub mod Seals
