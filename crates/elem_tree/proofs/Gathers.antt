@@ -164,7 +164,7 @@ get-set_back t (e ∷ es) q =
 pub get-undone : (t : Tree) (b : Befores) (q : Names) → get (undone t b) q ≡ or_now (get b q) (get t q)
 get-undone t b q = get-set_back t (entries b) q ∙ ap (λ k. or_now k (get t q)) (sym (get-entries b q))
 
-or_or : (x z : Option (Option Element)) (y : Option Element) → or_now x (or_now z y) ≡ or_now (if is_some x then x else z) y
+pub or_or : (x z : Option (Option Element)) (y : Option Element) → or_now x (or_now z y) ≡ or_now (if is_some x then x else z) y
 or_or None z y = refl
 or_or (Some x) z y = refl
 

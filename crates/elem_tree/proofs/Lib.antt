@@ -1,8 +1,12 @@
 pub mod Entries
+pub mod Forgets
+pub mod Forgotten
 pub mod Gathers
+pub mod Joins
 pub mod Marks
 pub mod Rooms
 pub mod Seals
 pub mod Since
 pub mod Slots
 pub mod Trees
+pub mod Without

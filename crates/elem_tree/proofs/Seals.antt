@@ -1,7 +1,8 @@
 -- A layer more, and one that ends.
 use Rattle.std.proofs.Common.{◌≡◌, ◌<◌, ℕ, arith, List, [], ◌∷◌, ◌++◌, refl, sym, ap, ◌∙◌, subst}
-use Rattle.std.specs.Prelude.{Option, Some, None}
+use Rattle.std.specs.Prelude.{Option, Some, None, IfSome}
 use Rattle.std.specs.FinMap.{empty}
+use Rattle.std.specs.FinSet as set
 use Rattle.std.specs.List.{AllByRecursion}
 use Rattle.res_path.specs.Paths.{Names}
 use Rattle.ws_elem.specs.Rooms.{Room}
@@ -9,10 +10,10 @@ use Rattle.ws_elem.specs.Trees.{Tree}
 use Rattle.ws_elem.specs.declared.element.Element.{Element}
 use Rattle.elem_tree.specs.declared.layer.Layer.{Layer}
 use Rattle.elem_tree.specs.Layers as seen
-use Rattle.elem_tree.specs.Inside.Slots.{Slots, befores_of, IsReady}
-use Rattle.elem_tree.specs.Inside.Shown.{AllBelow, Rising, IsKept, closed_layer, shown, shown_all, with_current}
+use Rattle.elem_tree.specs.Inside.Slots.{Slots, befores_of, closed_all, IsReady, NoneReady}
+use Rattle.elem_tree.specs.Inside.Shown.{AllBelow, EndedButLast, Rising, IsKept, closed_layer, shown, shown_all, with_current}
 use Rattle.elem_tree.proofs.Gathers.{shown_append}
-use Rattle.elem_tree.proofs.Rooms.{closed_befores}
+use Rattle.elem_tree.proofs.Rooms.{closed_befores, none_ready}
 use Rattle.elem_tree.proofs.Trees.{marks_same, noted_last}
 
 -- ---- marks alone count
@@ -27,6 +28,30 @@ rising_marks (j ∷ ls) l k is h = (all_marks (λ n. j.mark < n) ls l k is h.0, 
 
 pub below_marks : (n : ℕ) (ls : List Layer) (l k : Layer) → k.mark ≡ l.mark → AllBelow n (ls ++ l ∷ []) → AllBelow n (ls ++ k ∷ [])
 below_marks n ls l k is h = all_marks (λ m. m < n) ls l k is h
+
+-- ---- in which layers entries are ready
+
+all_ended : (ls : List Layer) (l : Layer) → EndedButLast (ls ++ l ∷ []) → AllByRecursion (λ k. NoneReady k.notes) ls
+all_ended [] l h = tt
+all_ended (j ∷ []) l h = (h.0, tt)
+all_ended (j ∷ i ∷ ls) l h = (h.0, all_ended (i ∷ ls) l h.1)
+
+ended_push : (ls : List Layer) (l : Layer) → AllByRecursion (λ k. NoneReady k.notes) ls → EndedButLast (ls ++ l ∷ [])
+ended_push [] l h = tt
+ended_push (j ∷ []) l h = (h.0, tt)
+ended_push (j ∷ i ∷ ls) l h = (h.0, ended_push (i ∷ ls) l h.1)
+
+all_closed : (ls : List Layer) (roomy : List Names) (k : Option Layer) (t : Tree) (room : Room) → set.from_list roomy ≡ room → (k ≡ None → ls ≡ [])
+    → IfSome k (λ l. IsReady l.notes t room) → EndedButLast (with_current ls k) → AllByRecursion (λ l. NoneReady l.notes) (with_current ls (closed_layer roomy k))
+all_closed ls roomy None t room is first ready ended = subst (AllByRecursion (λ l. NoneReady l.notes)) (sym (first refl)) tt
+all_closed ls roomy (Some l) t room is first ready ended = behind ls (all_ended ls l ended)
+  where
+    closed : Layer
+    closed = record { mark = l.mark; notes = closed_all l.notes roomy }
+
+    behind : (xs : List Layer) → AllByRecursion (λ k. NoneReady k.notes) xs → AllByRecursion (λ k. NoneReady k.notes) (xs ++ closed ∷ [])
+    behind [] h = (none_ready roomy l.notes t room is ready, tt)
+    behind (x ∷ xs) h = (h.0, behind xs h.1)
 
 -- ---- a layer ends
 
@@ -57,11 +82,12 @@ below_push : (n m : ℕ) (ls : List Layer) (l : Layer) → l.mark ≡ n → n < 
 below_push n m [] l is lt b = (omega (arith, is, lt), tt)
 below_push n m (j ∷ ls) l is lt b = let first : j.mark < n = b.0 in (omega (arith, first, lt), below_push n m ls l is lt b.1)
 
-pub sealed_kept : (ls now : List Layer) (k : Option Layer) (roomy : List Names) (n m : ℕ) (t : Tree) (room : Room) (notes : Slots) → IsKept ls k n t room
+pub sealed_kept : (ls now : List Layer) (k : Option Layer) (roomy : List Names) (n m : ℕ) (t : Tree) (room : Room) (notes : Slots) → set.from_list roomy ≡ room → IsKept ls k n t room
     → now ≡ with_current ls (closed_layer roomy k) → n < m → IsReady notes t room → IsKept now (Some (record { mark = n; notes = notes })) m t room
-sealed_kept ls now k roomy n m t room notes kept is lt ready = record {
+sealed_kept ls now k roomy n m t room notes with_room kept is lt ready = record {
   first = λ e. absurd (no (record { mark = n; notes = notes }) e);
   ready = ready;
+  ended = ended_push now _ (subst (AllByRecursion (λ l. NoneReady l.notes)) (sym is) (all_closed ls roomy k t room with_room kept.first kept.ready kept.ended));
   rising = rising_push n now _ refl below (subst Rising (sym is) (ended_rising ls roomy k kept.rising));
   below = below_push n m now _ refl lt below;
 }
@@ -88,6 +114,7 @@ pub current_kept : (ls : List Layer) (l k : Layer) (n : ℕ) (t u : Tree) (room 
 current_kept ls l k n t u room now kept is ready = record {
   first = λ e. absurd (no e);
   ready = ready;
+  ended = ended_push ls k (all_ended ls l kept.ended);
   rising = rising_marks ls l k is kept.rising;
   below = below_marks n ls l k is kept.below;
 }
@@ -97,12 +124,13 @@ current_kept ls l k n t u room now kept is ready = record {
 
 -- nothing is kept since no mark
 pub none_kept : (ls : List Layer) (n : ℕ) (t u : Tree) (room now : Room) → IsKept ls None n t room → IsKept ls None n u now
-none_kept ls n t u room now kept = record { first = kept.first; ready = tt; rising = kept.rising; below = kept.below }
+none_kept ls n t u room now kept = record { first = kept.first; ready = tt; ended = kept.ended; rising = kept.rising; below = kept.below }
 
 pub empty_kept : (ls : List Layer) (t : Tree) (room : Room) → ls ≡ [] → IsKept ls None 0 t room
 empty_kept ls t room is = record {
   first = λ _. is;
   ready = tt;
+  ended = subst EndedButLast (sym is) tt;
   rising = subst Rising (sym is) tt;
   below = subst (AllBelow 0) (sym is) tt;
 }

@@ -1,13 +1,14 @@
 -- What became of the tree since a mark.
-use Rattle.std.proofs.Common.{◌≡◌, ◌≤◌, ℕ, List, [], ◌∷◌, refl, sym, ap, ◌∙◌, subst}
+use Rattle.std.proofs.Common.{◌≡◌, ◌+◌, ◌≤◌, ℕ, arith, List, [], ◌∷◌, refl, sym, ap, ◌∙◌, subst}
 use Rattle.std.specs.Prelude.{Option, Some, None, Result, Ok, Err, IfOk, OnOk, OnErr, IfSome}
-use Rattle.std.specs.FinMap.{get, empty, get-empty}
+use Rattle.std.specs.FinMap.{get, empty, get-empty, len}
 use Rattle.res_path.specs.Paths.{path_cmp}
 use Rattle.ws_elem.specs.Trees.{Tree}
 use Rattle.layer_log.specs.Records.{Records, Turns, Leads, Meets, Net, IsNetOf}
 use Rattle.elem_tree.specs.declared.layer.Layer as kept
 use Rattle.elem_tree.specs.Layers.{Layer, from_mark, tree_before, tree_of_first, records}
 use Rattle.elem_tree.specs.Inside.Shown.{Rising, IsCut, shown_all, with_current}
+use Rattle.elem_tree.proofs.Gathers.{none_most}
 use Rattle.elem_tree.proofs.Marks.{from_cut}
 
 pub if_ok : {T E : Type 0} {P Q : T → Type 0} (r : Result T E) → IfOk r P → ((x : T) → P x → Q x) → IfOk r Q
@@ -21,6 +22,14 @@ if_some (Some x) p f = f x p
 pub on_ok : {T E P Q : Type 0} (r : Result T E) → OnOk r P → (P → Q) → OnOk r Q
 on_ok (Ok x) p f = f p
 on_ok (Err e) p f = tt
+
+pub on_err_of : {T E P Q : Type 0} (r : Result T E) → OnErr r P → (P → Q) → OnErr r Q
+on_err_of (Ok x) p f = tt
+on_err_of (Err e) p f = f p
+
+pub on_err : {T E P : Type 0} (r : Result T E) → P → OnErr r P
+on_err (Ok x) p = tt
+on_err (Err e) p = p
 
 -- what follows from either outcome
 pub outcome : {T E A B C P : Type 0} (r : Result T E) → OnOk r A → OnOk r B → OnErr r C → (A → B → P) → (C → P) → P
@@ -51,3 +60,8 @@ leads_none c t is p = subst (λ x. Turns (get t p) x (get t p)) (sym (ap (λ m. 
 
 pub net_since : (none c d : Records) (t u : Tree) → none ≡ empty → IsNetOf none c d → Leads u c t → Net u t d
 net_since none c d t u is net leads = net u u t (leads_none none u is) leads
+
+-- each of the changes was a step
+pub counted : {E : Type 0} (r : Result Records E) (none : Records) (n old new : ℕ) → none ≡ empty → IfOk r (λ d. len d ≤ len none + n) → OnOk r (new ≡ old + n) → IfOk r (λ d. old + len d ≤ new)
+counted (Ok d) none n old new is most cost = let zero = none_most none is in omega (arith, most, cost, zero)
+counted (Err e) none n old new is most cost = tt

@@ -66,3 +66,22 @@ abbrev pub noted : List Layer → Names → Option Element → List Layer
 noted [] p x = []
 noted (l ∷ []) p x = record l { befores = with_before l.befores p x } ∷ []
 noted (l ∷ k ∷ ls) p x = l ∷ noted (k ∷ ls) p x
+
+-- the later records, and over them the earlier ones
+abbrev pub over : Befores → List (Names × Option Element) → Befores
+over later [] = later
+over later (e ∷ es) = insert (over later es) e.0 e.1
+
+-- what both layers recorded, as one layer that begins with the first
+abbrev pub joined : Layer → Layer → Layer
+joined earlier later = record earlier { befores = over later.befores (entries earlier.befores) }
+
+-- the mark's layer is joined to the one before it, if there is one
+abbrev pub joined_into : Layer → ℕ → List Layer → List Layer
+joined_into k m [] = k ∷ []
+joined_into k m (l ∷ ls) = if nat_eq m l.mark then joined k l ∷ ls else k ∷ joined_into l m ls
+
+-- the layers where the mark is forgotten: its own is joined to the one before it, and the first is left out
+abbrev pub without_mark : ℕ → List Layer → List Layer
+without_mark m [] = []
+without_mark m (l ∷ ls) = if nat_eq m l.mark then ls else joined_into l m ls

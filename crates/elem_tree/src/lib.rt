@@ -2,6 +2,8 @@
 //!
 //! - `slot`: a `Slot`, what a layer keeps of one path.
 //! - `notes`: `Notes`, the slots of one layer.
+//! - `forgetting`: layers whose mark is given up.
+//! - `joining`: two layers made one, the smaller taken into the larger.
 //! - `newest`: `Newest`, the newest tree, which can tell its paths with room.
 //! - `noting`: puts and takes that note what was there before.
 //! - `layer`: a `Mark`, a `Layer`, and the layers from a mark on.
@@ -9,7 +11,9 @@
 //! - `tree`: a `LayerTree`.
 #![tactic(auto)]
 
+mod forgetting;
 mod gathering;
+mod joining;
 mod layer;
 mod newest;
 mod notes;

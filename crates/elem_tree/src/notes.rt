@@ -1,9 +1,10 @@
 //! What a layer keeps of some paths.
-ghost use Rattle.std.specs.Prelude.{◌≡◌, is_some, not, true, IfOk, OnOk, OnErr, IsOk, IsSome};
+ghost use Rattle.std.specs.Prelude.{◌≡◌, is_some, not, true, IfOk, OnOk, OnErr, IfSome, IfNone, IsOk, IsSome, Some};
 ghost use Rattle.std.specs.Option.{option_copied, option_map};
 ghost use Rattle.std.specs.FinMap as map;
 ghost use Rattle.res_path.specs.Paths.{Names};
-ghost use Rattle.elem_tree.specs.Inside.Slots.{note_in, is_known, touched, touched_at, noted_at, readied_at, closed_at, closed_all};
+ghost use Rattle.elem_tree.specs.Inside.Slots.{note_in, is_known, touched, touched_at, noted_at, readied_at, closed_at, closed_all, spared_at};
+ghost use Rattle.elem_tree.specs.Inside.Joins.{IsSpared};
 ghost use Rattle.elem_tree.specs.Inside.Entries.{SetsAt, found};
 
 use crate::NoMemory;
@@ -42,6 +43,12 @@ impl Notes {
         Notes {
             slots: BTreeMap::new(alloc),
         }
+    }
+
+    pub(crate) fn len(&self) -> usize
+        ensures { result ≡ map.len self.now }
+    {
+        self.slots.len()
     }
 
     fn get(&self, path: &Path) -> Option<&Slot>
@@ -85,6 +92,14 @@ impl Notes {
         Ok(())
     }
 
+    /// Puts the slot in the place of the path's own. It takes no memory.
+    pub(crate) fn set(&mut self, path: &Path, slot: Slot)
+        requires { IsSome (map.get self.old path.now) }
+        ensures { self.new ≡ map.insert self.old path.now slot }
+    {
+        fill_slot(&mut self.slots, path, slot);
+    }
+
     /// Something is put or taken at a path whose entry is known. It takes no memory.
     pub(crate) fn touch(&mut self, path: &Path)
         requires { is_known (map.get self.old path.now) ≡ true }
@@ -97,6 +112,15 @@ impl Notes {
         ensures { self.new ≡ map.remove self.old path.now }
     {
         self.slots.remove(path);
+    }
+
+    /// Takes the first slot out, with its path.
+    pub(crate) fn pop(&mut self) -> Option<(Path, Slot)>
+        ensures first { IfSome result (λ e. map.get self.old e.0 ≡ Some e.1) }
+        ensures gone { IfSome result (λ e. self.new ≡ map.remove self.old e.0) }
+        ensures none { IfNone result (self.old ≡ map.empty) }
+    {
+        self.slots.pop_first()
     }
 
     /// Notes the path's entry, unless it is known: then that is the one before.
@@ -140,6 +164,38 @@ impl Notes {
         if self.is_known(path) && !self.is_noted(path) {
             self.take(path);
         }
+    }
+
+    /// Gives each path of the others a slot. Where memory wants some may have none.
+    pub(crate) fn make_slots(&mut self, others: &Notes) -> Result<(), NoMemory>
+        ensures spared { IsSpared self.old self.new }
+        ensures ok { OnOk result ((p : Names) → IsSome (map.get others.now p) → IsSome (map.get self.new p)) }
+    {
+        for (path, _) in others.iter() {
+            self.make_slot(path)?;
+        }
+        Ok(())
+    }
+
+    fn make_slot(&mut self, path: &Path) -> Result<(), NoMemory>
+        ensures ok { OnOk result (self.new ≡ spared_at self.old path.now) }
+        ensures err { OnErr result (self.new ≡ self.old) }
+    {
+        if self.get(path).is_some() {
+            return Ok(());
+        }
+        self.put(path.copy()?, Slot::Spare)
+    }
+}
+
+/// Puts the slot in the place of the path's own.
+fn fill_slot(slots: &mut BTreeMap<Path, Slot>, path: &Path, slot: Slot)
+    requires { IsSome (found slots.old.entries path.now) }
+    ensures { SetsAt slots.old.entries slots.new.entries path.now (Some slot) }
+{
+    match slots.get_mut(path) {
+        Some(place) => place.turn_into(slot),
+        None => drop(slot),
     }
 }
 

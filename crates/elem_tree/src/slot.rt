@@ -26,6 +26,13 @@ impl Slot {
         matches!(self, Slot::Noted(_))
     }
 
+    /// Is this slot from now on.
+    pub(crate) fn turn_into(&mut self, slot: Slot)
+        ensures { self.new ≡ slot }
+    {
+        *self = slot;
+    }
+
     /// Something is put or taken: the entry that is ready is the one before.
     pub(crate) fn touch(&mut self)
         ensures { self.new ≡ touched self.old }

@@ -1,14 +1,15 @@
 //! A tree with marks.
-ghost use Rattle.std.specs.Prelude.{◌≡◌, ◌≢◌, ◌+◌, ◌≤◌, ◌++◌, ◌∷◌, [], ℕ, not, true, IfOk, IfErr, OnOk, OnErr, IsOk, IfSome, Some, None};
+ghost use Rattle.std.specs.Prelude.{◌≡◌, ◌≢◌, ◌+◌, ◌≤◌, ◌++◌, ◌∷◌, [], ℕ, length, not, true, IfOk, IfErr, OnOk, OnErr, IsOk, IfSome, Some, None};
 ghost use Rattle.std.specs.Option.{option_copied, option_map};
 ghost use Rattle.std.specs.Map.Iter.{deref_pair};
 ghost use Rattle.std.specs.FinMap as map;
 ghost use Rattle.ws_elem.specs.Trees.{Tree, entry_after, with_new};
 ghost use Rattle.ws_elem.specs.Rooms.{no_room, has_room, with_room};
 ghost use Rattle.layer_log.specs.Records.{Leads, Net};
-ghost use Rattle.elem_tree.specs.Layers.{from_mark, noted, records, tree_at};
+ghost use Rattle.elem_tree.specs.Layers.{from_mark, noted, records, tree_at, without_mark};
 
 use crate::NoMemory;
+use crate::forgetting::forget_layer;
 use crate::gathering::changes_of;
 use crate::layer::{Layer, Mark, end_layer, layers_from};
 use crate::newest::Newest;
@@ -89,6 +90,24 @@ impl LayerTree {
         }
     }
 
+    /// As `put`, where there is no element at the path; the path has room either way. Whether the element was put. After
+    /// `NoMemory` the tree is as before.
+    pub fn put_new(&mut self, path: &Path, element: Element) -> Result<bool, NoMemory>
+        ensures answer { IfOk result (λ puts. puts ≡ not (map.contains_key self.old.map path.now)) }
+        ensures ok { OnOk result (self.new.map ≡ with_new self.old.map path.now element) }
+        ensures err { OnErr result (self.new ≡ self.old) }
+        ensures room { OnOk result (self.new.room ≡ with_room self.old.room path.now) }
+        ensures marks { (m : ℕ) → tree_at self.new m ≡ tree_at self.old m }
+    {
+        let at = path.copy()?;
+        self.make_room(path)?;
+        if self.newest.elements().contains(path) {
+            return Ok(false);
+        }
+        self.put(at, element)?;
+        Ok(true)
+    }
+
     /// Takes the element at the path out, and gives it, which the newest mark's layer records. Every mark keeps its
     /// tree. After `NoMemory` the tree is as before.
     pub fn take(&mut self, path: &Path) -> Result<Option<Element>, NoMemory>
@@ -117,23 +136,6 @@ impl LayerTree {
         }
     }
 
-    /// As `put`, where there is no element at the path; the path has room either way. Whether the element was put.
-    fn put_where_none(&mut self, path: &Path, element: Element) -> Result<bool, NoMemory>
-        ensures answer { IfOk result (λ puts. puts ≡ not (map.contains_key self.old.map path.now)) }
-        ensures ok { OnOk result (self.new.map ≡ with_new self.old.map path.now element) }
-        ensures err { OnErr result (self.new ≡ self.old) }
-        ensures room { OnOk result (self.new.room ≡ with_room self.old.room path.now) }
-        ensures marks { (m : ℕ) → tree_at self.new m ≡ tree_at self.old m }
-    {
-        let at = path.copy()?;
-        self.make_room(path)?;
-        if self.newest.elements().contains(path) {
-            return Ok(false);
-        }
-        self.put(at, element)?;
-        Ok(true)
-    }
-
     /// Takes all room away. Tree and marks are as before. It takes no memory.
     pub fn drop_room(&mut self)
         ensures { self.new ≡ record self.old { room = no_room } }
@@ -148,9 +150,9 @@ impl LayerTree {
     /// memory wants, or 2^64 - 1 marks were made, all is as before. Costs a copy of the elements with room, and of no
     /// others.
     pub fn seal(&mut self, alloc: Global) -> Result<Mark, NoMemory>
-        ensures ok { IfOk result (λ mark. self.new ≡ record self.old { layers = self.old.layers ++ record { mark = mark.number; befores = map.empty } ∷ [] }) }
-        ensures fresh { IfOk result (λ mark. tree_at self.old mark.number ≡ None) }
-        ensures own { IfOk result (λ mark. tree_at self.new mark.number ≡ Some self.new.map) }
+        ensures ok { IfOk result (λ mark. self.new ≡ record self.old { layers = self.old.layers ++ record { mark = mark; befores = map.empty } ∷ [] }) }
+        ensures fresh { IfOk result (λ mark. tree_at self.old mark ≡ None) }
+        ensures own { IfOk result (λ mark. tree_at self.new mark ≡ Some self.new.map) }
         ensures marks { (m : ℕ) → IfSome (tree_at self.old m) (λ t. tree_at self.new m ≡ Some t) }
         ensures err { OnErr result (self.new ≡ self.old) }
     {
@@ -176,20 +178,51 @@ impl LayerTree {
         from: &Mark,
         steps: &mut Steps<L>,
     ) -> Result<Changes, NoMemory>
-        ensures net { IfOk result (λ c. IfSome (tree_at self.now from.now.number) (λ t. Net t self.now.map c)) }
-        ensures bound { IfSome (tree_at self.now from.now.number) (λ _. steps.new ≤ steps.old + records (from_mark from.now.number self.now.layers)) }
+        ensures net { IfOk result (λ c. IfSome (tree_at self.now from.now) (λ t. Net t self.now.map c)) }
+        ensures counted { IfOk result (λ c. steps.old + map.len c ≤ steps.new) }
+        ensures bound { IfSome (tree_at self.now from.now) (λ _. steps.new ≤ steps.old + records (from_mark from.now self.now.layers)) }
     {
-        let changes = self.changes_since(alloc, from.number)?;
+        let changes = self.changes_since(alloc, from.number())?;
         Changes::none(alloc).then(&changes, steps)
     }
 
     /// The tree at the mark, as a value of its own, with the newest tree's room. Costs a copy of the newest tree, and
     /// a search for each record since the mark.
     pub fn at(&self, alloc: Global, mark: &Mark) -> Result<ElemMap, NoMemory>
-        ensures { IfOk result (λ tree. IfSome (tree_at self.now mark.now.number) (λ t. tree.map ≡ t)) }
+        ensures { IfOk result (λ tree. IfSome (tree_at self.now mark.now) (λ t. tree.map ≡ t)) }
     {
-        self.changes_since(alloc, mark.number)?
+        self.changes_since(alloc, mark.number())?
             .undo(self.newest.elements())
+    }
+
+    /// Forgets the mark: its tree can't be asked for any more, and every other mark keeps its tree. What was recorded
+    /// since it is recorded since the mark before it from then on, if there is one, the smaller part taken into the larger
+    /// and no element copied; so there are as many layers as marks that aren't forgotten. After `NoMemory`, with which the
+    /// mark comes back, the tree is as before.
+    pub fn forget(&mut self, alloc: Global, mark: Mark) -> Result<(), (NoMemory, Mark)>
+        ensures ok { OnOk result (self.new ≡ record self.old { layers = without_mark mark self.old.layers }) }
+        ensures gone { OnOk result (tree_at self.new mark ≡ None) }
+        ensures marks { OnOk result ((m : ℕ) → m ≢ mark → tree_at self.new m ≡ tree_at self.old m) }
+        ensures fewer { OnOk result (IfSome (tree_at self.old mark) (λ _. length self.new.layers + 1 ≡ length self.old.layers)) }
+        ensures records { OnOk result (records self.new.layers ≤ records self.old.layers) }
+        ensures err { OnErr result (self.new ≡ self.old) }
+        ensures back { IfErr result (λ e. e.1 ≡ mark) }
+    {
+        match self.forget_number(alloc, mark.number()) {
+            Ok(()) => Ok(()),
+            Err(wanted) => Err((wanted, mark)),
+        }
+    }
+
+    fn forget_number(&mut self, alloc: Global, mark: u64) -> Result<(), NoMemory>
+        ensures ok { OnOk result (self.new ≡ record self.old { layers = without_mark mark self.old.layers }) }
+        ensures gone { OnOk result (tree_at self.new mark ≡ None) }
+        ensures marks { OnOk result ((m : ℕ) → m ≢ mark → tree_at self.new m ≡ tree_at self.old m) }
+        ensures fewer { OnOk result (IfSome (tree_at self.old mark) (λ _. length self.new.layers + 1 ≡ length self.old.layers)) }
+        ensures records { OnOk result (records self.new.layers ≤ records self.old.layers) }
+        ensures err { OnErr result (self.new ≡ self.old) }
+    {
+        forget_layer(alloc, &mut self.layers, &mut self.current, mark)
     }
 
     /// What became of each path that was recorded since the mark.
@@ -225,7 +258,7 @@ impl TreeRep for LayerTree {
 
     /// Costs what `make_room` and then a look and a `put` cost.
     fn put_new(&mut self, path: &Path, element: Element) -> Result<bool, NoMemory> {
-        self.put_where_none(path, element)
+        LayerTree::put_new(self, path, element)
     }
 
     fn take(&mut self, path: &Path) -> Result<Option<Element>, NoMemory> {

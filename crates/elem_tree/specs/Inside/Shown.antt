@@ -6,7 +6,7 @@ use Rattle.ws_elem.specs.Rooms.{Room}
 use Rattle.ws_elem.specs.Trees.{Tree}
 use Rattle.elem_tree.specs.Layers as seen
 use Rattle.elem_tree.specs.declared.layer.Layer.{Layer}
-use Rattle.elem_tree.specs.Inside.Slots.{befores_of, IsReady, closed_all}
+use Rattle.elem_tree.specs.Inside.Slots.{befores_of, IsReady, NoneReady, closed_all}
 
 abbrev pub shown : Layer → seen.Layer
 shown l = record { mark = l.mark; befores = befores_of l.notes }
@@ -35,6 +35,12 @@ abbrev pub Rising : List Layer → Type 0
 Rising [] = ⊤
 Rising (l ∷ ls) = AllByRecursion (λ k. l.mark < k.mark) ls × Rising ls
 
+-- in no layer but the last an entry is ready
+abbrev pub EndedButLast : List Layer → Type 0
+EndedButLast [] = ⊤
+EndedButLast (l ∷ []) = ⊤
+EndedButLast (l ∷ k ∷ ls) = NoneReady l.notes × EndedButLast (k ∷ ls)
+
 -- the layers below the mark are left out
 abbrev pub IsCut : ℕ → List Layer → List Layer → Type 0
 IsCut m ls rest = (front : List Layer) × (ls ≡ front ++ rest) × AllBelow m front × NoneBelow m rest
@@ -43,5 +49,6 @@ IsCut m ls rest = (front : List Layer) × (ls ≡ front ++ rest) × AllBelow m f
 pub record IsKept (layers : List Layer) (current : Option Layer) (next : ℕ) (t : Tree) (room : Room) : Type 0 where
   pub first : current ≡ None → layers ≡ []
   pub ready : IfSome current (λ l. IsReady l.notes t room)
+  pub ended : EndedButLast (with_current layers current)
   pub rising : Rising (with_current layers current)
   pub below : AllBelow next (with_current layers current)

@@ -85,3 +85,7 @@ closed_at slots p = if is_some (ready_in (get slots p)) then remove slots p else
 abbrev pub closed_all : Slots → List Names → Slots
 closed_all slots [] = slots
 closed_all slots (p ∷ ps) = closed_all (closed_at slots p) ps
+
+-- p has a slot
+abbrev pub spared_at : Slots → Names → Slots
+spared_at slots p = if is_some (get slots p) then slots else insert slots p Spare

@@ -19,7 +19,7 @@ greater c = search (rules, c.in-Some.ensures)
 pub invariant_of-self-2 : goal.invariant_of-self-2
 invariant_of-self-2 c =
     sealed_kept c.self.inside.layers.items c.end_layer.new.layers.items c.self.inside.current c.roomy.result.now c.self.inside.next c.in-Some.next c.self.inside.newest.map c.self.inside.newest.room
-    c.in_ok-notes.notes c.self.invariant c.in_ok-end_layer.ensures.ok (greater c) c.in_ok-notes.ensures.ready
+    c.in_ok-notes.notes c.roomy.ensures c.self.invariant c.in_ok-end_layer.ensures.ok (greater c) c.in_ok-notes.ensures.ready
 
 pub returns-clause-ok : goal.returns-clause-ok
 returns-clause-ok c =

@@ -2,7 +2,7 @@ use Rattle.std.proofs.Common.{ap, ◌∙◌}
 use Rattle.ws_elem.specs.Rooms.{has_room, with_room}
 use Rattle.elem_tree.proofs.Rooms.{has_here}
 use Rattle.elem_tree.proofs.Slots.{err_ok}
-use Rattle.elem_tree.proofs.tree.LayerTree.put_where_none.Goals as goal
+use Rattle.elem_tree.proofs.tree.LayerTree.put_new.Goals as goal
 
 pub returns-in_err-put-clause-err : goal.returns-in_err-put-clause-err
 returns-in_err-put-clause-err c =
