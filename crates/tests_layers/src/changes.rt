@@ -5,7 +5,7 @@ ghost use Rattle.std.specs.FinMap as map;
 ghost use Rattle.layer_log.specs.Records.{Meets};
 
 use crate::asserting::holds;
-use crate::elements::{copied, element, path, put, put_element, put_tree, set};
+use crate::elements::{copied, element, is_written, path, put, put_element, put_tree, set};
 use crate::rows::{check_all, cut};
 use layer_log::{Change, Changes, Steps};
 use res_path::Path;
@@ -65,22 +65,55 @@ fn record(
     changes.record(path, before, after)
 }
 
-/// Records what the words tell, and does it to the tree.
-fn layer_of(
+/// Records the path's new entry, and does it to the tree.
+fn record_at(
     rt: &(impl Abort + AllocGlobal),
     tree: &mut ElemMap,
+    changes: &mut Changes,
+    at: Path,
+    after: Option<Element>,
+) -> Result<(), NoMemory> {
+    let before = last_entry(changes, tree, &at)?;
+    record(rt, changes, &at, before.as_ref(), after.as_ref())?;
+    set(tree, at, after)
+}
+
+/// Records what the words tell, and does it to the tree.
+fn record_all(
+    rt: &(impl Abort + AllocGlobal),
+    tree: &mut ElemMap,
+    changes: &mut Changes,
     text: &str,
-) -> Result<Changes, NoMemory> {
-    let mut changes = Changes::none(rt.alloc());
+) -> Result<(), NoMemory> {
     for word in text.split_whitespace() {
         let (at, what) = cut(word, '=');
-        let at = path(rt.alloc(), at)?;
-        let after = element(what);
-        let before = last_entry(&changes, tree, &at)?;
-        record(rt, &mut changes, &at, before.as_ref(), after.as_ref())?;
-        set(tree, at, after)?;
+        record_at(rt, tree, changes, path(rt.alloc(), at)?, element(what))?;
     }
-    Ok(changes)
+    Ok(())
+}
+
+fn push_layer(
+    rt: &(impl Abort + AllocGlobal),
+    layers: &mut Vec<Changes>,
+    tree: &mut ElemMap,
+    text: &str,
+) -> Result<(), NoMemory> {
+    let mut changes = Changes::none(rt.alloc());
+    record_all(rt, tree, &mut changes, text)?;
+    layers.push(changes)?;
+    Ok(())
+}
+
+fn push_layers(
+    rt: &(impl Abort + AllocGlobal),
+    layers: &mut Vec<Changes>,
+    tree: &mut ElemMap,
+    text: &str,
+) -> Result<(), NoMemory> {
+    for part in text.split(';') {
+        push_layer(rt, layers, tree, part)?;
+    }
+    Ok(())
 }
 
 pub fn layers_of(
@@ -89,9 +122,7 @@ pub fn layers_of(
     text: &str,
 ) -> Result<Vec<Changes>, NoMemory> {
     let mut layers = Vec::new(rt.alloc());
-    for part in text.split(';') {
-        layers.push(layer_of(rt, tree, part)?)?;
-    }
+    push_layers(rt, &mut layers, tree, text)?;
     Ok(layers)
 }
 
@@ -208,8 +239,19 @@ pub fn put_changes(
     Ok(())
 }
 
-/// How many paths have a change, and their entries.
-pub fn put_counted(
+/// How many paths have a change in each layer, and their entries.
+pub fn put_each(
+    rt: &(impl Abort + AllocGlobal),
+    out: &mut String,
+    layers: &[Changes],
+) -> Result<(), NoMemory> {
+    for layer in layers {
+        put_counted(rt, out, layer)?;
+    }
+    Ok(())
+}
+
+fn put_counted(
     rt: &(impl Abort + AllocGlobal),
     out: &mut String,
     changes: &Changes,
@@ -226,22 +268,25 @@ fn text_of(rt: &(impl Abort + AllocGlobal), changes: &Changes) -> Result<String,
     Ok(out)
 }
 
-/// The tree before the layers, the last one undone first; their net change leads back to it at once.
+/// The tree before the layers, the last one undone first.
+fn undone(newest: &ElemMap, layers: &[Changes]) -> Result<ElemMap, NoMemory> {
+    let mut tree = newest.copy()?;
+    for layer in layers.iter().rev() {
+        tree = layer.undo(&tree)?;
+    }
+    Ok(tree)
+}
+
+/// The tree before the layers, to which their net change leads back at once.
 pub fn put_undone(
     rt: &(impl Abort + AllocGlobal),
     out: &mut String,
     newest: &ElemMap,
     layers: &[Changes],
 ) -> Result<(), NoMemory> {
-    let mut tree = newest.copy()?;
-    for layer in layers.iter().rev() {
-        tree = layer.undo(&tree)?;
-    }
-    put_tree(rt.alloc(), out, &tree)?;
-    let mut at_once = String::new(rt.alloc());
-    put_tree(rt.alloc(), &mut at_once, &net_of(rt, layers)?.undo(newest)?)?;
-    holds(rt, at_once.as_str() == out.as_str());
-    Ok(())
+    put_tree(rt.alloc(), out, &undone(newest, layers)?)?;
+    let at_once = net_of(rt, layers)?.undo(newest)?;
+    is_written(rt, &at_once, out.as_str())
 }
 
 #[test]

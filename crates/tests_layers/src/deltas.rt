@@ -48,6 +48,19 @@ pub fn put_delta_of(alloc: Global, out: &mut String, changes: &Changes) -> Resul
     Ok(())
 }
 
+/// The nodes of the delta of each.
+pub fn put_deltas_of(
+    alloc: Global,
+    out: &mut String,
+    layers: &[Changes],
+) -> Result<(), NoMemory> {
+    for layer in layers {
+        put_delta_of(alloc, out, layer)?;
+        put(out, "; ")?;
+    }
+    Ok(())
+}
+
 #[test]
 fn deltas_of_changes_are_what_the_rows_say(rt: HostRuntime) {
     check_all(&rt, ROWS);

@@ -2,13 +2,15 @@
 ghost use Rattle.std.specs.Prelude.{◌≡◌, IfOk};
 ghost use Rattle.std.specs.Option.{option_copied};
 
+use crate::asserting::holds;
 use crate::rows::cut;
 use res_path::Path;
 use std::alloc::{AllocError, Global};
+use std::process::Abort;
 use ws_elem::{ElemMap, Element, Kind, NoMemory};
 
 /// The number that the text is, 0 where it is none.
-fn number(text: &str) -> u64 {
+pub fn number(text: &str) -> u64 {
     match text.parse() {
         Ok(number) => number,
         Err(_) => 0,
@@ -119,5 +121,17 @@ pub fn put_tree(alloc: Global, out: &mut String, tree: &ElemMap) -> Result<(), N
         put_element(alloc, out, Some(element))?;
         put(out, " ")?;
     }
+    Ok(())
+}
+
+/// The tree is written so.
+pub fn is_written(
+    rt: &(impl Abort + AllocGlobal),
+    tree: &ElemMap,
+    text: &str,
+) -> Result<(), NoMemory> {
+    let mut out = String::new(rt.alloc());
+    put_tree(rt.alloc(), &mut out, tree)?;
+    holds(rt, out.as_str() == text);
     Ok(())
 }
