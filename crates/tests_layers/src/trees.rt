@@ -250,9 +250,22 @@ fn counted<L: Ledger>(
     Ok((changes, steps))
 }
 
-fn since(alloc: Global, tree: &LayerTree, mark: &Mark) -> Result<Changes, NoMemory> {
-    let (changes, _) = counted::<Brand>(alloc, tree, mark, Blank::new(1))?;
+fn since_by<L: Ledger>(
+    alloc: Global,
+    tree: &LayerTree,
+    mark: &Mark,
+    blank: Blank,
+) -> Result<Changes, NoMemory>
+    requires name { blank.name ≡ L.name }
+    requires parts { blank.parts ≡ L.parts }
+    requires some { 0 < blank.parts }
+{
+    let (changes, _) = counted::<L>(alloc, tree, mark, blank)?;
     Ok(changes)
+}
+
+fn since(alloc: Global, tree: &LayerTree, mark: &Mark) -> Result<Changes, NoMemory> {
+    since_by::<Brand>(alloc, tree, mark, Blank::new(1))
 }
 
 fn put_word(

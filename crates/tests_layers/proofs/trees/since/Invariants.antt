@@ -1,4 +1,4 @@
 use Rattle.tests_layers.proofs.trees.since.Given as goal
 
-abbrev pub ghosts-counted : goal.ghosts-counted
-ghosts-counted a = record { name = a.blank.name; parts = a.blank.parts }
+abbrev pub ghosts-since_by : goal.ghosts-since_by
+ghosts-since_by a = record { name = a.blank.name; parts = a.blank.parts }
