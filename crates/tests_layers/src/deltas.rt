@@ -49,11 +49,7 @@ pub fn put_delta_of(alloc: Global, out: &mut String, changes: &Changes) -> Resul
 }
 
 /// The nodes of the delta of each.
-pub fn put_deltas_of(
-    alloc: Global,
-    out: &mut String,
-    layers: &[Changes],
-) -> Result<(), NoMemory> {
+pub fn put_deltas_of(alloc: Global, out: &mut String, layers: &[Changes]) -> Result<(), NoMemory> {
     for layer in layers {
         put_delta_of(alloc, out, layer)?;
         put(out, "; ")?;

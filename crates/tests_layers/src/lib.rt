@@ -6,6 +6,7 @@
 //! - `changes`: changes as they are recorded, composed and undone.
 //! - `deltas`: the deltas of changes.
 //! - `trees`: trees with marks, beside flat trees.
+//! - `many`: ten thousand marks of one tree.
 #![tactic(auto)]
 
 #[cfg(test)]
@@ -16,6 +17,8 @@ mod changes;
 mod deltas;
 #[cfg(test)]
 mod elements;
+#[cfg(test)]
+mod many;
 #[cfg(test)]
 mod rows;
 #[cfg(test)]

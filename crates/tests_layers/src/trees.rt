@@ -2,8 +2,8 @@
 ghost use Rattle.std.specs.Prelude.{◌≡◌, ◌<◌, ◌≤◌, IfOk, IfSome};
 ghost use Rattle.elem_tree.specs.Layers.{from_mark, records, tree_at};
 
-use crate::changes::put_changes;
 use crate::asserting::holds;
+use crate::changes::put_changes;
 use crate::deltas::put_delta_of;
 use crate::elements::{element, is_written, number, path, put, put_element, put_tree};
 use crate::rows::{check_all, cut};
@@ -21,7 +21,8 @@ use ws_elem::{ElemMap, Element, NoMemory, TreeRep};
 /// are left. `at` gives the tree of each mark that is left, `since` the delta from it to the newest tree, and `changes` the
 /// changes of which that is made. `both` gives the answers of a flat tree and of one with marks, which is sealed after each
 /// operation.
-const ROWS: &str = "since|/ 4 0, /P 4 0, /P/a 2 2000 to /P/c, /P/c 1 1000 from /P/a, ; / 4 0, /P 4 0, /P/b 2 2000 to /P/c, /P/c 1 1000 from /P/b, ; |seal; take /P/a; put /P/b f3.2; seal; take /P/b; put /P/c f3.2|/=r1 /P=p2 /P/a=f3.2
+const ROWS: &str =
+    "since|/ 4 0, /P 4 0, /P/a 2 2000 to /P/c, /P/c 1 1000 from /P/a, ; / 4 0, /P 4 0, /P/b 2 2000 to /P/c, /P/c 1 1000 from /P/b, ; |seal; take /P/a; put /P/b f3.2; seal; take /P/b; put /P/c f3.2|/=r1 /P=p2 /P/a=f3.2
 changes|/P/a=f3.2>- /P/c=->f3.2 ; /P/b=f3.2>- /P/c=->f3.2 ; |seal; take /P/a; put /P/b f3.2; seal; take /P/b; put /P/c f3.2|/=r1 /P=p2 /P/a=f3.2
 at|/=r1 /P=p2 /P/a=f3.2 ; /=r1 /P=p2 /P/b=f3.2 ; |seal; take /P/a; put /P/b f3.2; seal; take /P/b; put /P/c f3.2|/=r1 /P=p2 /P/a=f3.2
 at|/=r1 /P=p2 ; /=r1 /P=p2 ; /=r1 ; /=r1 /P=p5 ; |seal; seal; take /P; seal; put /P p5; seal|/=r1 /P=p2
@@ -264,7 +265,7 @@ fn since_by<L: Ledger>(
     Ok(changes)
 }
 
-fn since(alloc: Global, tree: &LayerTree, mark: &Mark) -> Result<Changes, NoMemory> {
+pub fn since(alloc: Global, tree: &LayerTree, mark: &Mark) -> Result<Changes, NoMemory> {
     since_by::<Brand>(alloc, tree, mark, Blank::new(1))
 }
 
@@ -327,11 +328,7 @@ struct Moment {
     text: String,
 }
 
-fn moment_of(
-    alloc: Global,
-    flat: &FlatTree,
-    tree: &mut LayerTree,
-) -> Result<Moment, NoMemory> {
+fn moment_of(alloc: Global, flat: &FlatTree, tree: &mut LayerTree) -> Result<Moment, NoMemory> {
     let mut text = String::new(alloc);
     put_tree(alloc, &mut text, flat.map())?;
     let mark = seal(alloc, tree)?;
@@ -374,7 +371,11 @@ fn hold_all(
     moments: &[Moment],
 ) -> Result<(), NoMemory> {
     for moment in moments {
-        is_written(rt, &tree.at(rt.alloc(), &moment.mark)?, moment.text.as_str())?;
+        is_written(
+            rt,
+            &tree.at(rt.alloc(), &moment.mark)?,
+            moment.text.as_str(),
+        )?;
     }
     Ok(())
 }
