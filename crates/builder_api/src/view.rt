@@ -1,0 +1,70 @@
+//! The files that a builder sees.
+ghost use Rattle.std.specs.Prelude.{◌≡◌};
+ghost use Rattle.std.specs.FinMap.{entries, empty, get};
+ghost use Rattle.std.specs.List.Sorted.{IsStrictlySortedBy};
+ghost use Rattle.std.specs.Map.{keys_of};
+ghost use Rattle.std.specs.Option.{option_copied};
+ghost use Rattle.res_path.specs.Paths.{path_cmp};
+
+use bytes::Bytes;
+use res_path::Path;
+use std::alloc::Global;
+use std::marker::Model;
+
+/// The files that a builder sees, with their contents, in path order. A contract sees the finite map from path to
+/// contents.
+#[derive(Debug, Drop)]
+pub struct View {
+    files: Vec<(Path, Bytes)>,
+}
+
+impl Model for View {
+    ghost use Rattle.std.specs.FinMap as map;
+    ghost use Rattle.std.specs.Coded.{coded_ℕ, coded_list};
+    ghost use Rattle.std.specs.List.Sorted.{IsStrictlySortedBy};
+    ghost use Rattle.std.specs.Map.{keys_of};
+    ghost use Rattle.res_path.specs.Paths.{path_cmp};
+    ghost use Rattle.builder_api.specs.Files.{Files};
+
+    ghost Value = { Files };
+
+    ghost coded = { map.code (coded_list (coded_list coded_ℕ)) (coded_list coded_ℕ) };
+
+    ghost view = { λ v. map.from_entries v.files.items };
+
+    ghost invariant = { λ v. IsStrictlySortedBy path_cmp (keys_of v.files.items) };
+}
+
+impl View {
+    /// No files. It takes no memory.
+    pub fn empty(alloc: Global) -> View
+        ensures { result ≡ empty }
+    {
+        View {
+            files: Vec::new(alloc),
+        }
+    }
+
+    /// These files, of which nothing is copied.
+    pub fn of(files: Vec<(Path, Bytes)>) -> View
+        requires { IsStrictlySortedBy path_cmp (keys_of files.items) }
+        ensures { entries result ≡ files.items }
+    {
+        View { files }
+    }
+
+    /// The files in path order, each path once.
+    pub fn as_slice(&self) -> &[(Path, Bytes)]
+        ensures { result.now ≡ entries self.now }
+    {
+        self.files.as_slice()
+    }
+
+    /// The files, of which nothing is copied.
+    pub fn into_vec(self) -> Vec<(Path, Bytes)>
+        ensures { result.items ≡ entries self }
+    {
+        let View { files } = self;
+        files
+    }
+}
