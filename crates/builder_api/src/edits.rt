@@ -54,10 +54,28 @@ impl FileEdits {
         let FileEdits { edits } = self;
         edits
     }
+
+    /// Equal edits, which share their texts and contents.
+    pub fn copy(&self) -> Result<FileEdits, NoMemory>
+        ensures { IfOk result (λ copy. copy ≡ self.now) }
+    {
+        self.clone()
+    }
+}
+
+impl Clone for FileEdits {
+    ghost use Rattle.std.specs.Prelude.{◌≡◌};
+
+    ghost is_clone = { λ edits copy. copy ≡ edits };
+
+    fn clone(&self) -> Result<FileEdits, NoMemory> {
+        let edits = self.edits.clone()?;
+        Ok(FileEdits { edits })
+    }
 }
 
 /// What a builder has to tell of a file: it becomes a problem marker of the command's project.
-#[derive(Debug, Drop)]
+#[derive(Clone, Debug, Drop)]
 pub struct Problem {
     /// The file's path in the workspace.
     pub location: Path,
@@ -66,6 +84,15 @@ pub struct Problem {
     /// As a marker's: 0 for information, 1 for a warning, 2 for an error.
     pub severity: i32,
     pub message: MarkText,
+}
+
+impl Problem {
+    /// An equal problem.
+    pub fn copy(&self) -> Result<Problem, NoMemory>
+        ensures { IfOk result (λ copy. copy ≡ self.now) }
+    {
+        self.clone()
+    }
 }
 
 /// Problems in order. A contract sees the list of them.
@@ -114,12 +141,39 @@ impl Problems {
         let Problems { problems } = self;
         problems
     }
+
+    /// Equal problems.
+    pub fn copy(&self) -> Result<Problems, NoMemory>
+        ensures { IfOk result (λ copy. copy ≡ self.now) }
+    {
+        self.clone()
+    }
+}
+
+impl Clone for Problems {
+    ghost use Rattle.std.specs.Prelude.{◌≡◌};
+
+    ghost is_clone = { λ problems copy. copy ≡ problems };
+
+    fn clone(&self) -> Result<Problems, NoMemory> {
+        let problems = self.problems.clone()?;
+        Ok(Problems { problems })
+    }
 }
 
 /// What a builder answers: the edits below its output, and all problems of the command, which take the place of the
 /// earlier ones.
-#[derive(Debug, Drop)]
+#[derive(Clone, Debug, Drop)]
 pub struct Edits {
     pub files: FileEdits,
     pub problems: Problems,
+}
+
+impl Edits {
+    /// Equal edits, which share their texts and contents.
+    pub fn copy(&self) -> Result<Edits, NoMemory>
+        ensures { IfOk result (λ copy. copy ≡ self.now) }
+    {
+        self.clone()
+    }
 }

@@ -1,12 +1,13 @@
 //! What a builder is handed.
+ghost use Rattle.std.specs.Prelude.{◌≡◌, IfOk};
 
 use crate::{BuildKind, Paths, View};
 use delta_kind::Delta;
-use res_path::Path;
+use res_path::{NoMemory, Path};
 
 /// What a builder is handed for a command: what the build asks for, what changed since the command was built last, and
 /// the files at or below its inputs and below its output, as they are.
-#[derive(Debug, Drop)]
+#[derive(Clone, Debug, Drop)]
 pub struct Handed {
     pub kind: BuildKind,
     /// Whether a delta is handed.
@@ -19,4 +20,13 @@ pub struct Handed {
     pub inputs: Paths,
     /// The one folder that the command writes, as a path of the workspace.
     pub output: Path,
+}
+
+impl Handed {
+    /// Equal in all parts; texts and contents are shared.
+    pub fn copy(&self) -> Result<Handed, NoMemory>
+        ensures { IfOk result (λ copy. copy ≡ self.now) }
+    {
+        self.clone()
+    }
 }

@@ -173,12 +173,39 @@ impl PlanOrder {
         let PlanOrder { projects } = self;
         projects
     }
+
+    /// Equal projects, which share their texts.
+    pub fn copy(&self) -> Result<PlanOrder, NoMemory>
+        ensures { IfOk result (λ copy. copy ≡ self.now) }
+    {
+        self.clone()
+    }
+}
+
+impl Clone for PlanOrder {
+    ghost use Rattle.std.specs.Prelude.{◌≡◌};
+
+    ghost is_clone = { λ order copy. copy ≡ order };
+
+    fn clone(&self) -> Result<PlanOrder, NoMemory> {
+        let projects = self.projects.clone()?;
+        Ok(PlanOrder { projects })
+    }
 }
 
 /// What a build is to do: each project with its commands as its description lists them, and which of the projects refer
 /// to one another.
-#[derive(Debug, Drop)]
+#[derive(Clone, Debug, Drop)]
 pub struct Plan {
     pub order: PlanOrder,
     pub knots: Knots,
+}
+
+impl Plan {
+    /// An equal plan, which shares its texts.
+    pub fn copy(&self) -> Result<Plan, NoMemory>
+        ensures { IfOk result (λ copy. copy ≡ self.now) }
+    {
+        self.clone()
+    }
 }

@@ -1,5 +1,5 @@
 //! The files that a builder sees.
-ghost use Rattle.std.specs.Prelude.{◌≡◌};
+ghost use Rattle.std.specs.Prelude.{◌≡◌, IfOk};
 ghost use Rattle.std.specs.FinMap.{entries, empty, get};
 ghost use Rattle.std.specs.List.Sorted.{IsStrictlySortedBy};
 ghost use Rattle.std.specs.Map.{keys_of};
@@ -7,7 +7,7 @@ ghost use Rattle.std.specs.Option.{option_copied};
 ghost use Rattle.res_path.specs.Paths.{path_cmp};
 
 use bytes::Bytes;
-use res_path::Path;
+use res_path::{NoMemory, Path};
 use std::alloc::Global;
 use std::marker::Model;
 
@@ -66,5 +66,23 @@ impl View {
     {
         let View { files } = self;
         files
+    }
+
+    /// An equal view, which shares texts and contents.
+    pub fn copy(&self) -> Result<View, NoMemory>
+        ensures { IfOk result (λ copy. copy ≡ self.now) }
+    {
+        self.clone()
+    }
+}
+
+impl Clone for View {
+    ghost use Rattle.std.specs.Prelude.{◌≡◌};
+
+    ghost is_clone = { λ view copy. copy ≡ view };
+
+    fn clone(&self) -> Result<View, NoMemory> {
+        let files = self.files.clone()?;
+        Ok(View { files })
     }
 }
