@@ -1,4 +1,4 @@
-use Rattle.std.proofs.Common.{◌≡◌, sym, ap, ◌∙◌, map, Some}
+use Rattle.std.proofs.Common.{sym, ap, ◌∙◌, map}
 use Rattle.builder_api.specs.Told.{place_named}
 use Rattle.builder_api.proofs.Firsts.{place_within, means_at, meanings_kept}
 use Rattle.builder_api.proofs.builders.Builders.run.Goals as goal
