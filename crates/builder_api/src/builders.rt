@@ -1,11 +1,12 @@
 //! The builders of a build.
-ghost use Rattle.std.specs.Prelude.{◌≡◌, ◌↔◌, Some, None, ◌<◌, ◌≤◌, ◌+◌, ◌⊎◌, ◌^◌, ◌-◌, ℕ, List, length, map, Option, IfSome, IfOk, IsSome, slice_get};
+ghost use Rattle.std.specs.Prelude.{◌≡◌, ◌↔◌, false, Some, None, ◌<◌, ◌≤◌, ◌+◌, ◌⊎◌, ◌^◌, ◌-◌, ℕ, List, length, map, Option, IfSome, IfOk, IsSome, slice_get};
 ghost use Rattle.std.specs.List.{position_from};
 ghost use Rattle.std.specs.Str.{bytes_eq};
 ghost use Rattle.builder_api.specs.Told.{Built, Cleaned, WasCalled, WasCalledAt, HasRisen, HasRisenAt, WasFirstCalled, HasFirstRisen, HaveMeanings, place_named};
+ghost use Rattle.builder_api.specs.Meanings.{Meanings};
 ghost use Rattle.builder_api.specs.Lawful.{Does};
 
-use crate::{BuildFault, Builder, Edits, Handed, Meanings};
+use crate::{BuildFault, Builder, Edits, Handed};
 use proj_desc::Command;
 use std::marker::Model;
 
@@ -96,21 +97,36 @@ impl<B: Builder> Builders<B> {
 impl<B: Builder> Builders<B> {
     /// The first builder of the command's name is called for the command, and no other is called. What is answered is what
     /// it answers; None where none has the name.
-    pub fn run<M: Meanings>(
+    pub fn build_first(
         &mut self,
         command: &Command,
         handed: &Handed,
     ) -> Option<Result<Edits, BuildFault>>
-        requires meanings { HaveMeanings M.meaning (map (λ b. B.tells b) self.old) }
         ensures none { (result ≡ None) ↔ (place_named command.now.builder (map (λ b. B.tells b) self.old) ≡ None) }
         ensures called { WasFirstCalled command.now.builder (Built command.now handed.now) (map (λ b. B.tells b) self.old) (map (λ b. B.tells b) self.new) }
-        ensures meanings { HaveMeanings M.meaning (map (λ b. B.tells b) self.new) }
-        ensures lawful { IfSome result (λ answer. IfSome (M.meaning command.now.builder) (λ m. IfOk answer (λ edits. Does m command.now handed.now edits))) }
         ensures failed { result ≡ Some (Err BuildFault.Failed) → HasFirstRisen command.now.builder (map (λ b. B.tells b) self.old) (map (λ b. B.tells b) self.new) }
+        ensures lawful { (ms : Meanings) → HaveMeanings ms (map (λ b. B.tells b) self.old) → IfSome result (λ answer. IfSome (ms command.now.builder) (λ m. IfOk answer (λ edits. Does m command.now handed.now edits))) }
+        ensures meanings { (ms : Meanings) → HaveMeanings ms (map (λ b. B.tells b) self.old) → HaveMeanings ms (map (λ b. B.tells b) self.new) }
     {
         match self.place_of(command.builder.text()) {
             Some(at) => Some(self.build(at, command, handed)),
             None => None,
+        }
+    }
+
+    /// All that the first builder of the name keeps between calls goes, and no other is called. Answers whether there is
+    /// one.
+    pub fn clean_first(&mut self, name: &str) -> bool
+        ensures found { (result ≡ false) ↔ (place_named name.now (map (λ b. B.tells b) self.old) ≡ None) }
+        ensures called { WasFirstCalled name.now Cleaned (map (λ b. B.tells b) self.old) (map (λ b. B.tells b) self.new) }
+        ensures meanings { (ms : Meanings) → HaveMeanings ms (map (λ b. B.tells b) self.old) → HaveMeanings ms (map (λ b. B.tells b) self.new) }
+    {
+        match self.place_of(name) {
+            Some(at) => {
+                self.clean(at);
+                true
+            }
+            None => false,
         }
     }
 }
