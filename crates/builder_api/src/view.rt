@@ -14,7 +14,7 @@ use std::marker::Model;
 
 /// The files that a builder sees, with their contents, in path order. A contract sees the finite map from path to
 /// contents.
-#[derive(Debug, Drop)]
+#[derive(Drop)]
 pub struct View {
     files: Vec<(Path, Bytes)>,
 }
