@@ -1,0 +1,7 @@
+use Rattle.std.proofs.Common.{sym, ap, ◌∙◌}
+use Rattle.std.specs.FinMap.{entries}
+use Rattle.ws_elem.proofs.Ordered.{entries_is}
+use Rattle.builder_api.proofs.view.View.into_vec.Goals as goal
+
+pub returns : goal.returns
+returns c = sym (entries_is c.self.inside.files.items c.self.invariant) ∙ ap entries c.self.view_is
