@@ -22,19 +22,20 @@ enum Shape {
 
 impl Shape {
     fn target(self, number: u32) -> Option<u32> {
+        let next = number.saturating_add(1);
         match self {
             Shape::Alone => None,
-            Shape::After if number + 1 < COUNT => Some(number + 1),
+            Shape::After if next < COUNT => Some(next),
             Shape::After => None,
             Shape::Before => number.checked_sub(1),
-            Shape::Ring => Some((number + 1) % COUNT),
+            Shape::Ring => Some(next % COUNT),
         }
     }
 
     /// The number of the project at this place in the order.
     fn placed(self, at: u32) -> u32 {
         match self {
-            Shape::After => COUNT - 1 - at,
+            Shape::After => (COUNT - 1).saturating_sub(at),
             _ => at,
         }
     }
@@ -43,7 +44,7 @@ impl Shape {
 /// The project's name: numbers and names have one order.
 fn numbered(rt: &(impl Abort + AllocGlobal), number: u32) -> Name {
     let mut text = String::new(rt.alloc());
-    must(rt, write!(text, "p{}", number + COUNT));
+    must(rt, write!(text, "p{}", number.saturating_add(COUNT)));
     name_of(rt, text.as_str())
 }
 
@@ -67,19 +68,18 @@ fn projects(rt: &(impl Abort + AllocGlobal), shape: Shape) -> Vec<(Name, Vec<Nam
 }
 
 fn check_names(rt: &(impl Abort + AllocGlobal), shape: Shape, names: &[Name]) {
-    let mut at = 0;
-    for name in names {
-        holds(rt, at < COUNT && *name == numbered(rt, shape.placed(at)));
-        at += 1;
+    holds(rt, names.len() == COUNT as usize);
+    for (at, name) in (0..COUNT).zip(names) {
+        holds(rt, *name == numbered(rt, shape.placed(at)));
     }
-    holds(rt, at == COUNT);
 }
 
 fn check(rt: &(impl Abort + AllocGlobal), shape: Shape) {
     let found = must(rt, order(rt.alloc(), &projects(rt, shape)));
     check_names(rt, shape, found.order.as_slice());
     let knots = found.knots.as_slice();
-    holds(rt, knots.len() == usize::from(shape == Shape::Ring));
+    let rings = if shape == Shape::Ring { 1 } else { 0 };
+    holds(rt, knots.len() == rings);
     for knot in knots {
         check_names(rt, shape, knot.as_slice());
     }
