@@ -1,0 +1,4 @@
+pub mod Tables
+pub mod Named
+pub mod Counted
+pub mod Keeping
