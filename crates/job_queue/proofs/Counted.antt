@@ -1,5 +1,5 @@
 -- How many jobs pass a test, where one is put.
-use Rattle.std.proofs.Common.{◌≡◌, ℕ, zero, suc, ◌+◌, Bool, true, false, cond, ◌&&◌, List, [], ◌∷◌, length, refl, sym, ap, ◌∙◌, subst, arith}
+use Rattle.std.proofs.Common.{◌≡◌, ℕ, zero, suc, ◌+◌, ◌≤◌, Bool, true, false, cond, ◌&&◌, List, [], ◌∷◌, length, refl, sym, ap, ◌∙◌, subst, arith}
 use Rattle.std.specs.Prelude.{Option, Some, None, T, filter}
 use Rattle.std.specs.Cmp.{IsTotalOrder}
 use Rattle.std.specs.Ordering.{is_eq, is_lt}
@@ -21,11 +21,11 @@ less Less p = refl
 less Equal p = absurd p
 less Greater p = absurd p
 
-pub bit : Bool → ℕ
+abbrev pub bit : Bool → ℕ
 bit true = 1
 bit false = 0
 
-pub bit_at : {X : Type 0} → (X → Bool) → Option X → ℕ
+abbrev pub bit_at : {X : Type 0} → (X → Bool) → Option X → ℕ
 bit_at p None = 0
 bit_at p (Some x) = bit (p x)
 
@@ -34,7 +34,7 @@ module _ {K X : Type 0} (p : X → Bool) where
   count es = length (filter (λ e. p e.1) es)
 
   count_one : (e : K × X) (es : List (K × X)) → count (e ∷ es) ≡ bit (p e.1) + count es
-  unfolding bit count
+  unfolding count
   count_one e es = by (p e.1)
     where
       by : (b : Bool) → length (cond b (e ∷ filter (λ e. p e.1) es) (filter (λ e. p e.1) es)) ≡ bit b + length (filter (λ e. p e.1) es)
@@ -55,7 +55,7 @@ module _ {K X : Type 0} (p : X → Bool) where
         ap (λ r. cond (is_eq r) (Some e.1) (find R k es)) under ∙ not_above x es h (second _ _ b)
 
     count_put : (es : List (K × X)) → T (is_sorted R es) → count (put R k v es) + bit_at p (find R k es) ≡ count es + bit (p v)
-    unfolding bit_at
+    unfolding count
     count_put [] s = ap (λ n. n + 0) (count_one (k, v) []) ∙ plain (bit (p v))
       where
         plain : (n : ℕ) → (n + 0) + 0 ≡ 0 + n
@@ -89,3 +89,24 @@ module _ {K X : Type 0} (p : X → Bool) where
     unfolding count
     count_insert m =
         (λ i. length (filter (λ e. p e.1) (entries-insert o m k v i)) + bit_at p (get-entries m k i)) ∙ count_put (entries m) (entries_sorted m)
+
+no_more : (n m : ℕ) → n ≤ m → n ≤ suc m
+no_more n m h = omega arith
+
+both_more : (n m : ℕ) → n ≤ m → suc n ≤ suc m
+both_more n m h = omega arith
+
+-- where one test passes the other does: at most as many pass it
+pub fewer_pass : {K X : Type 0} (p q : X → Bool) → ((x : X) → p x ≡ true → q x ≡ true) → (es : List (K × X)) → length (filter (λ e. p e.1) es) ≤ length (filter (λ e. q e.1) es)
+fewer_pass p q h [] = omega arith
+fewer_pass {K} {X} p q h (e ∷ es) = by (p e.1) refl (q e.1) refl (fewer_pass p q h es)
+  where
+    differ : true ≡ false → ⊥
+    differ h = cc
+
+    by : (b : Bool) → p e.1 ≡ b → (c : Bool) → q e.1 ≡ c → length (filter (λ e. p e.1) es) ≤ length (filter (λ e. q e.1) es)
+        → length (cond b (e ∷ filter (λ e. p e.1) es) (filter (λ e. p e.1) es)) ≤ length (cond c (e ∷ filter (λ e. q e.1) es) (filter (λ e. q e.1) es))
+    by true i true j rest = both_more _ _ rest
+    by true i false j rest = absurd (differ (sym (h e.1 i) ∙ j))
+    by false i true j rest = no_more _ _ rest
+    by false i false j rest = rest

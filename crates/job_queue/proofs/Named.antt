@@ -20,7 +20,7 @@ name_cmp_total = nat_list_cmp_total
 pub name_cmp_exact : IsAntisymmetric name_cmp
 name_cmp_exact = slice_cmp-IsAntisymmetric nat_cmp-IsAntisymmetric
 
-tied : (o : Ordering) → is_eq o ≡ true → o ≡ Equal
+pub tied : (o : Ordering) → is_eq o ≡ true → o ≡ Equal
 tied Less h = cc
 tied Equal h = refl
 tied Greater h = cc
