@@ -214,8 +214,8 @@ module _ {A : Type 0} (jobs : Jobs A) (turns : Turns) (next done alive : ℕ) (k
   rested f left done' alive' same rests set finished live =
       subst (λ x. IsKept x left next done' alive') (sym (changed_is f))
       (kept_put jobs turns next done alive k n (f job) (own (f job) same) (gone (f job) same) left next done' alive'
-        (λ t. set t ∙ (λ i. cond (eq_by_cmp turn_cmp t (sym same i)) (turn_if (sym rests i) n) (get turns t)))
-        (subst (λ (t : Turn). t.number < next) (sym same) (k.below n job there)) (omega arith) k.drawn finished live)
+      (λ t. set t ∙ (λ i. cond (eq_by_cmp turn_cmp t (sym same i)) (turn_if (sym rests i) n) (get turns t)))
+      (subst (λ (t : Turn). t.number < next) (sym same) (k.below n job there)) (omega arith) k.drawn finished live)
 
   taken : (t : Turn) → get (remove turns job.turn) t ≡ cond (eq_by_cmp turn_cmp t job.turn) None (get turns t)
   taken t = get-remove turn_cmp_total turns job.turn t
@@ -272,7 +272,7 @@ module _ {A : Type 0} (jobs : Jobs A) (turns : Turns) (next done alive : ℕ) (k
       let before = k.finished in
       to_both now _ left _ next done (alive + 1) (e ∙ changed_is (in_state Waiting)) f
       (kept_put jobs turns next done alive k n (in_state Waiting job) (own (in_state Waiting job) refl) (gone (in_state Waiting job) refl) (insert turns job.turn n) next done (alive + 1)
-        (λ t. get-insert turn_cmp_total turns job.turn n t) (k.below n job there) (omega arith) k.drawn (omega arith) (omega arith))
+      (λ t. get-insert turn_cmp_total turns job.turn n t) (k.below n job there) (omega arith) k.drawn (omega arith) (omega arith))
 
 -- ---- a job is scheduled
 
@@ -300,7 +300,6 @@ below_max next h = by (nat_le (2 ^ 63 - 1) next) refl h
 
 module _ {A : Type 0} (jobs : Jobs A) (turns : Turns) (next done alive : ℕ) (k : IsKept jobs turns next done alive) (n : List ℕ)
     (allowed : schedule_refusal next (option_map (λ (j : Job A). j.state) (get jobs n)) ≡ None) (new : Job A) (number : new.turn.number ≡ next) where
-
   is_free : (j : Job A) → get jobs n ≡ Some j → schedule_refusal next (Some j.state) ≡ None
   is_free j h = ap (λ o. schedule_refusal next (option_map (λ (x : Job A). x.state) o)) (sym h) ∙ allowed
 
@@ -364,8 +363,8 @@ module _ {A : Type 0} (jobs : Jobs A) (turns : Turns) (next done alive : ℕ) (k
   asleep_kept now rests dead e =
       to_both now _ turns turns (next + 1) done alive e refl
       (kept_put jobs turns next done alive k n new new_own new_gone turns (next + 1) done alive
-        (λ t. by t (eq_by_cmp turn_cmp t new.turn) refl) (subst (λ m. m < next + 1) (sym number) (omega arith)) (omega arith) drawn one_kept
-        (plain alive ∙ ap (λ b. alive + bit b) (sym dead) ∙ sym one_more))
+      (λ t. by t (eq_by_cmp turn_cmp t new.turn) refl) (subst (λ m. m < next + 1) (sym number) (omega arith)) (omega arith) drawn one_kept
+      (plain alive ∙ ap (λ b. alive + bit b) (sym dead) ∙ sym one_more))
     where
       plain : (m : ℕ) → m ≡ m + 0
       plain m = omega arith
@@ -382,9 +381,9 @@ module _ {A : Type 0} (jobs : Jobs A) (turns : Turns) (next done alive : ℕ) (k
   waiting_kept now left waits lives e f =
       to_both now _ left _ (next + 1) done (alive + 1) e f
       (kept_put jobs turns next done alive k n new new_own new_gone (insert turns new.turn n) (next + 1) done (alive + 1)
-        (λ t. get-insert turn_cmp_total turns new.turn n t ∙ (λ i. cond (eq_by_cmp turn_cmp t new.turn) (turn_if (sym waits i) n) (get turns t)))
-        (subst (λ m. m < next + 1) (sym number) (omega arith)) (omega arith) drawn one_kept
-        (ap (λ b. alive + bit b) (sym lives) ∙ sym one_more))
+      (λ t. get-insert turn_cmp_total turns new.turn n t ∙ (λ i. cond (eq_by_cmp turn_cmp t new.turn) (turn_if (sym waits i) n) (get turns t)))
+      (subst (λ m. m < next + 1) (sym number) (omega arith)) (omega arith) drawn one_kept
+      (ap (λ b. alive + bit b) (sym lives) ∙ sym one_more))
 
   -- a turn that was added and taken again
   pub undone : remove (insert turns new.turn n) new.turn ≡ turns

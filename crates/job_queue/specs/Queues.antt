@@ -1,7 +1,8 @@
 -- A queue of jobs, why a call of it is refused, what each call does, and which job comes next.
-use Rattle.std.specs.Prelude.{ℕ, ◌+◌, ◌-◌, ◌^◌, ◌&&◌, nat_le, Bool, true, false, if◌then◌else◌, List, [], ◌∷◌, Option, Some, None, filter, length}
+use Rattle.std.specs.Prelude.{◌≡◌, ◌≢◌, ℕ, ◌+◌, ◌-◌, ◌^◌, ◌&&◌, nat_le, Bool, true, false, if◌then◌else◌, List, [], ◌∷◌, Option, Some, None, filter, length}
 use Rattle.std.specs.Option.{option_map}
 use Rattle.std.specs.declared.cmp.Ordering.{Ordering}
+use Rattle.std.specs.declared.cmp.Ordering.TheVariants.{Less}
 use Rattle.std.specs.Ordering.{nat_cmp, is_lt}
 use Rattle.std.specs.Cmp.Lexicographic.{slice_cmp}
 use Rattle.std.specs.FinMap.{FinMap, empty, get, insert, entries}
@@ -103,6 +104,13 @@ finished q name = record (cancelled q name) { finished = q.finished + 1 }
 -- the job waits, and its rule conflicts with none that is held
 abbrev pub may_start : {A : Type 0} → (A → A → Bool) → List (Held A) → Job A → Bool
 may_start conflicts held job = is_waiting job.state && is_free conflicts held job.rule
+
+-- the job of this name may start, and none that may has an earlier turn
+pub record ComesNext {A : Type 0} (conflicts : A → A → Bool) (held : List (Held A)) (jobs : Jobs A) (name : List ℕ) : Type 0 where
+  pub job : Job A
+  pub there : get jobs name ≡ Some job
+  pub may : may_start conflicts held job ≡ true
+  pub first : (n : List ℕ) (other : Job A) → get jobs n ≡ Some other → may_start conflicts held other ≡ true → turn_cmp other.turn job.turn ≢ Less
 
 abbrev pub earlier : {A : Type 0} → List ℕ × Job A → Option (List ℕ × Job A) → Option (List ℕ × Job A)
 earlier e None = Some e

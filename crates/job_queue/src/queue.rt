@@ -1,9 +1,11 @@
 //! The queue of jobs.
-ghost use Rattle.std.specs.Prelude.{◌≡◌, ◌⊎◌, ◌<◌, ◌-◌, if◌then◌else◌, None, Some, true, false, IfErr, IfNone, IfOk, IfSome, OnErr, OnOk, option_copied};
-ghost use Rattle.std.specs.Option.{IsSomeAnd};
+ghost use Rattle.std.specs.Prelude.{ℕ, List, find, ◌≡◌, ◌⊎◌, ◌<◌, ◌-◌, if◌then◌else◌, None, Some, true, false, IfErr, IfNone, IfOk, IfSome, OnErr, OnOk, option_copied};
+ghost use Rattle.std.specs.Option.{IsSomeAnd, option_map};
 ghost use Rattle.std.specs.FinMap as map;
 ghost use Rattle.job_queue.specs.States.{may_be_cancelled, is_sleeping, is_waiting, is_running, is_live};
-ghost use Rattle.job_queue.specs.Queues.{no_jobs, state_of, live, refusal, schedule_refusal, number_refusal, scheduled, moved, cancelled, finished, next_name};
+ghost use Rattle.job_queue.specs.Queues.{no_jobs, state_of, live, refusal, schedule_refusal, number_refusal, scheduled, moved, cancelled, finished, may_start, next_name, ComesNext};
+ghost use Rattle.job_queue.specs.Inside.Kept.{has_free};
+ghost use Rattle.job_queue.specs.declared.job.Job.{Job};
 ghost use Rattle.job_queue.specs.declared.state.JobState.{JobState};
 ghost use Rattle.job_queue.specs.declared.state.JobState.TheVariants.{Sleeping, Waiting, Running};
 
@@ -243,6 +245,17 @@ impl<A: Atom> JobQueue<A> {
         Ok(())
     }
 
+    /// The name of the job that is to be started next: of those that wait and whose rule conflicts with none that is held,
+    /// the one with the first turn; none where there is no such job. Looks at the jobs that wait, in turn, and for each at
+    /// the held rules. Takes no memory.
+    pub fn next(&self, held: &RuleTable<A>) -> Option<&Name>
+        ensures next { option_copied result ≡ next_name A.conflicts held.now self.now }
+        ensures none { IfNone result ((n : List ℕ) (job : Job A) → map.get self.now.jobs n ≡ Some job → may_start A.conflicts held.now job ≡ false) }
+        ensures first { IfSome result (λ n. ComesNext A.conflicts held.now self.now.jobs n.now) }
+    {
+        first_free(&self.jobs, &self.turns, held)
+    }
+
     fn known(&self, name: &Name) -> Result<&Job<A>, JobError>
         ensures ok { IfOk result (λ job. map.get self.now.jobs name.now ≡ Some job.now) }
         ensures err { IfErr result (λ e. (e ≡ JobError.UnknownJob) × (map.get self.now.jobs name.now ≡ None)) }
@@ -296,4 +309,30 @@ fn without(live: u64, state: JobState) -> u64
     ensures { result ≡ (if is_live state then live - 1 else live) }
 {
     if state.is_live() { live - 1 } else { live }
+}
+
+/// The first name, in turn, of a job whose rule is free.
+fn first_free<'a, A: Atom>(
+    jobs: &Jobs<A>,
+    turns: &'a Turns,
+    held: &RuleTable<A>,
+) -> Option<&'a Name>
+    ensures { option_copied result ≡ option_map (λ e. e.1) (find (λ e. has_free A.conflicts held.now (map.get jobs.now e.1)) (map.entries turns.now)) }
+{
+    for (_, name) in turns.iter() {
+        if has_free(jobs.get(name), held) {
+            return Some(name);
+        }
+    }
+    None
+}
+
+/// Whether there is a job, and its rule conflicts with none that is held.
+fn has_free<A: Atom>(job: Option<&Job<A>>, held: &RuleTable<A>) -> bool
+    ensures { result ≡ has_free A.conflicts held.now (option_copied job.entry) }
+{
+    match job {
+        Some(job) => held.is_free(&job.rule),
+        None => false,
+    }
 }

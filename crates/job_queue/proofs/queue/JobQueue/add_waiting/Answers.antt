@@ -21,7 +21,7 @@ invariant_of-self-in-Err g c =
     to_both c.put.new.self c.self.inside.jobs c.remove.new.self c.self.inside.turns c.self.inside.next_number c.self.inside.finished c.self.inside.live
     c.in-Err.ensures.err
     (c.remove.ensures ∙ ap (λ (t : Turns). remove t c.args.turn) (c.in_ok-add.ensures.ok ∙ ap (insert c.self.inside.turns c.args.turn) c.in_ok-copy.ensures)
-      ∙ undone c.self.inside.jobs c.self.inside.turns c.self.inside.next_number c.self.inside.finished c.self.inside.live c.self.invariant c.args.name
+    ∙ undone c.self.inside.jobs c.self.inside.turns c.self.inside.next_number c.self.inside.finished c.self.inside.live c.self.invariant c.args.name
     (ap (λ (q : Queue g.row.A.Denot). schedule_refusal q.next_number (state_of q c.args.name)) c.self.view_is ∙ c.requires.allowed)
-        (record { state = Waiting; turn = c.args.turn; rule = c.args.rule }) (c.requires.number ∙ ap (λ (q : Queue g.row.A.Denot). q.next_number) (sym c.self.view_is)))
+    (record { state = Waiting; turn = c.args.turn; rule = c.args.rule }) (c.requires.number ∙ ap (λ (q : Queue g.row.A.Denot). q.next_number) (sym c.self.view_is)))
     c.self.invariant
