@@ -107,8 +107,8 @@ module _ {K X : Type 0} {R : K → K → Ordering} (o : IsTotalOrder R) (exact :
           passes = i;
           there = found_first f es;
           least = λ q x l t. by_place {P = R q f.0 ≢ Less} f es q x l
-            (λ a b u. equal_not_less (sym (ap (λ k. R k f.0) a ∙ tied_itself o f.0) ∙ u))
-            (λ l2. after q (below_each f.0 es (first _ _ s) q x l2));
+              (λ a b u. equal_not_less (sym (ap (λ k. R k f.0) a ∙ tied_itself o f.0) ∙ u))
+              (λ l2. after q (below_each f.0 es (first _ _ s) q x l2));
         })
         by false i g rest =
             let r = rest g in
@@ -116,6 +116,6 @@ module _ {K X : Type 0} {R : K → K → Ordering} (o : IsTotalOrder R) (exact :
               passes = r.passes;
               there = found_behind f es s e.0 e.1 r.there;
               least = λ q x l t. by_place {P = R q e.0 ≢ Less} f es q x l
-                (λ a b u. differ (sym t ∙ (λ j. p (a j, b j)) ∙ i))
-                (λ l2. r.least q x l2 t);
+                  (λ a b u. differ (sym t ∙ (λ j. p (a j, b j)) ∙ i))
+                  (λ l2. r.least q x l2 t);
             }

@@ -48,7 +48,7 @@ module _ {A : Type 0} (p : Job A → Bool) where
 
   one_of : (es : List Entry) → T (is_sorted name_cmp es) → (e : Entry) → earliest (filter (λ e. p e.1) es) ≡ Some e → IsOne es e
   one_of [] s e h = absurd (not_Some e h)
-  one_of (f ∷ es) s e h = by (p f.1) refl h (λ g. behind (one_of es (second _ _ s) e g)) 
+  one_of (f ∷ es) s e h = by (p f.1) refl h (λ g. behind (one_of es (second _ _ s) e g))
     where
       behind : IsOne es e → IsOne (f ∷ es) e
       behind r = record { there = found_behind name_cmp_total name_cmp_exact f es s e.0 e.1 r.there; passes = r.passes }

@@ -1,5 +1,7 @@
 //! One job.
-use crate::JobState;
+ghost use Rattle.std.specs.Prelude.{◌≡◌, IfOk};
+
+use crate::{JobState, NoMemory};
 use sched_rules::{Atom, Rule};
 use std::cmp::Ordering;
 
@@ -10,6 +12,29 @@ pub struct Job<A: Atom> {
     pub turn: Turn,
     /// What it has to itself while it is run; the null rule once it is over.
     pub rule: Rule<A>,
+}
+
+impl<A: Atom> Job<A> {
+    /// An equal job.
+    pub fn copy(&self) -> Result<Job<A>, NoMemory>
+        ensures { IfOk result (λ copy. copy ≡ self.now) }
+    {
+        Ok(Job {
+            state: self.state,
+            turn: self.turn,
+            rule: self.rule.copy()?,
+        })
+    }
+}
+
+impl<A: Atom> Clone for Job<A> {
+    ghost use Rattle.std.specs.Prelude.{◌≡◌};
+
+    ghost is_clone = { λ job copy. copy ≡ job };
+
+    fn clone(&self) -> Result<Job<A>, NoMemory> {
+        self.copy()
+    }
 }
 
 /// When the turn of a job that waits has come: that of the lesser priority number is first, as the platform has it, and

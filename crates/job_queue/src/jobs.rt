@@ -1,5 +1,5 @@
 //! Jobs by name.
-ghost use Rattle.std.specs.Prelude.{◌≡◌, IsSome, OnOk, OnErr, option_copied};
+ghost use Rattle.std.specs.Prelude.{◌≡◌, IfOk, IsSome, OnOk, OnErr, option_copied};
 ghost use Rattle.std.specs.BTreeMap.{get, Updates};
 ghost use Rattle.std.specs.FinMap as map;
 ghost use Rattle.std.specs.Option.{option_map};
@@ -71,6 +71,14 @@ impl<A: Atom> Jobs<A> {
         ensures { self.new ≡ changed over name.now self.old }
     {
         end(&mut self.jobs, alloc, name);
+    }
+
+    pub fn copy(&self) -> Result<Jobs<A>, NoMemory>
+        ensures { IfOk result (λ copy. copy ≡ self.now) }
+    {
+        Ok(Jobs {
+            jobs: self.jobs.clone()?,
+        })
     }
 }
 

@@ -67,6 +67,13 @@ impl<A: Atom> JobQueue<A> {
         }
     }
 
+    /// The job of this name; none where no job of the name was ever scheduled.
+    pub fn get(&self, name: &Name) -> Option<&Job<A>>
+        ensures { option_copied result ≡ map.get self.now.jobs name.now }
+    {
+        self.jobs.get(name)
+    }
+
     /// What becomes of the job of this name; none where no job of the name was ever scheduled.
     pub fn state(&self, name: &Name) -> Option<JobState>
         ensures { result ≡ state_of self.now name.now }
@@ -254,6 +261,20 @@ impl<A: Atom> JobQueue<A> {
         ensures first { IfSome result (λ n. ComesNext A.conflicts held.now self.now.jobs n.now) }
     {
         first_free(&self.jobs, &self.turns, held)
+    }
+
+    /// An equal queue.
+    pub fn copy(&self) -> Result<JobQueue<A>, NoMemory>
+        ensures { IfOk result (λ copy. copy ≡ self.now) }
+    {
+        Ok(JobQueue {
+            jobs: self.jobs.copy()?,
+            turns: self.turns.copy()?,
+            next_number: self.next_number,
+            finished: self.finished,
+            live: self.live,
+            alloc: self.alloc,
+        })
     }
 
     fn known(&self, name: &Name) -> Result<&Job<A>, JobError>

@@ -1,5 +1,5 @@
 //! The jobs that wait, in turn.
-ghost use Rattle.std.specs.Prelude.{◌≡◌, OnOk, OnErr};
+ghost use Rattle.std.specs.Prelude.{◌≡◌, IfOk, OnOk, OnErr};
 ghost use Rattle.std.specs.FinMap as map;
 
 use crate::{NoMemory, Turn};
@@ -57,5 +57,13 @@ impl Turns {
         ensures { result ≡ map.entries self.now }
     {
         self.names.iter()
+    }
+
+    pub fn copy(&self) -> Result<Turns, NoMemory>
+        ensures { IfOk result (λ copy. copy ≡ self.now) }
+    {
+        Ok(Turns {
+            names: self.names.clone()?,
+        })
     }
 }

@@ -23,9 +23,9 @@ returns-clause-next g c =
 pub returns-clause-none : goal.returns-clause-none
 returns-clause-none g c =
     if_none c.first_free.result _ (λ h. subst (λ (q : Queue g.row.A.Denot). (n : List ℕ) (job : Job g.row.A.Denot) → get q.jobs n ≡ Some job → may_start g.A.Atom.conflicts c.args.held.now job ≡ false) c.self.view_is
-        (no_next g.A.Atom.conflicts c.args.held.now c.self.inside.jobs c.self.inside.turns c.self.inside.next_number c.self.inside.finished c.self.inside.live c.self.invariant (sym c.first_free.ensures ∙ h)))
+    (no_next g.A.Atom.conflicts c.args.held.now c.self.inside.jobs c.self.inside.turns c.self.inside.next_number c.self.inside.finished c.self.inside.live c.self.invariant (sym c.first_free.ensures ∙ h)))
 
 pub returns-clause-first : goal.returns-clause-first
 returns-clause-first g c =
     if_some c.first_free.result (λ n. ComesNext g.A.Atom.conflicts c.args.held.now c.args.self.now.jobs n) (λ n h. subst (λ (q : Queue g.row.A.Denot). ComesNext g.A.Atom.conflicts c.args.held.now q.jobs n) c.self.view_is
-        (some_next g.A.Atom.conflicts c.args.held.now c.self.inside.jobs c.self.inside.turns c.self.inside.next_number c.self.inside.finished c.self.inside.live c.self.invariant n (sym c.first_free.ensures ∙ h)))
+    (some_next g.A.Atom.conflicts c.args.held.now c.self.inside.jobs c.self.inside.turns c.self.inside.next_number c.self.inside.finished c.self.inside.live c.self.invariant n (sym c.first_free.ensures ∙ h)))
