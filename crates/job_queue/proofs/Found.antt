@@ -1,6 +1,6 @@
 -- Entries in the order of their keys, and the first that passes a test.
 use Rattle.std.proofs.Common.{◌≡◌, ◌≢◌, Bool, true, false, cond, ◌&&◌, List, [], ◌∷◌, refl, sym, ap, ◌∙◌, subst}
-use Rattle.std.specs.Prelude.{Option, Some, None, T, find}
+use Rattle.std.specs.Prelude.{Some, None, T, find}
 use Rattle.std.specs.Option.{unwrap_or}
 use Rattle.std.specs.Cmp.{IsTotalOrder, tied_itself}
 use Rattle.std.specs.Ordering.{eq_by_cmp, is_eq, is_lt, ordering_reverse}

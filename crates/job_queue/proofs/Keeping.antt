@@ -1,13 +1,11 @@
 -- A queue stays kept.
 use Rattle.std.proofs.lemmas.Bool.Decides.{nat_tests}
-use Rattle.std.proofs.Common.{◌≡◌, ◌≢◌, ℕ, zero, suc, ◌+◌, ◌-◌, ◌<◌, ◌≤◌, ◌^◌, nat_le, Bool, true, false, cond, not, List, [], ◌∷◌, length, refl, sym, ap, ◌∙◌, subst, arith, inl, inr}
-use Rattle.std.specs.Prelude.{Option, Some, None, ◌⊎◌, filter, is_some}
+use Rattle.std.proofs.Common.{◌≡◌, ◌≢◌, ℕ, ◌+◌, ◌-◌, ◌<◌, ◌≤◌, ◌^◌, nat_le, Bool, true, false, cond, not, List, length, refl, sym, ap, ◌∙◌, subst, arith, inl, inr}
+use Rattle.std.specs.Prelude.{Option, Some, None, ◌⊎◌, filter}
 use Rattle.std.specs.Option.{IsSomeAnd, unwrap_or, option_map}
 use Rattle.std.specs.Ordering.{eq_by_cmp, is_eq}
 use Rattle.std.specs.Cmp.{tied_itself}
-use Rattle.std.specs.declared.cmp.Ordering.{Ordering}
-use Rattle.std.specs.declared.cmp.Ordering.TheVariants.{Less, Equal, Greater}
-use Rattle.std.specs.FinMap.{FinMap, get, empty, insert, remove, entries, get-empty, get-insert, get-remove, same_map}
+use Rattle.std.specs.FinMap.{get, empty, insert, remove, entries, get-empty, get-insert, get-remove, same_map}
 use Rattle.job_queue.specs.declared.state.JobState.{JobState}
 use Rattle.job_queue.specs.declared.state.JobState.TheVariants.{Sleeping, Waiting, Running}
 use Rattle.job_queue.specs.declared.state.JobState.TheVariants as state

@@ -7,7 +7,6 @@ use Rattle.std.specs.declared.cmp.Ordering.{Ordering}
 use Rattle.std.specs.declared.cmp.Ordering.TheVariants.{Less, Equal, Greater}
 use Rattle.std.specs.FinMap.{get, get-entries, entries, entries_sorted, find as look, is_sorted}
 use Rattle.rule_table.specs.declared.held.Held.{Held}
-use Rattle.rule_table.specs.Tables.{is_free}
 use Rattle.job_queue.specs.declared.state.JobState.TheVariants.{Waiting}
 use Rattle.job_queue.specs.declared.job.Job.{Job}
 use Rattle.job_queue.specs.declared.job.Turn.{Turn}
@@ -16,7 +15,7 @@ use Rattle.job_queue.specs.Turns.{turn_cmp, turn_cmp_total, turn_cmp_exact}
 use Rattle.job_queue.specs.Queues.{name_cmp, Jobs, may_start, earlier, earliest, ComesNext}
 use Rattle.job_queue.specs.Inside.Kept.{Turns, IsKept, has_free}
 use Rattle.job_queue.proofs.Named.{name_cmp_total, name_cmp_exact}
-use Rattle.job_queue.proofs.Found.{first, second, differ, not_Some, same_Some, equal_not_less, itself, apart_from, found_behind, found_first, by_place, find_none, find_some}
+use Rattle.job_queue.proofs.Found.{second, differ, not_Some, same_Some, itself, apart_from, found_behind, found_first, by_place, find_none, find_some}
 use Rattle.job_queue.proofs.Keeping.{waits}
 
 left : (a b : Bool) → (a && b) ≡ true → a ≡ true

@@ -1,15 +1,15 @@
 -- The map that a table's entries make.
 use Rattle.std.proofs.Common.{◌≡◌, Bool, true, false, cond, ◌&&◌, List, [], ◌∷◌, refl, sym, ap, ◌∙◌, subst}
-use Rattle.std.specs.Prelude.{Option, Some, None, T}
+use Rattle.std.specs.Prelude.{Some, None, T}
 use Rattle.std.specs.declared.cmp.Ordering.{Ordering}
 use Rattle.std.specs.declared.cmp.Ordering.TheVariants.{Less}
-use Rattle.std.specs.Ordering.{eq_by_cmp, is_eq, is_lt}
+use Rattle.std.specs.Ordering.{eq_by_cmp, is_lt}
 use Rattle.std.specs.Cmp.{IsTotalOrder, eq_by_cmp_equiv}
 use Rattle.std.specs.List.{AllByRecursion}
 use Rattle.std.specs.List.Sorted.{IsStrictlySortedBy}
 use Rattle.std.specs.Map.{lookup, keys_of}
 use Rattle.std.specs.BTreeMap.{is_at}
-use Rattle.std.specs.FinMap.{FinMap, IsAntisymmetric, get, empty, insert, remove, entries, from_entries, from_sorted, entries-from_sorted, get-from_sorted, is_sorted, find, get-from_entries, get-empty, get-insert, get-remove, same_map}
+use Rattle.std.specs.FinMap.{IsAntisymmetric, get, empty, insert, remove, entries, from_entries, from_sorted, entries-from_sorted, get-from_sorted, is_sorted, find, get-from_entries, get-empty, get-insert, get-remove, same_map}
 use Rattle.std.specs.FinMap.Entries.{below_all}
 
 both : (a b : Bool) → T a → T b → T (a && b)

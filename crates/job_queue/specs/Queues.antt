@@ -1,5 +1,5 @@
 -- A queue of jobs, why a call of it is refused, what each call does, and which job comes next.
-use Rattle.std.specs.Prelude.{◌≡◌, ◌≢◌, ℕ, ◌+◌, ◌-◌, ◌^◌, ◌&&◌, nat_le, Bool, true, false, if◌then◌else◌, List, [], ◌∷◌, Option, Some, None, filter, length}
+use Rattle.std.specs.Prelude.{◌≡◌, ◌≢◌, ℕ, ◌+◌, ◌-◌, ◌^◌, ◌&&◌, nat_le, Bool, true, if◌then◌else◌, List, [], ◌∷◌, Option, Some, None, filter, length}
 use Rattle.std.specs.Option.{option_map}
 use Rattle.std.specs.declared.cmp.Ordering.{Ordering}
 use Rattle.std.specs.declared.cmp.Ordering.TheVariants.{Less}
@@ -13,7 +13,6 @@ use Rattle.job_queue.specs.declared.state.JobState.TheVariants as state
 use Rattle.job_queue.specs.declared.error.JobError.{JobError}
 use Rattle.job_queue.specs.declared.error.JobError.TheVariants.{UnknownJob, WrongState, NumbersUsed}
 use Rattle.job_queue.specs.declared.job.Job.{Job}
-use Rattle.job_queue.specs.declared.job.Turn.{Turn}
 use Rattle.job_queue.specs.States.{is_over, is_waiting, is_live}
 use Rattle.job_queue.specs.Turns.{turn_cmp}
 

@@ -1,5 +1,5 @@
 use Rattle.std.proofs.Common.{sym, ap, refl, ◌∙◌}
-use Rattle.job_queue.specs.declared.state.JobState.TheVariants.{Sleeping, Waiting}
+use Rattle.job_queue.specs.declared.state.JobState.TheVariants.{Sleeping}
 use Rattle.job_queue.specs.Queues.{Queue, schedule_refusal, state_of}
 use Rattle.job_queue.proofs.Keeping.{asleep_kept}
 use Rattle.job_queue.proofs.queue.JobQueue.add_sleeping.Goals as goal

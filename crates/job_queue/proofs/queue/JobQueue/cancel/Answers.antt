@@ -1,4 +1,4 @@
-use Rattle.std.proofs.Common.{sym, ap, ◌∙◌}
+use Rattle.std.proofs.Common.{ap, ◌∙◌}
 use Rattle.std.specs.FinMap.{get}
 use Rattle.job_queue.specs.Queues.{Queue}
 use Rattle.job_queue.proofs.Keeping.{some_live, cancel_kept}

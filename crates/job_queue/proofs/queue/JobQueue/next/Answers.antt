@@ -2,7 +2,7 @@ use Rattle.std.proofs.Common.{◌≡◌, ℕ, List, Bor, false, refl, sym, ap, �
 use Rattle.std.specs.Prelude.{Option, Some, None, IfNone, IfSome, option_copied}
 use Rattle.std.specs.FinMap.{get}
 use Rattle.job_queue.specs.declared.job.Job.{Job}
-use Rattle.job_queue.specs.Queues.{Jobs, Queue, may_start, next_name, ComesNext}
+use Rattle.job_queue.specs.Queues.{Queue, may_start, next_name, ComesNext}
 use Rattle.job_queue.proofs.Nexts.{next_is, no_next, some_next}
 use Rattle.job_queue.proofs.queue.JobQueue.next.Goals as goal
 
