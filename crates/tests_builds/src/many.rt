@@ -5,7 +5,7 @@ use res_path::Name;
 use std::fmt::Write;
 use std::process::Abort;
 
-const COUNT: u32 = 10_000;
+pub const COUNT: u32 = 10_000;
 
 /// To which project each refers.
 #[derive(Clone, Copy, PartialEq)]
@@ -42,7 +42,7 @@ impl Shape {
 }
 
 /// The project's name: numbers and names have one order.
-fn numbered(rt: &(impl Abort + AllocGlobal), number: u32) -> Name {
+pub fn numbered(rt: &(impl Abort + AllocGlobal), number: u32) -> Name {
     let mut text = String::new(rt.alloc());
     must(rt, write!(text, "p{}", number.saturating_add(COUNT)));
     name_of(rt, text.as_str())

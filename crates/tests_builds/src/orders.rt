@@ -35,7 +35,7 @@ b a|| a>b b>x
 a b c d|a+b+c+d|a>b b>a,c c>d d>c,a";
 
 /// What is before the mark, and what is after it.
-fn cut(text: &str, mark: char) -> (&str, &str) {
+pub fn cut(text: &str, mark: char) -> (&str, &str) {
     match text.split_once(mark) {
         Some(parts) => parts,
         None => (text, ""),
@@ -64,7 +64,7 @@ fn projects_in(rt: &(impl Abort + AllocGlobal), text: &str) -> Vec<(Name, Vec<Na
     projects
 }
 
-fn put(rt: &impl Abort, out: &mut String, text: &str) {
+pub fn put(rt: &impl Abort, out: &mut String, text: &str) {
     must(rt, out.push_str(text));
 }
 
