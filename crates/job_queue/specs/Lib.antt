@@ -1,0 +1,4 @@
+pub mod States
+pub mod Turns
+pub mod Queues
+pub mod Inside
