@@ -1,0 +1,3 @@
+pub mod Passes
+pub mod Rows
+pub mod Inside
