@@ -24,6 +24,7 @@ name_cmp = slice_cmp nat_cmp
 abbrev pub Jobs : Type 0 → Type 0
 Jobs A = FinMap name_cmp (Job A)
 
+-- what contracts see of a queue
 pub record Queue (A : Type 0) : Type 0 where
   -- all that were ever scheduled; one that is over stays, without a rule
   pub jobs : Jobs A
@@ -62,6 +63,7 @@ schedule_refusal next (Some state) = if is_over state then number_refusal next e
 
 -- ---- what a call does
 
+-- a job that is scheduled sleeps, where that is asked, or waits
 abbrev pub first_state : Bool → JobState
 first_state asleep = if asleep then state.Sleeping else state.Waiting
 
@@ -72,6 +74,7 @@ scheduled q name priority rule asleep = record q {
   next_number = q.next_number + 1;
 }
 
+-- the jobs, with this one, if any, in the place of the one of its name
 abbrev pub put_if : {A : Type 0} → Jobs A → List ℕ → Option (Job A) → Jobs A
 put_if jobs name None = jobs
 put_if jobs name (Some job) = insert jobs name job
@@ -80,9 +83,11 @@ put_if jobs name (Some job) = insert jobs name job
 abbrev pub changed : {A : Type 0} → (Job A → Job A) → List ℕ → Jobs A → Jobs A
 changed change name jobs = put_if jobs name (option_map change (get jobs name))
 
+-- the job in another state, with its turn and its rule
 abbrev pub in_state : {A : Type 0} → JobState → Job A → Job A
 in_state state job = record job { state = state }
 
+-- the job once it is over, with the null rule
 abbrev pub over : {A : Type 0} → Job A → Job A
 over job = record job { state = state.None; rule = [] }
 
@@ -111,6 +116,7 @@ pub record ComesNext {A : Type 0} (conflicts : A → A → Bool) (held : List (H
   pub may : may_start conflicts held job ≡ true
   pub first : (n : List ℕ) (other : Job A) → get jobs n ≡ Some other → may_start conflicts held other ≡ true → turn_cmp other.turn job.turn ≢ Less
 
+-- the one with the earlier turn
 abbrev pub earlier : {A : Type 0} → List ℕ × Job A → Option (List ℕ × Job A) → Option (List ℕ × Job A)
 earlier e None = Some e
 earlier e (Some other) = if is_lt (turn_cmp other.1.turn e.1.turn) then Some other else Some e
