@@ -166,7 +166,7 @@ fn number(text: &str) -> u8 {
     }
 }
 
-fn rule_in(rt: &(impl Abort + AllocGlobal), text: &str) -> Rule<WsAtom> {
+pub fn rule_in(rt: &(impl Abort + AllocGlobal), text: &str) -> Rule<WsAtom> {
     if text.is_empty() {
         return Rule::null(rt.alloc());
     }
@@ -178,7 +178,7 @@ fn rule_in(rt: &(impl Abort + AllocGlobal), text: &str) -> Rule<WsAtom> {
     must(rt, Rule::of(rt.alloc(), atom))
 }
 
-fn put_number(rt: &impl Abort, out: &mut String, number: u64) {
+pub fn put_number(rt: &impl Abort, out: &mut String, number: u64) {
     must(rt, write!(out, "{number}"));
 }
 
@@ -199,7 +199,7 @@ fn put_state(rt: &impl Abort, out: &mut String, state: Option<JobState>) {
     }
 }
 
-fn put_rule(rt: &impl Abort, out: &mut String, rule: &Rule<WsAtom>) {
+pub fn put_rule(rt: &impl Abort, out: &mut String, rule: &Rule<WsAtom>) {
     for atom in rule.atoms() {
         match atom {
             WsAtom::Path(path) => put(rt, out, path.as_str()),

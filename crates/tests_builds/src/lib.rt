@@ -1,9 +1,10 @@
-//! Tests of the order of projects, and of the queue of jobs.
+//! Tests of the order of projects, of the queue of jobs, and of passes.
 //!
 //! - `asserting`: the assertions, and what tests make names of.
 //! - `orders`: small workspaces, whose orders were worked by hand, row by row.
 //! - `many`: workspaces of 10,000 projects, whose orders are told by arithmetic.
 //! - `jobs`: calls of a queue, row by row.
+//! - `passes`: calls of passes, row by row.
 //! - `many_jobs`: 10,000 jobs, whose turns are told by arithmetic.
 #![tactic(auto)]
 
@@ -17,3 +18,5 @@ mod many;
 mod many_jobs;
 #[cfg(test)]
 mod orders;
+#[cfg(test)]
+mod passes;
