@@ -60,7 +60,7 @@ impl<B: Builder> Builders<B> {
     pub fn place_of(&self, name: &str) -> Option<usize>
         ensures { result ≡ place_named name.now (map (λ b. B.tells b) self.now) }
     {
-        place_from(self.all.as_slice(), name, 0)
+        place_in(self.all.as_slice(), name)
     }
 
     /// The builders in order.
@@ -138,21 +138,20 @@ fn is_named<B: Builder>(one: &B, name: &str) -> bool
     one.name() == name
 }
 
-/// The place of the first builder of the name, where the first of these has the place `at`.
-fn place_from<B: Builder>(all: &[B], name: &str, at: usize) -> Option<usize>
-    requires { at + length all.now < 2 ^ 64 }
-    ensures { result ≡ position_from (λ b. bytes_eq (B.tells b).named name.now) at all.now }
+/// The place of the first builder of the name, from 0.
+fn place_in<B: Builder>(all: &[B], name: &str) -> Option<usize>
+    ensures { result ≡ position_from (λ b. bytes_eq (B.tells b).named name.now) 0 all.now }
 {
-    match all {
-        [] => None,
-        [first, rest @ ..] => {
-            if is_named(first, name) {
-                Some(at)
-            } else {
-                place_from(rest, name, at + 1)
-            }
+    let mut at = 0;
+    let mut rest = all;
+    while let Some((first, others)) = rest.split_first() {
+        if is_named(first, name) {
+            return Some(at);
         }
+        at += 1;
+        rest = others;
     }
+    None
 }
 
 /// One builder builds.
