@@ -1,0 +1,5 @@
+pub mod Keys
+pub mod Neighbours
+pub mod Parents
+pub mod Popped
+pub mod Runs
