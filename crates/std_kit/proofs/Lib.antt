@@ -1,5 +1,10 @@
+pub mod Belows
 pub mod Keys
 pub mod Neighbours
 pub mod Parents
+pub mod Placing
 pub mod Popped
+pub mod Rooted
 pub mod Runs
+pub mod Walks
+pub mod Lawful

@@ -117,13 +117,15 @@ from_all test (e ∷ es) = by (test e) refl (from_all test es)
     by true is h = ap (λ b. b && list_all test (filter test es)) is ∙ h
     by false is h = h
 
-pub under_from : (root : Names) (es : List (Names × List ℕ)) → filter (is_under root) (filter (λ e. not (is_before root e)) es) ≡ filter (is_under root) es
-under_from root [] = refl
-under_from root (e ∷ es) = by (is_under root e) refl (is_before root e) refl (under_from root es)
+-- a filter of what passes it anyway
+pub twice : {X : Type 0} (f g : X → Bool) → ((x : X) → f x ≡ true → g x ≡ true) → (xs : List X) → filter f (filter g xs) ≡ filter f xs
+twice f g h [] = refl
+twice f g h (x ∷ xs) = by (f x) refl (g x) refl (twice f g h xs)
   where
-    by : (u : Bool) → is_under root e ≡ u → (b : Bool) → is_before root e ≡ b → filter (is_under root) (filter (λ e. not (is_before root e)) es) ≡ filter (is_under root) es
-        → filter (is_under root) (cond (not b) (e ∷ filter (λ e. not (is_before root e)) es) (filter (λ e. not (is_before root e)) es)) ≡ cond u (e ∷ filter (is_under root) es) (filter (is_under root) es)
-    by true u true b rest = let no : true ≡ false = sym b ∙ not_under root e.0 (prefix_le root e.0 u) in cc
-    by false u true b rest = rest
-    by true u false b rest = ap (λ x. cond x (e ∷ filter (is_under root) (filter (λ e. not (is_before root e)) es)) (filter (is_under root) (filter (λ e. not (is_before root e)) es))) u ∙ ap (λ es. e ∷ es) rest
-    by false u false b rest = ap (λ x. cond x (e ∷ filter (is_under root) (filter (λ e. not (is_before root e)) es)) (filter (is_under root) (filter (λ e. not (is_before root e)) es))) u ∙ rest
+    by : (a : Bool) → f x ≡ a → (b : Bool) → g x ≡ b → filter f (filter g xs) ≡ filter f xs → filter f (cond b (x ∷ filter g xs) (filter g xs)) ≡ cond a (x ∷ filter f xs) (filter f xs)
+    by a i true j rest = (λ k. cond (i k) (x ∷ filter f (filter g xs)) (filter f (filter g xs))) ∙ ap (λ ys. cond a (x ∷ ys) ys) rest
+    by false i false j rest = rest
+    by true i false j rest = let never : true ≡ false = sym (h x i) ∙ j in cc
+
+pub under_from : (root : Names) (es : List (Names × List ℕ)) → filter (is_under root) (filter (λ e. not (is_before root e)) es) ≡ filter (is_under root) es
+under_from root es = twice (is_under root) (λ e. not (is_before root e)) (λ e h. ap not (not_under root e.0 (prefix_le root e.0 h))) es

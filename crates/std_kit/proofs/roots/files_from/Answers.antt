@@ -5,6 +5,5 @@ use Rattle.std_kit.proofs.roots.files_from.Goals as goal
 
 pub returns : goal.returns
 returns c =
-    let first = before_first c.args.root.now c.args.files.now c.requires in
-    let point = IsPartitionPoint-from_clause (is_before c.args.root.now) _ _ c.partition_point-before.ensures.partitioned first (λ a r q k. search rules) in
-    c.split_at.ensures.back ∙ (parts (is_before c.args.root.now) c.args.files.now _ c.partition_point-before.ensures.bound point).1
+    c.split_at.ensures.back ∙ (parts (is_before c.args.root.now) c.args.files.now _ c.partition_point-before.ensures.bound
+    (IsPartitionPoint-from_clause (is_before c.args.root.now) _ _ c.partition_point-before.ensures.partitioned (before_first c.args.root.now c.args.files.now c.requires) (λ a r q k. search rules))).1

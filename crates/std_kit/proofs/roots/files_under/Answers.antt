@@ -5,6 +5,5 @@ use Rattle.std_kit.proofs.roots.files_under.Goals as goal
 
 pub returns : goal.returns
 returns c =
-    let first = under_first c.args.root.now c.args.files.now c.requires.sorted c.requires.from in
-    let point = IsPartitionPoint-from_clause (is_under c.args.root.now) _ _ c.partition_point-under.ensures.partitioned first (λ a r q k. search rules) in
-    c.split_at.ensures.front ∙ (parts (is_under c.args.root.now) c.args.files.now _ c.partition_point-under.ensures.bound point).0
+    c.split_at.ensures.front ∙ (parts (is_under c.args.root.now) c.args.files.now _ c.partition_point-under.ensures.bound
+    (IsPartitionPoint-from_clause (is_under c.args.root.now) _ _ c.partition_point-under.ensures.partitioned (under_first c.args.root.now c.args.files.now c.requires.sorted c.requires.from) (λ a r q k. search rules))).0
