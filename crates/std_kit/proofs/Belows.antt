@@ -1,5 +1,5 @@
 -- What lies below a path, by two tests.
-use Rattle.std.proofs.Common.{◌≡◌, Bool, true, false, not, ◌&&◌, List, [], ◌∷◌, refl, sym, ap, ◌∙◌}
+use Rattle.std.proofs.Common.{◌≡◌, Bool, true, false, not, ◌&&◌, [], ◌∷◌, refl, sym, ap, ◌∙◌}
 use Rattle.std.specs.Str.{bytes_eq}
 use Rattle.res_path.specs.Paths.{Names, path_eq, is_prefix}
 use Rattle.builder_api.specs.Places.{is_below}

@@ -14,9 +14,9 @@ use Rattle.res_path.specs.Paths.{Names, path_cmp}
 use Rattle.builder_api.specs.Files.{Files}
 use Rattle.builder_api.specs.Tasks.{Task, task_of, inputs_of, view_of}
 use Rattle.builder_api.specs.Edits.{Edit, edit_paths}
-use Rattle.builder_api.specs.Meanings.{Meaning}
+use Rattle.builder_api.specs.Meanings.{Made, Meaning}
 use Rattle.builder_api.specs.Lawful.{Fulfils, Does}
-use Rattle.builder_api.proofs.Maps.{same_path, path_is}
+use Rattle.builder_api.proofs.Maps.{same_path}
 use Rattle.builder_api.proofs.Views.{view_below, view_inputs}
 use Rattle.builder_api.proofs.Commits.{after_edits, makes}
 use Rattle.builder_api.proofs.Laws.{does_always}
@@ -78,3 +78,8 @@ fulfils m c view f e sees are problems = record {
 pub does : (m : Meaning) (command : Command) (h : Handed) (e : Edits) → AreChanges h.output h.view (m (task_of command h) (inputs_of (task_of command h) h.view)).files e.files
     → e.problems ≡ (m (task_of command h) (inputs_of (task_of command h) h.view)).problems → Does m command h e
 does m command h e are problems = does_always m command h e (λ f sees. fulfils m (task_of command h) h.view f e sees are problems)
+
+-- the same of what it made, which is that
+pub does_made : (m : Meaning) (command : Command) (h : Handed) (e : Edits) (made : Made) → made ≡ m (task_of command h) (inputs_of (task_of command h) h.view)
+    → AreChanges h.output h.view made.files e.files → e.problems ≡ made.problems → Does m command h e
+does_made m command h e made is are problems = does m command h e (subst (λ x. AreChanges h.output h.view x.files e.files) is are) (problems ∙ ap (λ x. x.problems) is)

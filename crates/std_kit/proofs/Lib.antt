@@ -1,5 +1,6 @@
 pub mod Belows
 pub mod Keys
+pub mod Makings
 pub mod Neighbours
 pub mod Parents
 pub mod Placing

@@ -1,6 +1,6 @@
 -- The files next to a path, in path order.
-use Rattle.std.proofs.Common.{◌≡◌, ℕ, Bool, true, false, not, ◌||◌, List, [], ◌∷◌, ◌++◌, refl, sym, ap, ◌∙◌, subst}
-use Rattle.std.specs.Prelude.{Option, Some, None, IsSome, IfSome, slice_get}
+use Rattle.std.proofs.Common.{◌≡◌, ℕ, false, ◌||◌, List, [], ◌∷◌, ◌++◌, refl, sym, ap, ◌∙◌, subst}
+use Rattle.std.specs.Prelude.{Some, None, IsSome, IfSome, slice_get}
 use Rattle.std.specs.declared.cmp.Ordering.{Ordering}
 use Rattle.std.specs.declared.cmp.Ordering.TheVariants.{Less, Equal, Greater}
 use Rattle.std.specs.declared.ops.Bound.TheVariants.{Included, Unbounded}
@@ -15,7 +15,7 @@ use Rattle.res_path.specs.PathLaws.{path_cmp_total}
 use Rattle.res_path.proofs.Prefixes.{prefix_le, prefix_between}
 use Rattle.ws_elem.proofs.Ordered.{get_is}
 use Rattle.builder_api.specs.Files.{Files}
-use Rattle.std_kit.specs.Made.{AreMade, is_free}
+use Rattle.std_kit.specs.Placed.{AreMade}
 use Rattle.std_kit.specs.Inside.Neighbours.{IsLast, IsFirst}
 use Rattle.std_kit.proofs.Keys.{alike, one_passes, passes_one, none_passes, any_either}
 
@@ -51,10 +51,10 @@ module _ (b : BTreeMap Names (List ℕ)) (m : Files) (view : from_entries {R = p
   pub first_some : (p : Names) (r t : List (Names × List ℕ)) (x : Names) (v : List ℕ) → IsRangeOf path_cmp (Included p) Unbounded b r → r ≡ (x, v) ∷ t → IsFirst m p (Some x)
   first_some p r t x v range is =
       let mine = subst (λ r. IfSome (slice_get r 0) (IsEntryInRange path_cmp (Included p) Unbounded b)) is range.1 in (
-    some x v mine.1,
-    mine.0.0,
-    λ q h g. subst (λ r. IfSome (slice_get r 0) (λ e. is_gt (path_cmp e.0 q) ≡ false)) is (range.2 q (h, tt) (subst IsSome (here q) g)),
-  )
+        some x v mine.1,
+        mine.0.0,
+        λ q h g. subst (λ r. IfSome (slice_get r 0) (λ e. is_gt (path_cmp e.0 q) ≡ false)) is (range.2 q (h, tt) (subst IsSome (here q) g)),
+      )
 
   pub first_none : (p : Names) (r : List (Names × List ℕ)) → IsRangeOf path_cmp (Included p) Unbounded b r → r ≡ [] → IsFirst m p None
   first_none p r range is = λ q h. here q ∙ range.5 is q (h, tt)

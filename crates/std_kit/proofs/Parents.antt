@@ -1,7 +1,6 @@
 -- A path and its parent.
-use Rattle.std.proofs.Common.{◌≡◌, ℕ, Bool, true, false, cond, not, ◌&&◌, List, [], ◌∷◌, length, drop, refl, sym, ap, ◌∙◌}
-use Rattle.std.specs.Prelude.{Option, Some, None}
-use Rattle.std.specs.Str.{bytes_eq}
+use Rattle.std.proofs.Common.{◌≡◌, Bool, true, false, cond, not, ◌&&◌, [], ◌∷◌, length, drop, refl, sym, ap, ◌∙◌}
+use Rattle.std.specs.Prelude.{Some}
 use Rattle.res_path.specs.Paths.{Names, path_eq, is_prefix, parent, parent_of}
 use Rattle.builder_api.proofs.Places.{itself}
 use Rattle.std_kit.specs.Roots.{relative}

@@ -1,6 +1,6 @@
 -- Files that are placed don't overlap.
 use Rattle.std.proofs.Common.{◌≡◌, ℕ, Bool, true, false, cond, not, ◌||◌, List, [], ◌∷◌, refl, sym, ap, ◌∙◌, subst}
-use Rattle.std.specs.Prelude.{Option, Some, None, IsSome}
+use Rattle.std.specs.Prelude.{Some, None, IsSome}
 use Rattle.std.specs.FinMap.{get, insert, keys, empty, get-insert, get-empty}
 use Rattle.std.specs.List.{list_any}
 use Rattle.std.specs.Ordering.{eq_by_cmp}
@@ -9,7 +9,7 @@ use Rattle.res_path.specs.PathLaws.{path_cmp_total}
 use Rattle.builder_api.specs.Files.{Files}
 use Rattle.builder_api.specs.Meanings.{Meaning, IsMeaning}
 use Rattle.builder_api.proofs.Maps.{same_path, put_elsewhere}
-use Rattle.std_kit.specs.Made.{AreMade, is_free, with_placed}
+use Rattle.std_kit.specs.Placed.{AreMade, is_free, with_placed}
 use Rattle.std_kit.proofs.Keys.{passes_one, none_passes}
 
 nowhere : (q : Names) → IsSome (get {X = List ℕ} {R = path_cmp} empty q) → ⊥

@@ -1,7 +1,7 @@
 -- The files of the roots of a task are all among its inputs.
-use Rattle.std.proofs.Common.{◌≡◌, ℕ, Bool, true, false, cond, ◌||◌, List, [], ◌∷◌, map, T, refl, sym, ap, ◌∙◌}
+use Rattle.std.proofs.Common.{◌≡◌, Bool, true, cond, ◌||◌, List, [], ◌∷◌, refl, sym, ap, ◌∙◌}
 use Rattle.std.specs.Prelude.{None, filter}
-use Rattle.std.specs.FinMap.{entries, entries_sorted, from_sorted, is_sorted, retain_keys, get-entries, get-from_sorted, entries-from_sorted}
+use Rattle.std.specs.FinMap.{entries, entries_sorted, from_sorted, retain_keys, get-entries, get-from_sorted, entries-from_sorted}
 use Rattle.std.specs.FinMap.Entries.{is_sorted-where_key, find-where_key}
 use Rattle.res_path.specs.Paths.{Names, path_cmp, is_prefix}
 use Rattle.res_path.proofs.Prefixes.{path_cmp_exact}

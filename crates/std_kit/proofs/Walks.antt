@@ -1,5 +1,5 @@
 -- A walk over the files that are there tells exactly what differs.
-use Rattle.std.proofs.Common.{◌≡◌, ◌≢◌, ℕ, zero, suc, ◌<◌, ◌≤◌, Bool, true, false, cond, ◌&&◌, ◌||◌, List, [], ◌∷◌, ◌++◌, length, drop, map, T, refl, sym, ap, ◌∙◌, subst, arith}
+use Rattle.std.proofs.Common.{◌≡◌, ◌≢◌, ℕ, zero, suc, ◌<◌, Bool, true, false, cond, ◌&&◌, List, [], ◌∷◌, ◌++◌, length, drop, map, T, refl, sym, ap, ◌∙◌, subst, arith}
 use Rattle.std.specs.Prelude.{Option, Some, None, slice_index_or}
 use Rattle.std.specs.declared.cmp.Ordering.{Ordering}
 use Rattle.std.specs.declared.cmp.Ordering.TheVariants.{Less, Equal, Greater}
@@ -13,10 +13,10 @@ use Rattle.builder_api.specs.Places.{is_below}
 use Rattle.builder_api.specs.Files.{Files}
 use Rattle.builder_api.specs.Edits.{Edit, edit_paths}
 use Rattle.builder_api.proofs.Maps.{same_path, path_is, other_path, gone_here, gone_elsewhere}
-use Rattle.builder_api.proofs.Places.{Split, split, below_append, prefix_append, cancel}
+use Rattle.builder_api.proofs.Places.{split, below_append, prefix_append, cancel}
 use Rattle.std_kit.specs.Changes.{change_of, AreChanges}
 use Rattle.std_kit.specs.Roots.{files_of_root}
-use Rattle.std_kit.specs.Inside.Walks.{edit_if, edits_at, left_after, puts, edits_along}
+use Rattle.std_kit.specs.Inside.Walks.{edit_if, puts, edits_along}
 
 -- each path once
 abbrev pub Once : List Names → Type 0

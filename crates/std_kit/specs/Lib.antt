@@ -1,5 +1,6 @@
 -- What only the crate's own code speaks of.
 pub mod Inside
-pub mod Made
+pub mod Placed
 pub mod Roots
 pub mod Changes
+pub mod Making

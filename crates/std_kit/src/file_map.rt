@@ -4,7 +4,7 @@ ghost use Rattle.std.specs.List.{list_any};
 ghost use Rattle.std.specs.Option.{option_copied};
 ghost use Rattle.std.specs.FinMap as map;
 ghost use Rattle.res_path.specs.Paths.{is_prefix, overlap};
-ghost use Rattle.std_kit.specs.Made.{AreMade, is_free};
+ghost use Rattle.std_kit.specs.Placed.{AreMade, is_free};
 ghost use Rattle.std_kit.specs.Inside.Neighbours.{IsLast, IsFirst};
 
 use bytes::Bytes;

@@ -1,6 +1,6 @@
-use Rattle.std.proofs.Common.{[], ◌++◌, sym, ap, ◌∙◌, subst}
+use Rattle.std.proofs.Common.{◌++◌, sym, ap, ◌∙◌, subst}
 use Rattle.std_kit.specs.Changes.{AreChanges}
-use Rattle.std_kit.specs.Inside.Walks.{puts, edits_along}
+use Rattle.std_kit.specs.Inside.Walks.{edits_along}
 use Rattle.std_kit.proofs.Walks.{along}
 use Rattle.std_kit.proofs.changes.changes_to.Goals as goal
 

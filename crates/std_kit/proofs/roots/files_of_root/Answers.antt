@@ -1,4 +1,4 @@
-use Rattle.std.proofs.Common.{T, ◌≡◌, true, not, sym, ap, ◌∙◌, subst}
+use Rattle.std.proofs.Common.{T, not, sym, ap, ◌∙◌, subst}
 use Rattle.std.specs.Prelude.{filter}
 use Rattle.std.specs.FinMap.{entries, entries_sorted, is_sorted}
 use Rattle.std.specs.List.{list_all}

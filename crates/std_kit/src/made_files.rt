@@ -1,7 +1,7 @@
 //! The files that a builder makes.
 ghost use Rattle.std.specs.Prelude.{◌≡◌, IfOk, OnOk, OnErr};
 ghost use Rattle.std.specs.FinMap.{empty};
-ghost use Rattle.std_kit.specs.Made.{AreMade, is_free, with_placed};
+ghost use Rattle.std_kit.specs.Placed.{AreMade, is_free, with_placed};
 
 use crate::file_map::FileMap;
 use bytes::Bytes;
@@ -20,7 +20,7 @@ impl Model for MadeFiles {
     ghost use Rattle.std.specs.FinMap as map;
     ghost use Rattle.std.specs.Coded.{coded_ℕ, coded_list};
     ghost use Rattle.builder_api.specs.Files.{Files};
-    ghost use Rattle.std_kit.specs.Made.{AreMade};
+    ghost use Rattle.std_kit.specs.Placed.{AreMade};
 
     ghost Value = { Files };
 

@@ -1,7 +1,7 @@
 use Rattle.std.proofs.Common.{sym, ◌∙◌, subst}
-use Rattle.std_kit.specs.Made.{AreMade}
+use Rattle.std_kit.specs.Placed.{AreMade}
 use Rattle.std_kit.proofs.Placing.{inserted_made}
-use Rattle.std_kit.proofs.made.MadeFiles.place.Goals as goal
+use Rattle.std_kit.proofs.made_files.MadeFiles.place.Goals as goal
 
 pub invariant_of-self-2 : goal.invariant_of-self-2
 invariant_of-self-2 c =

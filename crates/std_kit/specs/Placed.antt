@@ -1,4 +1,4 @@
--- The files that a builder makes.
+-- Files placed one after another.
 use Rattle.std.specs.Prelude.{◌≡◌, ℕ, Bool, true, false, not, if◌then◌else◌, List, [], ◌∷◌, None, IsSome}
 use Rattle.std.specs.FinMap.{get, insert, keys}
 use Rattle.std.specs.List.{list_any}
