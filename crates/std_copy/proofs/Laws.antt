@@ -1,10 +1,11 @@
 -- What `copy` makes is what a builder may make.
-use Rattle.std.proofs.Common.{◌≡◌, ℕ, List, [], ◌∷◌, sym, ap}
+use Rattle.std.proofs.Common.{◌≡◌, ℕ, List, [], ◌∷◌, sym, ap, subst}
 use Rattle.std.specs.List.{fold}
 use Rattle.proj_desc.specs.declared.command.Command.{Command}
 use Rattle.builder_api.specs.declared.handed.Handed.{Handed}
 use Rattle.builder_api.specs.declared.edits.Edits.{Edits}
 use Rattle.res_path.specs.Paths.{Names}
+use Rattle.builder_api.specs.Tasks.{task_of, inputs_of}
 use Rattle.builder_api.specs.Meanings.{Made, IsMeaning}
 use Rattle.builder_api.specs.Lawful.{Does}
 use Rattle.std_kit.specs.Changes.{AreChanges}
@@ -33,3 +34,8 @@ copy_means = meaning_of copy (λ c f. all_made nothing_made (rooted c.inputs f) 
 pub does_copy : (command : Command) (h : Handed) (e : Edits) → AreChanges h.output h.view (copied (rooted h.inputs h.view)).files e.files
     → e.problems ≡ (copied (rooted h.inputs h.view)).problems → Does copy command h e
 does_copy command h e = does_made copy command h e (copied (rooted h.inputs h.view)) (ap copied (sym (rooted_in h.inputs h.view)))
+
+-- the same changes, to what it tells that it makes of the inputs
+pub changes_copy : (command : Command) (h : Handed) (e : Edits) → AreChanges h.output h.view (copied (rooted h.inputs h.view)).files e.files
+    → AreChanges h.output h.view (copy (task_of command h) (inputs_of (task_of command h) h.view)).files e.files
+changes_copy command h e = subst (λ roots. AreChanges h.output h.view (copied roots).files e.files) (sym (rooted_in h.inputs h.view))

@@ -1,6 +1,7 @@
 //! The builder.
 ghost use Rattle.std.specs.Prelude.{◌≡◌, ◌≢◌, Err, IfOk};
 ghost use Rattle.builder_api.specs.declared.builder.BuildFault.TheVariants.{Failed};
+ghost use Rattle.builder_api.specs.Tasks.{task_of, inputs_of};
 ghost use Rattle.builder_api.specs.Lawful.{Does};
 ghost use Rattle.builder_api.specs.Told.{Built, WasCalled};
 ghost use Rattle.std_kit.specs.Changes.{AreChanges};
@@ -42,7 +43,7 @@ impl Builder for Copy {
     fn build(&mut self, command: &Command, handed: &Handed) -> Result<Edits, BuildFault>
         ensures lawful { IfOk result (λ edits. Does copy command.now handed.now edits) }
         ensures called { WasCalled (Built command.now handed.now) copy_told copy_told }
-        ensures changes { IfOk result (λ edits. AreChanges handed.now.output handed.now.view (copied (rooted handed.now.inputs handed.now.view)).files edits.files) }
+        ensures changes { IfOk result (λ edits. let c = task_of command.now handed.now in AreChanges c.output handed.now.view (copy c (inputs_of c handed.now.view)).files edits.files) }
         ensures fails { result ≢ Err Failed }
     {
         Ok(edits_of(self.alloc, handed)?)

@@ -15,19 +15,16 @@ pub(crate) fn made_of(alloc: Global, roots: &[Path], view: &View) -> Result<Maki
     ensures { IfOk result (λ made. made ≡ copied (rooted roots.now view.now)) }
 {
     let mut making = Making::nothing(alloc);
-    for root in roots {
+    let mut left = roots;
+    while let Some((root, later)) = left.split_first() {
         place_root(alloc, &mut making, root, view)?;
+        left = later;
     }
     Ok(making)
 }
 
 /// Places the files of a root.
-fn place_root(
-    alloc: Global,
-    making: &mut Making,
-    root: &Path,
-    view: &View,
-) -> Result<(), NoMemory>
+fn place_root(alloc: Global, making: &mut Making, root: &Path, view: &View) -> Result<(), NoMemory>
     ensures { OnOk result (making.new ≡ with_root making.old (root.now, files_of_root root.now view.now)) }
 {
     for file in files_of_root(view, root) {

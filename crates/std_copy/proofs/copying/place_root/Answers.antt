@@ -10,4 +10,4 @@ pub place_file-requires : goal.place_file-requires
 place_file-requires c =
     ap (λ file. is_prefix c.args.root.now file.0) c.file-item.is
     ∙ All-get_or (λ file. is_prefix c.args.root.now file.0 ≡ true) c.files_of_root-file-items.result.now c.loop-file.file-index c.file-item.result c.loop-file-test.true
-      (subst (All (λ file. is_prefix c.args.root.now file.0 ≡ true)) (sym c.files_of_root-file-items.ensures) (filter_passes (λ file. is_prefix c.args.root.now file.0) (entries c.args.view.now)))
+    (subst (All (λ file. is_prefix c.args.root.now file.0 ≡ true)) (sym c.files_of_root-file-items.ensures) (filter_passes (λ file. is_prefix c.args.root.now file.0) (entries c.args.view.now)))
