@@ -1,7 +1,7 @@
 //! Edits and problems as they are told: of each edit its path from the output, in path order, with the file that is put
 //! there, or a dash where one is removed; after a semicolon of each problem its four parts.
 use crate::rows::Row;
-use crate::views::{command_of, files_of, handed_of, path, OUTPUT};
+use crate::views::{OUTPUT, command_of, files_of, handed_of, path};
 use builder_api::{Builder, Edits, Problem};
 use bytes::Bytes;
 use res_path::{NoMemory, Path};
