@@ -16,14 +16,8 @@ use std_kit::{MadeFiles, changes_to};
 /// never fails. Its edits put `all` only where it isn't there with these bytes. Costs one pass over the inputs' bytes.
 #[derive(Drop)]
 pub struct Concat {
-    alloc: Global,
-}
-
-impl Concat {
-    /// A builder that takes its memory here.
-    pub fn new(alloc: Global) -> Concat {
-        Concat { alloc }
-    }
+    /// Where it takes its memory.
+    pub alloc: Global,
 }
 
 impl Builder for Concat {
