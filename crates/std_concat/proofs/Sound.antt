@@ -5,6 +5,9 @@ use Rattle.res_path.specs.Paths.{Names}
 use Rattle.proj_desc.specs.declared.command.Command.{Command}
 use Rattle.builder_api.specs.declared.handed.Handed.{Handed}
 use Rattle.builder_api.specs.declared.edits.Edits.{Edits}
+use Rattle.builder_api.specs.Edits.{Edit}
+use Rattle.builder_api.specs.Files.{Files}
+use Rattle.builder_api.specs.Tasks.{Task, task_of, inputs_of}
 use Rattle.builder_api.specs.Meanings.{IsMeaning}
 use Rattle.builder_api.specs.Lawful.{Does}
 use Rattle.std_kit.specs.Changes.{AreChanges}
@@ -26,6 +29,14 @@ no_problems : (files : List (Names × List ℕ)) → (all_of files).problems ≡
 no_problems [] = refl
 no_problems (e ∷ es) = refl
 
+-- what it makes of the view's inputs is what it makes of the view
+seen : (c : Task) (view : Files) → all_of (files_of_roots c.inputs view) ≡ concat c (inputs_of c view)
+seen c view = ap (λ roots. all_of (flat_map (λ root. root.1) roots)) (sym (rooted_in c.inputs view))
+
+pub changes : (command : Command) (h : Handed) (edits : List Edit) → AreChanges h.output h.view (all_of (files_of_roots h.inputs h.view)).files edits
+    → AreChanges h.output h.view (concat (task_of command h) (inputs_of (task_of command h) h.view)).files edits
+changes command h edits are = subst (λ m. AreChanges h.output h.view m.files edits) (seen (task_of command h) h.view) are
+
 pub does : (command : Command) (h : Handed) (e : Edits) → AreChanges h.output h.view (all_of (files_of_roots h.inputs h.view)).files e.files → e.problems ≡ [] → Does concat command h e
-does command h e are none = does_made concat command h e (all_of (files_of_roots h.inputs h.view)) (ap (λ roots. all_of (flat_map (λ root. root.1) roots)) (sym (rooted_in h.inputs h.view))) are
+does command h e are none = does_made concat command h e (all_of (files_of_roots h.inputs h.view)) (seen (task_of command h) h.view) are
     (none ∙ sym (no_problems (files_of_roots h.inputs h.view)))

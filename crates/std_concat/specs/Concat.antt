@@ -1,10 +1,11 @@
 -- The builder `concat`.
-use Rattle.std.specs.Prelude.{ℕ, List, [], ◌∷◌, codes}
+use Rattle.std.specs.Prelude.{ℕ, List, [], ◌∷◌, codes, Some, None}
 use Rattle.std.specs.FinMap.{empty, insert}
 use Rattle.std.specs.List.{flat_map}
 use Rattle.res_path.specs.Paths.{Names}
 use Rattle.builder_api.specs.Files.{Files}
 use Rattle.builder_api.specs.Meanings.{Made, Meaning}
+use Rattle.builder_api.specs.Told.{Told}
 use Rattle.std_kit.specs.Making.{nothing_made}
 use Rattle.std_kit.specs.Roots.{rooted}
 
@@ -28,3 +29,7 @@ all_of (e ∷ es) = record { files = insert empty all_path (joined (e ∷ es)); 
 -- what `concat` makes of input files
 abbrev pub concat : Meaning
 concat c i = all_of (files_of_roots c.inputs i)
+
+-- what the builder tells: it isn't told how it was called, and never fails
+abbrev pub concat_told : Told
+concat_told = record { named = codes "concat"; means = Some concat; calls = None; faults = 0 }

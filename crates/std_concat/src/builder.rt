@@ -1,7 +1,11 @@
 //! The builder.
-ghost use Rattle.std.specs.Prelude.{◌≡◌, [], IfOk};
+ghost use Rattle.std.specs.Prelude.{◌≡◌, ◌≢◌, [], Err, IfOk};
+ghost use Rattle.builder_api.specs.declared.builder.BuildFault.TheVariants.{Failed};
+ghost use Rattle.builder_api.specs.Lawful.{Does};
+ghost use Rattle.builder_api.specs.Tasks.{task_of, inputs_of};
+ghost use Rattle.builder_api.specs.Told.{Built, WasCalled};
 ghost use Rattle.std_kit.specs.Changes.{AreChanges};
-ghost use Rattle.std_concat.specs.Concat.{all_path, files_of_roots, all_of};
+ghost use Rattle.std_concat.specs.Concat.{all_path, files_of_roots, all_of, concat, concat_told};
 
 use crate::joining::{add_roots, has_files};
 use builder_api::{BuildFault, Builder, Edits, Handed, Problems, View};
@@ -16,21 +20,32 @@ use std_kit::{MadeFiles, changes_to};
 /// never fails. Its edits put `all` only where it isn't there with these bytes. Costs one pass over the inputs' bytes.
 #[derive(Drop)]
 pub struct Concat {
-    /// Where it takes its memory.
-    pub alloc: Global,
+    alloc: Global,
+}
+
+impl Concat {
+    /// A builder that takes its memory here.
+    pub fn new(alloc: Global) -> Concat {
+        Concat { alloc }
+    }
 }
 
 impl Builder for Concat {
-    ghost use Rattle.std.specs.Prelude.{Some, None, codes};
-    ghost use Rattle.std_concat.specs.Concat.{concat};
+    ghost use Rattle.std_concat.specs.Concat.{concat_told};
 
-    ghost tells = { λ b. record { named = codes "concat"; means = Some concat; calls = None; faults = 0 } };
+    ghost tells = { λ b. concat_told };
 
     fn name(&self) -> &str {
         "concat"
     }
 
-    fn build(&mut self, _command: &Command, handed: &Handed) -> Result<Edits, BuildFault> {
+    fn build(&mut self, command: &Command, handed: &Handed) -> Result<Edits, BuildFault>
+        ensures lawful { IfOk result (λ edits. Does concat command.now handed.now edits) }
+        ensures called { WasCalled (Built command.now handed.now) concat_told concat_told }
+        ensures changes { IfOk result (λ edits. let c = task_of command.now handed.now in AreChanges c.output handed.now.view (concat c (inputs_of c handed.now.view)).files edits.files) }
+        ensures problems { IfOk result (λ edits. edits.problems ≡ []) }
+        ensures fails { result ≢ Err Failed }
+    {
         Ok(edits_of(self.alloc, handed)?)
     }
 
