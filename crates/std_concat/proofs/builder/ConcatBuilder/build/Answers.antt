@@ -1,0 +1,8 @@
+use Rattle.std_concat.proofs.Sound.{changes, does}
+use Rattle.std_concat.proofs.builder.ConcatBuilder.build.Goals as goal
+
+pub returns-clause-lawful : goal.returns-clause-lawful
+returns-clause-lawful c = does c.args.command.now c.args.handed.now _ c.in_ok-edits_of.ensures.files c.in_ok-edits_of.ensures.problems
+
+pub returns-clause-changes : goal.returns-clause-changes
+returns-clause-changes c = changes c.args.command.now c.args.handed.now _ c.in_ok-edits_of.ensures.files

@@ -1,0 +1,62 @@
+//! The builder.
+ghost use Rattle.std.specs.Prelude.{◌≡◌, ◌≢◌, Err, IfOk};
+ghost use Rattle.builder_api.specs.declared.builder.BuildFault.TheVariants.{Failed};
+ghost use Rattle.builder_api.specs.Tasks.{task_of, inputs_of};
+ghost use Rattle.builder_api.specs.Lawful.{Does};
+ghost use Rattle.builder_api.specs.Told.{Built, WasCalled};
+ghost use Rattle.std_kit.specs.Changes.{AreChanges};
+ghost use Rattle.std_kit.specs.Roots.{rooted};
+ghost use Rattle.std_copy.specs.Copied.{copy, copied, copy_told};
+
+use crate::copying::made_of;
+use builder_api::{BuildFault, Builder, Edits, Handed};
+use proj_desc::Command;
+use res_path::NoMemory;
+use std::alloc::Global;
+
+/// The builder `copy`. It takes the files of all inputs, input by input, each in path order, and puts each with its
+/// bytes at its path from its input, or at its last name where the input is the file itself. Where that path overlaps
+/// one that is taken, the file is left out, with the problem `shadowed`, a warning of the whole file. It never fails.
+/// Its edits touch only the files that differ. It keeps nothing between calls. Bytes are shared, never copied. Costs a
+/// few searches for each file that is handed, and a comparison of its bytes with those that are there.
+#[derive(Drop)]
+pub struct Copy {
+    alloc: Global,
+}
+
+impl Copy {
+    /// A builder that takes its memory here.
+    pub fn new(alloc: Global) -> Copy {
+        Copy { alloc }
+    }
+}
+
+impl Builder for Copy {
+    ghost use Rattle.std_copy.specs.Copied.{copy_told};
+
+    ghost tells = { λ b. copy_told };
+
+    fn name(&self) -> &str {
+        "copy"
+    }
+
+    fn build(&mut self, command: &Command, handed: &Handed) -> Result<Edits, BuildFault>
+        ensures lawful { IfOk result (λ edits. Does copy command.now handed.now edits) }
+        ensures called { WasCalled (Built command.now handed.now) copy_told copy_told }
+        ensures changes { IfOk result (λ edits. let c = task_of command.now handed.now in AreChanges c.output handed.now.view (copy c (inputs_of c handed.now.view)).files edits.files) }
+        ensures fails { result ≢ Err Failed }
+    {
+        Ok(edits_of(self.alloc, handed)?)
+    }
+
+    fn clean(&mut self) {}
+}
+
+/// What it answers.
+fn edits_of(alloc: Global, handed: &Handed) -> Result<Edits, NoMemory>
+    ensures files { IfOk result (λ edits. AreChanges handed.now.output handed.now.view (copied (rooted handed.now.inputs handed.now.view)).files edits.files) }
+    ensures problems { IfOk result (λ edits. edits.problems ≡ (copied (rooted handed.now.inputs handed.now.view)).problems) }
+{
+    let made = made_of(alloc, handed.inputs.as_slice(), &handed.view)?;
+    made.into_edits(alloc, &handed.output, &handed.view)
+}

@@ -1,0 +1,10 @@
+//! The standard builder `copy`: the files of all inputs, each at its path from its input.
+//!
+//! - `copying`: what is made of the files of some roots.
+//! - `builder`: `Copy`, the builder.
+#![tactic(auto)]
+
+mod builder;
+mod copying;
+
+pub use builder::Copy;

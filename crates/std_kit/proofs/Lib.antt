@@ -1,0 +1,10 @@
+pub mod Keys
+pub mod Makings
+pub mod Neighbours
+pub mod Parents
+pub mod Placing
+pub mod Popped
+pub mod Rooted
+pub mod Runs
+pub mod Walks
+pub mod Lawful
