@@ -11,7 +11,7 @@ use Rattle.builder_api.specs.Tasks.{Task}
 use Rattle.builder_api.specs.Edits.{Edit, edit, edited, with_room, committed}
 use Rattle.builder_api.specs.Meanings.{Meanings, made_by, full, IsBuilt}
 use Rattle.builder_api.proofs.Places.{below_append, neither, not_above, cancel}
-use Rattle.builder_api.proofs.Maps.{get_kept, same_inputs, same_path, other_path, path_is, put_here, put_elsewhere, gone_here, gone_elsewhere, not_placed}
+use Rattle.builder_api.proofs.Maps.{get_kept, same_inputs, same_path, path_is, put_here, put_elsewhere, gone_here, gone_elsewhere, not_placed}
 
 edit_other : (o : Names) (f : Files) (r : Names) (x : Option (List ℕ)) (q : Names) → overlap q o ≡ false → get (edit o f r x) q ≡ get f q
 edit_other o f r (Some bytes) q h = put_elsewhere f (o ++ r) bytes q (not_placed q o r h)

@@ -1,9 +1,9 @@
 -- Paths that overlap, and paths that don't.
-use Rattle.std.proofs.Common.{◌≡◌, ℕ, Bool, true, false, ◌&&◌, ◌||◌, List, [], ◌∷◌, ◌++◌, refl, sym, ap, ◌∙◌}
+use Rattle.std.proofs.Common.{◌≡◌, ℕ, Bool, true, false, not, ◌&&◌, ◌||◌, List, [], ◌∷◌, ◌++◌, refl, sym, ap, ◌∙◌}
 use Rattle.std.specs.Cmp.Lexicographic.{bytes_decides}
 use Rattle.std.specs.List.{AllByRecursion}
 use Rattle.std.specs.Str.{bytes_eq}
-use Rattle.res_path.specs.Paths.{Names, is_prefix, overlap}
+use Rattle.res_path.specs.Paths.{Names, path_eq, is_prefix, overlap}
 use Rattle.builder_api.specs.Places.{is_within, is_below}
 
 pub same_name : (n m : List ℕ) → bytes_eq n m ≡ true → n ≡ m
@@ -117,3 +117,20 @@ clear_within (p ∷ roots) q o h f = by (is_prefix p q) refl f (clear_within roo
 -- what lies below an output that is clear of o is clear of o
 pub clear_output : (out q o : Names) → overlap out o ≡ false → is_below out q ≡ true → overlap q o ≡ false
 clear_output out q o h f = clear_below out q o h (prefix_of_below out q f)
+
+-- below is at or below, and not at
+below_is : (o q : Names) → is_below o q ≡ (is_prefix o q && not (path_eq o q))
+below_is [] [] = refl
+below_is [] (n ∷ q) = refl
+below_is (n ∷ o) [] = refl
+below_is (n ∷ o) (m ∷ q) = by (bytes_eq n m) (below_is o q)
+  where
+    by : (b : Bool) → is_below o q ≡ (is_prefix o q && not (path_eq o q)) → (b && is_below o q) ≡ ((b && is_prefix o q) && not (b && path_eq o q))
+    by true h = h
+    by false h = refl
+
+pub below_then : (o q : Names) (p b : Bool) → p ≡ is_prefix o q → p ≡ true → b ≡ not (path_eq o q) → b ≡ is_below o q
+below_then o q p b h t n = n ∙ ap (λ x. x && not (path_eq o q)) (sym t ∙ h) ∙ sym (below_is o q)
+
+pub below_else : (o q : Names) (p : Bool) → p ≡ is_prefix o q → p ≡ false → p ≡ is_below o q
+below_else o q p h t = t ∙ ap (λ x. x && not (path_eq o q)) (sym t ∙ h) ∙ sym (below_is o q)

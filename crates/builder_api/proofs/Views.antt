@@ -1,9 +1,9 @@
 -- What is seen of files.
-use Rattle.std.proofs.Common.{◌≡◌, ℕ, Bool, true, false, cond, ◌||◌, List, ◌∷◌, ◌++◌, refl, sym, ap, ◌∙◌, None}
+use Rattle.std.proofs.Common.{◌≡◌, ℕ, true, cond, ◌||◌, List, ◌∷◌, ◌++◌, ap, ◌∙◌, None}
 use Rattle.std.specs.FinMap.{get}
 use Rattle.res_path.specs.Paths.{Names}
 use Rattle.builder_api.specs.Places.{is_within, is_below}
-use Rattle.builder_api.specs.Files.{Files, files_in}
+use Rattle.builder_api.specs.Files.{Files}
 use Rattle.builder_api.specs.Tasks.{Task, inputs_of, view_of}
 use Rattle.builder_api.proofs.Places.{below_append, or_true}
 use Rattle.builder_api.proofs.Maps.{get_kept, same_inputs}

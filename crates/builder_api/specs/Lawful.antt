@@ -1,5 +1,5 @@
 -- What a lawful builder owes.
-use Rattle.std.specs.Prelude.{◌≡◌, ◌≢◌, ℕ, true, List, [], ◌∷◌, map, Option, Some, None}
+use Rattle.std.specs.Prelude.{◌≡◌, ◌≢◌, ℕ, true, List, [], ◌∷◌, map, Option, Some, None, IfSome}
 use Rattle.std.specs.List.{AllByRecursion, AllPairs}
 use Rattle.res_path.specs.Paths.{Names}
 use Rattle.ws_elem.specs.Trees.{Tree}
@@ -13,7 +13,7 @@ use Rattle.builder_api.specs.Places.{is_within}
 use Rattle.builder_api.specs.Files.{Files, files_of, HasBelow}
 use Rattle.builder_api.specs.Tasks.{Task, task_of, inputs_of, view_of}
 use Rattle.builder_api.specs.Edits.{edit_paths, committed}
-use Rattle.builder_api.specs.Meanings.{Meaning}
+use Rattle.builder_api.specs.Meanings.{Meaning, Meanings}
 
 -- a project and the projects that it refers to, as paths
 abbrev pub scope : List ℕ → List (List ℕ) → List Names
@@ -49,3 +49,19 @@ pub record Fulfils (m : Meaning) (c : Task) (f : Files) (e : Edits) : Type 0 whe
 abbrev pub Does : Meaning → Command → Handed → Edits → Type 0
 Does m command h e = let c = task_of command h in (last now : Tree) → h.view ≡ view_of c (files_of now)
     → IsPromised m c h.delta last now → Fulfils m c (files_of now) e
+
+-- no delta was handed, or below the output lay in the tree built last what the task made
+abbrev pub IsOwed : Meaning → Task → Option (List DeltaNode) → Option Tree → Type 0
+IsOwed m c None last = Unit {0}
+IsOwed m c (Some nodes) None = ⊥
+IsOwed m c (Some nodes) (Some last) = HasBelow c.output (files_of last) (m c (inputs_of c (files_of last))).files
+
+-- edits that were committed are right: they make what the builder's meaning says, where there is one that is owed
+abbrev pub Right : Meanings → Task → Option (List DeltaNode) → Option Tree → Tree → Edits → Type 0
+Right ms c nodes last now e = IfSome (ms c.builder) (λ m. IsOwed m c nodes last → Fulfils m c (files_of now) e)
+
+-- a delta that is handed leads from the tree built last, with equal contents under equal stamps
+abbrev pub IsHanded : Task → Option (List DeltaNode) → Option Tree → Tree → Type 0
+IsHanded c None last now = Unit {0}
+IsHanded c (Some nodes) None now = ⊥
+IsHanded c (Some nodes) (Some last) now = AgreeByStamps (last ∷ now ∷ []) × IsDelta c nodes last now

@@ -1,5 +1,5 @@
 -- What builders tell.
-use Rattle.std.specs.Prelude.{◌≡◌, ◌≤◌, ◌<◌, ◌⊎◌, ◌^◌, ◌-◌, ℕ, zero, suc, List, [], ◌∷◌, ◌++◌, find, Option, Some, IfSome, slice_get}
+use Rattle.std.specs.Prelude.{◌≡◌, ◌≤◌, ◌<◌, ◌⊎◌, ◌^◌, ◌-◌, ℕ, zero, suc, List, [], ◌∷◌, ◌++◌, find, Option, Some, IfSome, MatchOption, slice_get}
 use Rattle.std.specs.List.{position_from}
 use Rattle.std.specs.Option.{option_map}
 use Rattle.std.specs.Str.{bytes_eq}
@@ -57,3 +57,11 @@ first_named n = find (λ b. bytes_eq b.named n)
 -- the first builder of each name for which there is a meaning tells that meaning
 abbrev pub HaveMeanings : Meanings → List Told → Type 0
 HaveMeanings ms all = (n : List ℕ) → IfSome (ms n) (λ m. IfSome (first_named n all) (λ b. b.means ≡ Some m))
+
+-- the first builder of the name was called, and no other; where there is none, none was
+abbrev pub WasFirstCalled : List ℕ → Call → List Told → List Told → Type 0
+WasFirstCalled n call old new = MatchOption (place_named n old) (new ≡ old) (λ at. WasCalledAt at call old new)
+
+-- the count of the first builder of the name rose
+abbrev pub HasFirstRisen : List ℕ → List Told → List Told → Type 0
+HasFirstRisen n old new = IfSome (place_named n old) (λ at. HasRisenAt at old new)

@@ -1,8 +1,9 @@
 //! The builders of a build.
-ghost use Rattle.std.specs.Prelude.{◌≡◌, ◌<◌, ◌≤◌, ◌+◌, ◌⊎◌, ◌^◌, ◌-◌, ℕ, List, length, map, Option, IfSome, IfOk, IsSome, slice_get};
+ghost use Rattle.std.specs.Prelude.{◌≡◌, ◌↔◌, false, Some, None, ◌<◌, ◌≤◌, ◌+◌, ◌⊎◌, ◌^◌, ◌-◌, ℕ, List, length, map, Option, IfSome, IfOk, IsSome, slice_get};
 ghost use Rattle.std.specs.List.{position_from};
 ghost use Rattle.std.specs.Str.{bytes_eq};
-ghost use Rattle.builder_api.specs.Told.{Built, Cleaned, WasCalled, WasCalledAt, HasRisen, HasRisenAt, place_named};
+ghost use Rattle.builder_api.specs.Told.{Built, Cleaned, WasCalled, WasCalledAt, HasRisen, HasRisenAt, WasFirstCalled, HasFirstRisen, HaveMeanings, place_named};
+ghost use Rattle.builder_api.specs.Meanings.{Meanings};
 ghost use Rattle.builder_api.specs.Lawful.{Does};
 
 use crate::{BuildFault, Builder, Edits, Handed};
@@ -90,6 +91,43 @@ impl<B: Builder> Builders<B> {
         ensures called { WasCalledAt at Cleaned (map (λ b. B.tells b) self.old) (map (λ b. B.tells b) self.new) }
     {
         clean_one(&mut self.all[at])
+    }
+}
+
+impl<B: Builder> Builders<B> {
+    /// The first builder of the command's name is called for the command, and no other is called. What is answered is what
+    /// it answers; None where none has the name.
+    pub fn build_first(
+        &mut self,
+        command: &Command,
+        handed: &Handed,
+    ) -> Option<Result<Edits, BuildFault>>
+        ensures none { (result ≡ None) ↔ (place_named command.now.builder (map (λ b. B.tells b) self.old) ≡ None) }
+        ensures called { WasFirstCalled command.now.builder (Built command.now handed.now) (map (λ b. B.tells b) self.old) (map (λ b. B.tells b) self.new) }
+        ensures failed { result ≡ Some (Err BuildFault.Failed) → HasFirstRisen command.now.builder (map (λ b. B.tells b) self.old) (map (λ b. B.tells b) self.new) }
+        ensures lawful { (ms : Meanings) → HaveMeanings ms (map (λ b. B.tells b) self.old) → IfSome result (λ answer. IfSome (ms command.now.builder) (λ m. IfOk answer (λ edits. Does m command.now handed.now edits))) }
+        ensures meanings { (ms : Meanings) → HaveMeanings ms (map (λ b. B.tells b) self.old) → HaveMeanings ms (map (λ b. B.tells b) self.new) }
+    {
+        match self.place_of(command.builder.text()) {
+            Some(at) => Some(self.build(at, command, handed)),
+            None => None,
+        }
+    }
+
+    /// All that the first builder of the name keeps between calls goes, and no other is called. Answers whether there is
+    /// one.
+    pub fn clean_first(&mut self, name: &str) -> bool
+        ensures found { (result ≡ false) ↔ (place_named name.now (map (λ b. B.tells b) self.old) ≡ None) }
+        ensures called { WasFirstCalled name.now Cleaned (map (λ b. B.tells b) self.old) (map (λ b. B.tells b) self.new) }
+        ensures meanings { (ms : Meanings) → HaveMeanings ms (map (λ b. B.tells b) self.old) → HaveMeanings ms (map (λ b. B.tells b) self.new) }
+    {
+        match self.place_of(name) {
+            Some(at) => {
+                self.clean(at);
+                true
+            }
+            None => false,
+        }
     }
 }
 

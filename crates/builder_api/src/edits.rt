@@ -9,7 +9,7 @@ use std::marker::Model;
 
 /// Files that are put, with their contents, or removed, at paths from the output, in order. A contract sees the list
 /// of them.
-#[derive(Debug, Drop)]
+#[derive(Drop)]
 pub struct FileEdits {
     edits: Vec<(Path, Option<Bytes>)>,
 }
@@ -75,7 +75,7 @@ impl Clone for FileEdits {
 }
 
 /// What a builder has to tell of a file: it becomes a problem marker of the command's project.
-#[derive(Clone, Debug, Drop)]
+#[derive(Clone, Drop)]
 pub struct Problem {
     /// The file's path in the workspace.
     pub location: Path,
@@ -96,7 +96,7 @@ impl Problem {
 }
 
 /// Problems in order. A contract sees the list of them.
-#[derive(Debug, Drop)]
+#[derive(Drop)]
 pub struct Problems {
     problems: Vec<Problem>,
 }
@@ -163,7 +163,7 @@ impl Clone for Problems {
 
 /// What a builder answers: the edits below its output, and all problems of the command, which take the place of the
 /// earlier ones.
-#[derive(Clone, Debug, Drop)]
+#[derive(Clone, Drop)]
 pub struct Edits {
     pub files: FileEdits,
     pub problems: Problems,

@@ -7,7 +7,7 @@ use res_path::{NoMemory, Path};
 
 /// What a builder is handed for a command: what the build asks for, what changed since the command was built last, and
 /// the files at or below its inputs and below its output, as they are.
-#[derive(Clone, Debug, Drop)]
+#[derive(Clone, Drop)]
 pub struct Handed {
     pub kind: BuildKind,
     /// Whether a delta is handed.

@@ -5,7 +5,7 @@ use crate::Knot;
 use res_path::{Name, NoMemory};
 
 /// How a build ends.
-#[derive(Debug, Drop)]
+#[derive(Drop)]
 pub enum BuildOutcome {
     /// All was built.
     Settled,

@@ -7,7 +7,7 @@ use std::alloc::Global;
 use std::marker::Model;
 
 /// The names of projects that refer to one another, in order. A contract sees the list of them.
-#[derive(Debug, Drop)]
+#[derive(Drop)]
 pub struct Knot {
     names: Vec<Name>,
 }
@@ -63,7 +63,7 @@ impl Clone for Knot {
 }
 
 /// Knots in order. A contract sees the list of them.
-#[derive(Debug, Drop)]
+#[derive(Drop)]
 pub struct Knots {
     knots: Vec<Knot>,
 }
@@ -128,7 +128,7 @@ impl Clone for Knots {
 }
 
 /// Projects with their commands, in the order in which they are built. A contract sees the list of the pairs.
-#[derive(Debug, Drop)]
+#[derive(Drop)]
 pub struct PlanOrder {
     projects: Vec<(Name, Commands)>,
 }
@@ -195,7 +195,7 @@ impl Clone for PlanOrder {
 
 /// What a build is to do: each project with its commands as its description lists them, and which of the projects refer
 /// to one another.
-#[derive(Clone, Debug, Drop)]
+#[derive(Clone, Drop)]
 pub struct Plan {
     pub order: PlanOrder,
     pub knots: Knots,
