@@ -1,4 +1,3 @@
-pub mod Belows
 pub mod Keys
 pub mod Makings
 pub mod Neighbours

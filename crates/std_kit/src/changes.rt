@@ -1,14 +1,13 @@
 //! The edits that make files of others.
 ghost use Rattle.std.specs.Prelude.{◌≡◌, ◌++◌, Some, IfOk, OnOk};
 ghost use Rattle.std.specs.FinMap.{get, entries};
-ghost use Rattle.builder_api.specs.Places.{is_below};
 ghost use Rattle.std_kit.specs.Changes.{AreChanges, change_of};
 ghost use Rattle.std_kit.specs.Inside.Walks.{edits_at, left_after, edits_along, puts};
 
 use crate::MadeFiles;
 use crate::file_map::FileMap;
 use crate::roots::{below, files_of_root};
-use builder_api::{FileEdits, View};
+use builder_api::{FileEdits, View, is_below};
 use bytes::Bytes;
 use res_path::{NoMemory, Path};
 use std::alloc::Global;
@@ -75,13 +74,6 @@ fn compare(
         }
         None => Ok(()),
     }
-}
-
-/// Whether the path lies below the output, and isn't it.
-fn is_below(output: &Path, path: &Path) -> bool
-    ensures { result ≡ is_below output.now path.now }
-{
-    output.is_prefix_of(path) && *output != *path
 }
 
 /// What is to be done where these bytes are there and that file, or none, was made.

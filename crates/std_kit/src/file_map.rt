@@ -15,7 +15,7 @@ use std::marker::Model;
 use std::ops::Bound;
 
 /// Contents by path, in path order. A contract sees the finite map.
-#[derive(Debug, Drop)]
+#[derive(Drop)]
 pub(crate) struct FileMap {
     files: BTreeMap<Path, Bytes>,
 }

@@ -11,7 +11,7 @@ use std::marker::Model;
 
 /// The files that a builder makes, at paths from its output: each has a name, and no two overlap. A contract sees the
 /// finite map from path to contents.
-#[derive(Debug, Drop)]
+#[derive(Drop)]
 pub struct MadeFiles {
     files: FileMap,
 }

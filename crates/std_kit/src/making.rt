@@ -12,7 +12,7 @@ use std::alloc::Global;
 use std::marker::Model;
 
 /// The files that a builder has made so far, and its problems in order. A contract sees the two.
-#[derive(Debug, Drop)]
+#[derive(Drop)]
 pub struct Making {
     files: MadeFiles,
     problems: Vec<Problem>,
