@@ -1,9 +1,9 @@
 -- The first line of bytes, and the end of a line.
-use Rattle.std.proofs.Common.{◌≡◌, ℕ, zero, suc, ◌+◌, ◌<◌, ◌≤◌, Bool, true, false, cond, List, [], ◌∷◌, ◌++◌, length, take, drop, refl, sym, ap, ◌∙◌, arith}
+use Rattle.std.proofs.Common.{◌≡◌, ℕ, zero, suc, ◌+◌, ◌<◌, Bool, true, false, cond, List, [], ◌∷◌, ◌++◌, length, take, drop, refl, sym, ap, ◌∙◌, arith}
 use Rattle.std.specs.Prelude.{◌==◌, slice_index}
 use Rattle.std.specs.List.{onto_first}
 use Rattle.std.proofs.lemmas.Bool.{false_from_ne_true}
-use Rattle.memchr.specs.Find.{IsFirstByte, is_byte, NoneBefore, Nowhere, Passes}
+use Rattle.memchr.specs.Find.{is_byte, NoneBefore, Nowhere, Passes}
 use Rattle.include_lines.specs.Lines.{lines_of, without_line_feed}
 
 -- where a line feed is at no place before this one, and there, it ends the first line

@@ -5,7 +5,7 @@ use Rattle.std.specs.List.{flat_map}
 use Rattle.include_lines.specs.declared.expanding.Missing.{Missing}
 use Rattle.include_lines.specs.Lines.{lines_of, include_name}
 use Rattle.include_lines.specs.Messages.{message}
-use Rattle.include_lines.specs.Expanding.{Files, expanded, replaced, line_number, told, missing_by, missing_among, missing}
+use Rattle.include_lines.specs.Expanding.{Files, expanded, replaced, told, missing_by, missing_among, missing}
 
 told_same : (n m : ℕ) (name : List ℕ) (found : Option (List ℕ)) → min n 2147483647 ≡ min m 2147483647 → told n name found ≡ told m name found
 told_same n m name (Some bytes) same = refl

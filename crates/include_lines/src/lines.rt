@@ -32,13 +32,7 @@ fn without_line_feed(line: &[u8]) -> &[u8]
     ensures { result.now ≡ without_line_feed line.now }
 {
     match line.split_last() {
-        Some((last, front)) => {
-            if *last == b'\n' {
-                front
-            } else {
-                line
-            }
-        }
+        Some((last, front)) => { if *last == b'\n' { front } else { line } }
         None => line,
     }
 }

@@ -1,4 +1,4 @@
-use Rattle.std.proofs.Common.{rules, ◌++◌, ◌∷◌, [], ap, sym, ◌∙◌, append_assoc, arith}
+use Rattle.std.proofs.Common.{◌++◌, ◌∷◌, [], ap, sym, ◌∙◌, append_assoc, arith}
 use Rattle.std.specs.Prelude.{string_bytes}
 use Rattle.include_lines.specs.Messages.{readable}
 use Rattle.include_lines.proofs.Shown.{front_then_more, front_then_none}
