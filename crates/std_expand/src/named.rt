@@ -46,7 +46,11 @@ impl Named {
 }
 
 /// The files of the root by name. Contents are shared.
-pub(crate) fn named_files(alloc: Global, root: &Path, files: &[(Path, Bytes)]) -> Result<Named, NoMemory>
+pub(crate) fn named_files(
+    alloc: Global,
+    root: &Path,
+    files: &[(Path, Bytes)],
+) -> Result<Named, NoMemory>
     requires { list_all (λ e. is_prefix root.now e.0) files.now ≡ true }
     ensures { IfOk result (λ named. (n : List ℕ) → found named.files.entries n ≡ file_named root.now files.now n) }
 {

@@ -58,12 +58,18 @@ impl Outputs {
         if self.files.place(path, bytes)? {
             return tell_lines(alloc, &mut self.problems, location, lines);
         }
-        self.problems.push(problem_of(alloc, location, 0, 1, "shadowed")?)?;
+        self.problems
+            .push(problem_of(alloc, location, 0, 1, "shadowed")?)?;
         Ok(())
     }
 
     /// What the builder answers: the changes from what the view has below the output, and the problems.
-    pub(crate) fn into_edits(self, alloc: Global, output: &Path, view: &View) -> Result<Edits, NoMemory>
+    pub(crate) fn into_edits(
+        self,
+        alloc: Global,
+        output: &Path,
+        view: &View,
+    ) -> Result<Edits, NoMemory>
         ensures files { IfOk result (λ edits. AreChanges output.now view.now self.files edits.files) }
         ensures problems { IfOk result (λ edits. edits.problems ≡ self.problems) }
     {
@@ -86,13 +92,7 @@ fn tell_lines(
     ensures { OnOk result (problems.new.items ≡ problems.old.items ++ map (problem_at location.now) lines.now) }
 {
     for line in lines {
-        problems.push(problem_of(
-            alloc,
-            location,
-            line.line,
-            2,
-            line.message.text(),
-        )?)?;
+        problems.push(problem_of(alloc, location, line.line, 2, line.message.text())?)?;
     }
     Ok(())
 }

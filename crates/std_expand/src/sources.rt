@@ -23,13 +23,7 @@ fn stem_of(name: &[u8]) -> Option<&[u8]>
     ensures { option_map (λ stem. stem.now) result ≡ stem_of name.now }
 {
     match name.strip_suffix(b".in".as_slice()) {
-        Some(stem) => {
-            if is_left(stem) {
-                Some(stem)
-            } else {
-                None
-            }
-        }
+        Some(stem) => { if is_left(stem) { Some(stem) } else { None } }
         None => None,
     }
 }

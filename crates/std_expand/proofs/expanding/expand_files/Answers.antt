@@ -1,5 +1,4 @@
-use Rattle.std.proofs.Common.{ℕ, List}
-use Rattle.res_path.specs.Paths.{Names, is_prefix}
+use Rattle.res_path.specs.Paths.{is_prefix}
 use Rattle.std_expand.proofs.Finding.{all_at}
 use Rattle.std_expand.proofs.expanding.expand_files.Goals as goal
 

@@ -1,7 +1,6 @@
-use Rattle.std.proofs.Common.{ap, sym, ◌∙◌}
+use Rattle.std.proofs.Common.{ap, ◌∙◌}
 use Rattle.std.specs.FinMap.{entries}
 use Rattle.std.specs.List.{list_all}
-use Rattle.res_path.specs.Paths.{is_prefix}
 use Rattle.std_kit.proofs.Runs.{is_under, from_all}
 use Rattle.std_expand.proofs.Making.{more_root}
 use Rattle.std_expand.proofs.expanding.expand_roots.Goals as goal
