@@ -1,0 +1,16 @@
+//! The standard builder `expand`: files whose lines include others.
+//!
+//! - `sources`: which files count, and the paths of what is made of them.
+//! - `named`: the files of a root by the texts of their relative paths.
+//! - `outputs`: the files that are made so far, and the problems.
+//! - `expanding`: what is made of the files of roots.
+//! - `builder`: `Expand`, the builder.
+#![tactic(auto)]
+
+mod builder;
+mod expanding;
+mod named;
+mod outputs;
+mod sources;
+
+pub use builder::Expand;
