@@ -13,11 +13,23 @@ pub fn put(out: &mut String, text: &str) -> Result<(), NoMemory> {
     Ok(())
 }
 
+fn put_bytes(out: &mut String, bytes: &[u8]) -> Result<(), NoMemory> {
+    for byte in bytes {
+        match *byte {
+            10 => out.push('+')?,
+            b' ' => out.push('~')?,
+            255 => out.push('!')?,
+            byte => out.push(char::from(byte))?,
+        }
+    }
+    Ok(())
+}
+
 /// A file, as it is written in rows.
 pub fn put_file(out: &mut String, path: &Path, bytes: &Bytes) -> Result<(), NoMemory> {
     put(out, path.as_str())?;
     put(out, "=")?;
-    put(out, str::from_utf8(bytes.as_slice()).unwrap_or("?"))?;
+    put_bytes(out, bytes.as_slice())?;
     put(out, " ")
 }
 

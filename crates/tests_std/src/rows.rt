@@ -3,8 +3,9 @@
 //! A row is told again where memory wanted: so each test passes also where one allocation fails, whichever it is
 //! (`rt try --test --fail-alloc N`).
 use crate::asserting::must;
-use crate::copying::put_told;
+use crate::{copying, expanding, joining};
 use res_path::NoMemory;
+use std::alloc::Global;
 use std::process::Abort;
 
 /// One row. Of the parts that it doesn't have each is empty.
@@ -33,6 +34,15 @@ fn row_of(line: &str) -> Row<'_> {
         gives,
         paths,
         files,
+    }
+}
+
+/// What the row's word tells.
+fn put_told(alloc: Global, out: &mut String, row: &Row<'_>) -> Result<(), NoMemory> {
+    match row.word {
+        "concat" | "joined again" => joining::put_told(alloc, out, row),
+        "expand" | "expanded again" | "line" => expanding::put_told(alloc, out, row),
+        _ => copying::put_told(alloc, out, row),
     }
 }
 

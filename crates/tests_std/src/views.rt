@@ -22,8 +22,23 @@ pub fn path(alloc: Global, text: &str) -> Result<Path, NoMemory> {
     }
 }
 
+/// The byte that stands for this one in rows: a line feed for `+`, a blank for `~`, and a byte that is no text for `!`.
+fn meant(byte: u8) -> u8 {
+    match byte {
+        b'+' => 10,
+        b'~' => b' ',
+        b'!' => 255,
+        byte => byte,
+    }
+}
+
+/// The bytes that a text in a row tells.
 pub fn bytes(alloc: Global, text: &str) -> Result<Bytes, NoMemory> {
-    Bytes::copy_from_slice(alloc, text.as_bytes())
+    let mut meant_bytes = Vec::new(alloc);
+    for byte in text.as_bytes() {
+        meant_bytes.push(meant(*byte))?;
+    }
+    Ok(Bytes::from_vec(meant_bytes)?)
 }
 
 /// The file that a word `PATH=TEXT` tells.
