@@ -17,21 +17,15 @@ use std::alloc::Global;
 use std::collections::BTreeMap;
 
 /// The ids in order.
-pub fn ids_of(alloc: Global, markers: &IndexMap<u64, Marker>) -> Result<Vec<u64>, NoMemory>
-    ensures { IfOk result (λ ids. ids.items ≡ map.keys (map.from_entries {R = nat_cmp} markers.now.entries)) }
-{
-    let found = found_ids(alloc, markers)?;
-    collect_ids(alloc, found)
-}
-
-fn collect_ids(alloc: Global, found: BTreeMap<u64, ()>) -> Result<Vec<u64>, NoMemory>
+pub fn collect_ids(alloc: Global, found: BTreeMap<u64, ()>) -> Result<Vec<u64>, NoMemory>
     ensures { IfOk result (λ ids. ids.items ≡ map.keys (map.from_entries {R = nat_cmp} found.entries)) }
 {
     let keys = found.into_keys();
     keys.collect(alloc)
 }
 
-fn found_ids(alloc: Global, markers: &IndexMap<u64, Marker>) -> Result<BTreeMap<u64, ()>, NoMemory>
+/// The ids of these markers.
+pub fn found_ids(alloc: Global, markers: &IndexMap<u64, Marker>) -> Result<BTreeMap<u64, ()>, NoMemory>
     ensures { IfOk result (λ found. (id : ℕ) → map.get (map.from_entries {R = nat_cmp} found.entries) id
         ≡ option_map (λ _. tt) (map.get (map.from_entries {R = nat_cmp} markers.now.entries) id)) }
 {
