@@ -2,9 +2,8 @@
 use Rattle.std.proofs.Common.{Bor, ◌≡◌, ℕ, Bool, true, false, cond, List, [], ◌∷◌, ◌&&◌, nat_eq, nat_cmp, refl, sym, ap, ◌∙◌, subst, arith}
 use Rattle.std.specs.Map.Iter.{TakesFirst, deref}
 use Rattle.std.specs.Option.{option_copied}
-use Rattle.std.specs.Prelude.{Option, Some, None, option_map, IsSome, T, is_some}
+use Rattle.std.specs.Prelude.{Option, Some, None, option_map, IsSome, T}
 use Rattle.std.specs.List.{filter_map, cons_option, AllByRecursion}
-
 use Rattle.std.specs.Ordering.{eq_by_cmp, is_lt}
 use Rattle.std.specs.Map.{keys_of, values_of}
 use Rattle.std.specs.FinMap.{FinMap, empty, get, get-empty, insert, remove, keys, values, entries, entries_sorted, find, get-entries, is_sorted}
@@ -14,7 +13,6 @@ use Rattle.std.proofs.lemmas.Bool.{eqb-true}
 use Rattle.mark_set.specs.Inside.Orders.{HasIds, markers_at, AreThere}
 use Rattle.mark_set.specs.Markers.{Marks}
 use Rattle.mark_set.specs.declared.marker.Marker.{Marker}
-use Rattle.mark_set.proofs.Builds.{same_keys}
 use Rattle.mark_set.proofs.Ids.{get_insert, get_remove, ties}
 
 -- ---- what a put, a removal and a change leave
@@ -111,9 +109,9 @@ pub next_is : (marks : Marks) (ids left : List (ℕ × Unit {0})) (k : ℕ) (u :
 next_is marks ids left k u r e is there =
     let all : AreThere marks ((k, u) ∷ left) = subst (AreThere marks) e there in
     rw e (go r (get marks k) is all.0, all.1) where
-  go : (r : Option (Bor Marker)) (o : Option Marker) → option_copied r ≡ o → IsSome o → TakesFirst deref (cons_option o (markers_at marks left)) r (markers_at marks left)
-  go None o e some = absurd (neither o e some)
-  go (Some m) o e some = rw (← e) refl
+      go : (r : Option (Bor Marker)) (o : Option Marker) → option_copied r ≡ o → IsSome o → TakesFirst deref (cons_option o (markers_at marks left)) r (markers_at marks left)
+      go None o e some = absurd (neither o e some)
+      go (Some m) o e some = rw (← e) refl
 
 pub none_next : (marks : Marks) (ids left : List (ℕ × Unit {0})) → ids ≡ [] → left ≡ [] → (markers_at marks ids ≡ []) × (markers_at marks left ≡ [])
 none_next marks ids left e f = (rw e refl, rw f refl)

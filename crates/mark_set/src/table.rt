@@ -7,8 +7,8 @@ ghost use Rattle.mark_set.specs.Causes.{change_cause};
 ghost use Rattle.mark_set.specs.Markers.{AreMarkers, IsMarker, durable_marks, with_attribute};
 
 use crate::NoMemory;
-use crate::marker::{Marker, put_attribute};
 use crate::mark_iter::Walk;
+use crate::marker::{Marker, put_attribute};
 use crate::value::RawValue;
 use crate::walks::{collect_ids, durable_of, found_ids};
 use indexmap::IndexMap;

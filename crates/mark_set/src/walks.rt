@@ -25,7 +25,10 @@ pub fn collect_ids(alloc: Global, found: BTreeMap<u64, ()>) -> Result<Vec<u64>, 
 }
 
 /// The ids of these markers.
-pub fn found_ids(alloc: Global, markers: &IndexMap<u64, Marker>) -> Result<BTreeMap<u64, ()>, NoMemory>
+pub fn found_ids(
+    alloc: Global,
+    markers: &IndexMap<u64, Marker>,
+) -> Result<BTreeMap<u64, ()>, NoMemory>
     ensures { IfOk result (λ found. (id : ℕ) → map.get (map.from_entries {R = nat_cmp} found.entries) id
         ≡ option_map (λ _. tt) (map.get (map.from_entries {R = nat_cmp} markers.now.entries) id)) }
 {

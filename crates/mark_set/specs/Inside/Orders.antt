@@ -1,5 +1,5 @@
 -- The ids of a table, in order.
-use Rattle.std.specs.Prelude.{◌≡◌, ℕ, List, Option, option_map, IsSome}
+use Rattle.std.specs.Prelude.{◌≡◌, ℕ, List, option_map, IsSome}
 use Rattle.std.specs.List.{filter_map, AllByRecursion}
 use Rattle.std.specs.Ordering.{nat_cmp}
 use Rattle.std.specs.FinMap.{FinMap, get}

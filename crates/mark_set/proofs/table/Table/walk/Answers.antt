@@ -1,9 +1,8 @@
-use Rattle.std.proofs.Common.{sym, ap, ◌∙◌, subst, nat_cmp}
+use Rattle.std.proofs.Common.{sym, ap, ◌∙◌, nat_cmp}
 use Rattle.std.specs.FinMap as map
 use Rattle.std.specs.Map.{keys_of}
 use Rattle.std.specs.Cmp.{nat_cmp_total}
 use Rattle.std.specs.FinMap.{nat_cmp-IsAntisymmetric}
-use Rattle.mark_set.specs.Inside.Orders.{AreThere}
 use Rattle.mark_set.proofs.Builds.{same_keys}
 use Rattle.mark_set.proofs.Maps.{entries_is}
 use Rattle.mark_set.proofs.Orders.{all_there, all_markers}
