@@ -1,0 +1,3 @@
+pub mod Elems
+pub mod Fits
+pub mod Telling

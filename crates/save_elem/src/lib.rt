@@ -1,0 +1,19 @@
+//! Elements as they stand in a saved text.
+//!
+//! An element's bytes are a form: its fields one behind the other, its markers rising by id and their attributes by name,
+//! and the bytes of synchronisation partners rising by number. `Elem` is an element as it is told there, with texts that
+//! are lent from the bytes that were read. An `Element` of a tree is written from where it stands, without its transient
+//! markers, and without copying anything.
+//!
+//! - `elem`: `Elem` and its parts.
+//! - `reading`: an `Elem` read from bytes, with the place at which they can't go on.
+//! - `writing`: an `Element` written to any sink.
+#![tactic(auto)]
+
+mod elem;
+mod reading;
+mod writing;
+
+pub use elem::{Attr, Elem, Mark, Sort, Sync, Told};
+pub use reading::read_elem;
+pub use writing::put_elem;
