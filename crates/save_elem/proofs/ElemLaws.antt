@@ -51,6 +51,9 @@ kind_lawful = lawful_as kind _ _ (λ k _. tt) (λ k _. kind_fits k) (made_lawful
 pub kind_stops : StopsFirst kind
 kind_stops = made_stops (λ n. n < 256 ^ 1) kind_of kind_number (number 1) (number_lawful 1) (number_bytes 1 (lit< tt)) (number_stops 1 (lit< tt))
 
+kind_bytes : TakesBytes kind
+kind_bytes = made_bytes kind_of kind_number (number 1) (number_bytes 1 (lit< tt))
+
 -- ---- sorts of values
 
 sort_same : (a b : Sort) (n : ℕ) → sort_number a ≡ n → Some a ≡ Some b → sort_number b ≡ n
@@ -195,4 +198,4 @@ elem_stops = seen_stops _ _ _
 -- an element begins with a byte
 pub elem_bytes : TakesBytes elem
 unfolding elem
-elem_bytes = seen_bytes _ _ _ (pair_bytes kind _ (made_bytes kind_of kind_number (number 1) (number_bytes 1 (lit< tt))))
+elem_bytes at = let a = kind_bytes at in rw a refl

@@ -1,2 +1,0 @@
--- What only the crate's own code speaks of.
-pub mod Spellings
