@@ -1,3 +1,4 @@
 pub mod Elems
 pub mod Fits
+pub mod Inside
 pub mod Telling

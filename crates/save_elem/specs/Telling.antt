@@ -27,9 +27,13 @@ told_attr attribute = record { name = attribute.0; value = told_value attribute.
 abbrev pub told_mark : Marker → Mark
 told_mark m = record { id = m.id; mark_type = m.mark_type; attrs = map told_attr (entries m.attrs) }
 
--- the markers that are saved, by id: all but the transient ones
+-- those of some markers that are saved: all but the transient ones
+abbrev pub saved : List Marker → List Marker
+saved = filter (λ m. not (is_transient m))
+
+-- the markers that are saved, by id
 abbrev pub lasting : Marks → List Marker
-lasting marks = filter (λ m. not (is_transient m)) (values marks)
+lasting marks = saved (values marks)
 
 abbrev pub told_sync : ℕ × List ℕ → Sync
 told_sync entry = record { partner = entry.0; bytes = entry.1 }

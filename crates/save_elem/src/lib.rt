@@ -12,8 +12,8 @@
 
 mod elem;
 mod reading;
-
+mod writing;
 
 pub use elem::{Attr, Elem, Mark, Sort, Sync, Told};
 pub use reading::read_elem;
-
+pub use writing::put_elem;
