@@ -159,7 +159,7 @@ pub marker_lawful : (before : Option Mark) → Lawful (FitsMark before) (marker 
 unfolding marker
 marker_lawful before = lawful_as _ _ _ (λ m p. record { id = p.0.0; above = p.0.1; mark_type = p.1.0; attrs = p.1.1 }) (λ m p. ((p.id, p.above), (p.mark_type, p.attrs)))
     (seen_lawful _ _ _ _ (λ a. refl) (λ b. refl) (rising_lawful nat_lt (λ (m : Mark). m.id) (number 8) (λ _. pair text λ _. list attribute) _ _ (number_lawful 8)
-      (λ _. pair_lawful _ _ _ _ text_lawful (λ _. list_lawful attribute FitsAttr attribute_lawful)) before))
+    (λ _. pair_lawful _ _ _ _ text_lawful (λ _. list_lawful attribute FitsAttr attribute_lawful)) before))
 
 attributes_stop : StopsFirst (pair text λ _. list attribute)
 attributes_stop = pair_stops (λ t. length t < 2 ^ 32) text (λ _. list attribute) text_lawful text_stops (λ _. list_stops attribute FitsAttr attribute_lawful attribute_stops)
@@ -185,15 +185,15 @@ elem_lawful = lawful_as _ _ _
     (λ e p. record { node = p.1.0; stamp = p.1.1.0; desc_stamp = p.1.1.1.1.1.0; desc = p.1.1.1.1.1.1.0; bytes = p.1.1.1.1.1.1.1.0; marks = p.1.1.1.1.1.1.1.1.0; syncs = p.1.1.1.1.1.1.1.1.1 })
     (λ e p. (tt, (p.node, (p.stamp, (tt, (tt, (p.desc_stamp, (p.desc, (p.bytes, (p.marks, p.syncs))))))))))
     (seen_lawful _ _ _ _ (λ a. refl) (λ b. refl)
-      (pair_lawful _ _ _ _ kind_lawful λ _. pair_lawful _ _ _ _ (number_lawful 8) λ _. pair_lawful _ _ _ _ (number_lawful 8) λ _. pair_lawful _ _ _ _ flag_lawful λ _. pair_lawful _ _ _ _ flag_lawful λ _.
-        pair_lawful _ _ _ _ (number_lawful 8) λ _. pair_lawful _ _ _ _ text_lawful λ _. pair_lawful _ _ _ _ text_lawful λ _. pair_lawful _ _ _ _ (list_lawful marker FitsMark marker_lawful) λ _. list_lawful sync FitsSync sync_lawful))
+    (pair_lawful _ _ _ _ kind_lawful λ _. pair_lawful _ _ _ _ (number_lawful 8) λ _. pair_lawful _ _ _ _ (number_lawful 8) λ _. pair_lawful _ _ _ _ flag_lawful λ _. pair_lawful _ _ _ _ flag_lawful λ _.
+    pair_lawful _ _ _ _ (number_lawful 8) λ _. pair_lawful _ _ _ _ text_lawful λ _. pair_lawful _ _ _ _ text_lawful λ _. pair_lawful _ _ _ _ (list_lawful marker FitsMark marker_lawful) λ _. list_lawful sync FitsSync sync_lawful))
 
 pub elem_stops : StopsFirst elem
 unfolding elem
 elem_stops = seen_stops _ _ _
     (pair_stops _ _ _ kind_lawful kind_stops λ _. pair_stops _ _ _ (number_lawful 8) (number_stops 8 (lit< tt)) λ _. pair_stops _ _ _ (number_lawful 8) (number_stops 8 (lit< tt)) λ _. pair_stops _ _ _ flag_lawful flag_stops λ _.
-      pair_stops _ _ _ flag_lawful flag_stops λ _. pair_stops _ _ _ (number_lawful 8) (number_stops 8 (lit< tt)) λ _. pair_stops _ _ _ text_lawful text_stops λ _. pair_stops _ _ _ text_lawful text_stops λ _.
-      pair_stops _ _ _ (list_lawful marker FitsMark marker_lawful) (list_stops marker FitsMark marker_lawful marker_stops) λ _. list_stops sync FitsSync sync_lawful sync_stops)
+    pair_stops _ _ _ flag_lawful flag_stops λ _. pair_stops _ _ _ (number_lawful 8) (number_stops 8 (lit< tt)) λ _. pair_stops _ _ _ text_lawful text_stops λ _. pair_stops _ _ _ text_lawful text_stops λ _.
+    pair_stops _ _ _ (list_lawful marker FitsMark marker_lawful) (list_stops marker FitsMark marker_lawful marker_stops) λ _. list_stops sync FitsSync sync_lawful sync_stops)
 
 -- an element begins with a byte
 pub elem_bytes : TakesBytes elem

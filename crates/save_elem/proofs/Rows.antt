@@ -61,7 +61,7 @@ marks_of marks = record root { marks = marks }
 
 -- -1 by its 32 bits, a truth value and a text, in the order of names
 three_values : read_all elem (fields 8 1 0 (four 1 ++ one_mark 7 3 (one_attr 97 (0 ∷ 255 ∷ 255 ∷ 255 ∷ 255 ∷ []) ++ one_attr 98 (1 ∷ 1 ∷ []) ++ one_attr 99 (2 ∷ four 1 ++ 120 ∷ [])) ++ four 0))
-  ≡ Ok (marks_of (record { id = 7; mark_type = 109 ∷ []; attrs = record { name = 97 ∷ []; value = Int 4294967295 } ∷ record { name = 98 ∷ []; value = Truth true } ∷ record { name = 99 ∷ []; value = Text (120 ∷ []) } ∷ [] } ∷ []))
+    ≡ Ok (marks_of (record { id = 7; mark_type = 109 ∷ []; attrs = record { name = 97 ∷ []; value = Int 4294967295 } ∷ record { name = 98 ∷ []; value = Truth true } ∷ record { name = 99 ∷ []; value = Text (120 ∷ []) } ∷ [] } ∷ []))
 unfolding elem marker attribute value number number_field text text_field read_each
 three_values = refl
 

@@ -81,24 +81,34 @@ is_name_below a b = is_lt (slice_cmp nat_cmp a b)
 -- an attribute: its name and its value
 unfoldable pub attribute : Option Attr → Form Attr
 attribute before = seen_as (λ x. record { name = x.0; value = x.1 }) (λ a. (a.name, a.value))
-  (rising is_name_below (λ (a : Attr). a.name) text (λ _. value) before)
+    (rising is_name_below (λ (a : Attr). a.name) text (λ _. value) before)
 
 -- a marker: its id, its type and its attributes
 unfoldable pub marker : Option Mark → Form Mark
 marker before = seen_as (λ x. record { id = x.0; mark_type = x.1.0; attrs = x.1.1 }) (λ m. (m.id, (m.mark_type, m.attrs)))
-  (rising nat_lt (λ (m : Mark). m.id) (number 8) (λ _. pair text λ _. list attribute) before)
+    (rising nat_lt (λ (m : Mark). m.id) (number 8) (λ _. pair text λ _. list attribute) before)
 
 -- synchronisation bytes: the partner's number and the bytes
 unfoldable pub sync : Option Sync → Form Sync
 sync before = seen_as (λ x. record { partner = x.0; bytes = x.1 }) (λ s. (s.partner, s.bytes))
-  (rising nat_lt (λ (s : Sync). s.partner) (number 4) (λ _. text) before)
+    (rising nat_lt (λ (s : Sync). s.partner) (number 4) (λ _. text) before)
 
 -- ---- an element: kind, node, content stamp, whether open, whether derived, description stamp, description, contents,
 -- markers, synchronisation bytes
 
 unfoldable pub elem : Form Elem
 elem = seen_as
-  (λ x. record { kind = x.0; node = x.1.0; stamp = x.1.1.0; opened = x.1.1.1.0; derived = x.1.1.1.1.0; desc_stamp = x.1.1.1.1.1.0;
-    desc = x.1.1.1.1.1.1.0; bytes = x.1.1.1.1.1.1.1.0; marks = x.1.1.1.1.1.1.1.1.0; syncs = x.1.1.1.1.1.1.1.1.1 })
-  (λ e. (e.kind, (e.node, (e.stamp, (e.opened, (e.derived, (e.desc_stamp, (e.desc, (e.bytes, (e.marks, e.syncs))))))))))
-  (pair kind λ _. pair (number 8) λ _. pair (number 8) λ _. pair flag λ _. pair flag λ _. pair (number 8) λ _. pair text λ _. pair text λ _. pair (list marker) λ _. list sync)
+    (λ x. record {
+      kind = x.0;
+      node = x.1.0;
+      stamp = x.1.1.0;
+      opened = x.1.1.1.0;
+      derived = x.1.1.1.1.0;
+      desc_stamp = x.1.1.1.1.1.0;
+      desc = x.1.1.1.1.1.1.0;
+      bytes = x.1.1.1.1.1.1.1.0;
+      marks = x.1.1.1.1.1.1.1.1.0;
+      syncs = x.1.1.1.1.1.1.1.1.1;
+    })
+    (λ e. (e.kind, (e.node, (e.stamp, (e.opened, (e.derived, (e.desc_stamp, (e.desc, (e.bytes, (e.marks, e.syncs))))))))))
+    (pair kind λ _. pair (number 8) λ _. pair (number 8) λ _. pair flag λ _. pair flag λ _. pair (number 8) λ _. pair text λ _. pair text λ _. pair (list marker) λ _. list sync)

@@ -8,12 +8,15 @@
 //! - `elem`: `Elem` and its parts.
 //! - `reading`: an `Elem` read from bytes, with the place at which they can't go on.
 //! - `writing`: an `Element` written to any sink.
+//! - `measuring`: how long it is, whether bytes are its own, and whether it can be written.
 #![tactic(auto)]
 
 mod elem;
+mod measuring;
 mod reading;
 mod writing;
 
 pub use elem::{Attr, Elem, Mark, Sort, Sync, Told};
+pub use measuring::{elem_len, is_narrow, spells};
 pub use reading::read_elem;
 pub use writing::put_elem;

@@ -93,8 +93,8 @@ fn put_lasting<S: Sink>(sink: &mut S, of: &Marker) -> Result<(), S::Fault>
     put_mark(sink, of)
 }
 
-// How many markers are saved.
-fn count_lasting(marks: &MarkSet) -> usize
+/// How many markers are saved.
+pub fn count_lasting(marks: &MarkSet) -> usize
     ensures { result ≡ length (lasting marks.now) }
 {
     let _all = marks.len();

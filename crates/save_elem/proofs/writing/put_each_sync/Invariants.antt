@@ -8,4 +8,4 @@ use Rattle.save_elem.proofs.writing.put_each_sync.Given as goal
 -- the partners that are left complete the text
 abbrev pub invariant-loop-partner : goal.invariant-loop-partner
 invariant-loop-partner g l = (g.S.Sink.after l.sink (flat_map spell_sync l.partner-iterator) ≡ g.S.Sink.after l.initial.sink (flat_map spell_sync (entries l.syncs)))
-  × AllByRecursion IsNarrowSync (map told_sync l.partner-iterator)
+    × AllByRecursion IsNarrowSync (map told_sync l.partner-iterator)
