@@ -109,7 +109,8 @@ impl MarkSet {
         }
     }
 
-    fn put(&mut self, alloc: Global, marker: Marker) -> Result<(), NoMemory>
+    /// Puts a marker whose type, names and values have their form under its own id, in the place of one that has the id.
+    pub fn put(&mut self, alloc: Global, marker: Marker) -> Result<(), NoMemory>
         requires { IsMarker marker.id marker }
         ensures ok { OnOk result (self.new ≡ map.insert self.old marker.id marker) }
         ensures err { OnErr result (self.new ≡ self.old) }

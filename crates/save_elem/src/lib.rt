@@ -11,6 +11,7 @@
 //! - `measuring`: how long it is, whether bytes are its own, and whether it can be written.
 #![tactic(auto)]
 
+mod building;
 mod elem;
 mod measuring;
 mod reading;

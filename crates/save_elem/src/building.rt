@@ -1,0 +1,74 @@
+//! The element that is told in a text.
+
+ghost use Rattle.std.specs.Prelude.{◌≡◌, ◌↔◌, IsTrue};
+ghost use Rattle.mark_set.specs.Forms.{IsName, IsText, IsValue};
+ghost use Rattle.save_elem.specs.Sound.{FitsKind, HasNoContents, IsUndescribed, Finds};
+ghost use Rattle.save_elem.specs.Telling.{told_value};
+
+use crate::elem::{Elem, Told};
+use mark_set::{MarkText, Value};
+use std::alloc::Global;
+use std::str::from_utf8;
+use ws_elem::{Kind, NoMemory};
+
+fn has_no_contents(elem: &Elem<'_>) -> bool
+    ensures { IsTrue result ↔ HasNoContents elem.now }
+{
+    elem.stamp == 0 && elem.bytes.bytes().is_empty()
+}
+
+fn is_undescribed(elem: &Elem<'_>) -> bool
+    ensures { IsTrue result ↔ IsUndescribed elem.now }
+{
+    !elem.opened && elem.desc_stamp == 0 && elem.desc.bytes().is_empty()
+}
+
+fn fits_kind(elem: &Elem<'_>) -> bool
+    ensures { IsTrue result ↔ FitsKind elem.now.kind elem.now }
+{
+    match elem.kind {
+        Kind::File => is_undescribed(elem),
+        Kind::Folder => has_no_contents(elem) && is_undescribed(elem),
+        Kind::Project => has_no_contents(elem) && !elem.derived,
+        Kind::Root => has_no_contents(elem) && is_undescribed(elem) && !elem.derived,
+    }
+}
+
+/// The text of fewer than 65,536 bytes of UTF-8.
+fn text_of(alloc: Global, bytes: &[u8]) -> Result<Option<MarkText>, NoMemory>
+    ensures { Finds (λ text. (text ≡ bytes.now) × IsText text) result }
+{
+    if bytes.len() >= 65_536 {
+        return Ok(None);
+    }
+    match from_utf8(bytes) {
+        Err(_) => Ok(None),
+        Ok(text) => Ok(Some(MarkText::copy_of(alloc, text)?)),
+    }
+}
+
+/// The text of 1 to 255 bytes of UTF-8.
+fn name_of(alloc: Global, bytes: &[u8]) -> Result<Option<MarkText>, NoMemory>
+    ensures { Finds (λ text. (text ≡ bytes.now) × IsName text) result }
+{
+    if bytes.is_empty() || bytes.len() > 255 {
+        return Ok(None);
+    }
+    match from_utf8(bytes) {
+        Err(_) => Ok(None),
+        Ok(text) => Ok(Some(MarkText::copy_of(alloc, text)?)),
+    }
+}
+
+fn value_of(alloc: Global, told: &Told<'_>) -> Result<Option<Value>, NoMemory>
+    ensures { Finds (λ value. (told_value value ≡ told.now) × IsValue value) result }
+{
+    match told {
+        Told::Int(n) => Ok(Some(Value::Int(n.cast_signed()))),
+        Told::Bool(b) => Ok(Some(Value::Bool(*b))),
+        Told::Text(text) => match text_of(alloc, text.bytes())? {
+            None => Ok(None),
+            Some(text) => Ok(Some(Value::Text(text))),
+        },
+    }
+}
