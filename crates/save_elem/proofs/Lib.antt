@@ -1,3 +1,5 @@
 pub mod Each
 pub mod ElemLaws
+pub mod Items
+pub mod Orders
 pub mod Rows

@@ -1,8 +1,12 @@
 -- What an element is by itself, whatever stands beside it.
-use Rattle.std.specs.Prelude.{◌≡◌, ℕ, false, [], Option, Some, None, IfSome, Result, Ok, Err}
+use Rattle.std.specs.Prelude.{◌≡◌, ℕ, false, List, [], Option, Some, None, IfSome, Result, Ok, Err}
 use Rattle.std.specs.declared.alloc.AllocError.{AllocError}
 use Rattle.std.specs.FinMap.{get}
-use Rattle.mark_set.specs.Markers.{Marks, AreMarkers, is_transient}
+use Rattle.mark_set.specs.Attributes.{AreAttributes}
+use Rattle.mark_set.specs.Forms.{IsName, IsValue}
+use Rattle.mark_set.specs.Markers.{Marks, is_transient}
+use Rattle.mark_set.specs.declared.marker.Marker.{Marker}
+use Rattle.mark_set.specs.declared.value.Value.{Value}
 use Rattle.ws_elem.specs.declared.kind.Kind.{Kind}
 use Rattle.ws_elem.specs.declared.kind.Kind.TheVariants.{File, Folder, Project, Root}
 use Rattle.ws_elem.specs.declared.element.Element.{Element}
@@ -24,19 +28,27 @@ FitsKind Folder e = HasNoContents e × IsUndescribed e
 FitsKind Project e = HasNoContents e × (e.derived ≡ false)
 FitsKind Root e = HasNoContents e × (IsUndescribed e × (e.derived ≡ false))
 
--- ---- markers
+-- ---- attributes and markers
 
-abbrev pub AreLasting : Marks → Type 0
-AreLasting marks = (id : ℕ) → IfSome (get marks id) (λ m. is_transient m ≡ false)
+-- a name and a value that have their form
+abbrev pub IsAttr : List ℕ × Value → Type 0
+IsAttr attribute = IsName attribute.0 × IsValue attribute.1
+
+-- a marker that is saved under an id: its type, names and values have their form, and it isn't transient
+pub record IsSaved (id : ℕ) (m : Marker) : Type 0 where
+  pub own : m.id ≡ id
+  pub named : IsName m.mark_type
+  pub attributes : AreAttributes m.attrs
+  pub lasting : is_transient m ≡ false
+
+abbrev pub AreSaved : Marks → Type 0
+AreSaved marks = (id : ℕ) → IfSome (get marks id) (IsSaved id)
 
 -- ---- an element
 
 pub record IsSound (e : Element) : Type 0 where
   pub fields : FitsKind e.kind (told e)
-  -- types of markers, names and values have their form
-  pub marks : AreMarkers e.attached.marks
-  -- and no marker is transient
-  pub lasting : AreLasting e.attached.marks
+  pub marks : AreSaved e.attached.marks
 
 -- ---- a search: what is found is so, and where nothing is found nothing is so. Want of memory tells nothing.
 

@@ -1,12 +1,17 @@
 //! The element that is told in a text.
 
 ghost use Rattle.std.specs.Prelude.{◌≡◌, ◌↔◌, IsTrue};
+ghost use Rattle.std.specs.FinMap as finite;
+ghost use Rattle.std.specs.Prelude.{map, None};
+ghost use Rattle.mark_set.specs.Attributes.{AreAttributes};
+ghost use Rattle.save_form.specs.Laws.{FitEach};
+ghost use Rattle.save_elem.specs.Fits.{FitsAttr};
 ghost use Rattle.mark_set.specs.Forms.{IsName, IsText, IsValue};
-ghost use Rattle.save_elem.specs.Sound.{FitsKind, HasNoContents, IsUndescribed, Finds};
-ghost use Rattle.save_elem.specs.Telling.{told_value};
+ghost use Rattle.save_elem.specs.Sound.{FitsKind, HasNoContents, IsUndescribed, IsAttr, Finds};
+ghost use Rattle.save_elem.specs.Telling.{told_value, told_attr};
 
-use crate::elem::{Elem, Told};
-use mark_set::{MarkText, Value};
+use crate::elem::{Attr, Elem, Told};
+use mark_set::{Attrs, MarkText, Value};
 use std::alloc::Global;
 use std::str::from_utf8;
 use ws_elem::{Kind, NoMemory};
@@ -71,4 +76,30 @@ fn value_of(alloc: Global, told: &Told<'_>) -> Result<Option<Value>, NoMemory>
             Some(text) => Ok(Some(Value::Text(text))),
         },
     }
+}
+
+fn attr_of(alloc: Global, told: &Attr<'_>) -> Result<Option<(MarkText, Value)>, NoMemory>
+    ensures { Finds (λ attribute. (told_attr attribute ≡ told.now) × IsAttr attribute) result }
+{
+    match name_of(alloc, told.name.bytes())? {
+        None => Ok(None),
+        Some(name) => match value_of(alloc, &told.value)? {
+            None => Ok(None),
+            Some(value) => Ok(Some((name, value))),
+        },
+    }
+}
+
+fn attrs_of(alloc: Global, told: &[Attr<'_>]) -> Result<Option<Attrs>, NoMemory>
+    requires { FitEach FitsAttr None told.now }
+    ensures { Finds (λ attrs. (map told_attr (finite.entries attrs) ≡ told.now) × AreAttributes attrs) result }
+{
+    let mut values = Vec::new(alloc);
+    for first in told {
+        let Some(value) = attr_of(alloc, first)? else {
+            return Ok(None);
+        };
+        values.push(value)?;
+    }
+    Ok(Some(Attrs::of(values)))
 }
