@@ -1,12 +1,12 @@
 -- What stands in a list is spelled one after the other.
 use Rattle.std.proofs.Common.{◌≡◌, ℕ, ◌+◌, ◌≤◌, Bool, true, false, List, [], ◌∷◌, ◌++◌, length, map, Option, Some, None, refl, sym, ap, ap₂, ◌∙◌, arith, subst, length-append}
-use Rattle.std.specs.Prelude.{not, filter, cond}
+use Rattle.std.specs.Prelude.{not, cond}
 use Rattle.std.specs.List.{flat_map, AllByRecursion}
-use Rattle.std.specs.FinMap.{FinMap, entries, len, len-entries, values}
+use Rattle.std.specs.FinMap.{entries, len, len-entries, values}
 use Rattle.std.proofs.lemmas.List.Concat.{flat_map-cons, flat_map-append}
 use Rattle.std.proofs.lemmas.List.{length-map}
-use Rattle.save_form.specs.Forms.{Form, number, text}
-use Rattle.save_form.specs.Lists.{spell_each, list}
+use Rattle.save_form.specs.Forms.{Form}
+use Rattle.save_form.specs.Lists.{spell_each}
 use Rattle.mark_set.specs.declared.value.Value.{Value}
 use Rattle.mark_set.specs.declared.marker.Marker.{Marker}
 use Rattle.mark_set.specs.Attributes.{Attributes}
@@ -15,8 +15,8 @@ use Rattle.sync_set.specs.Syncs.{Syncs}
 use Rattle.save_elem.specs.declared.elem.Attr.{Attr}
 use Rattle.save_elem.specs.declared.elem.Mark.{Mark}
 use Rattle.save_elem.specs.declared.elem.Sync.{Sync}
-use Rattle.save_elem.specs.Elems.{attribute, marker, sync, value}
-use Rattle.save_elem.specs.Telling.{told_attr, told_mark, told_sync, saved, lasting, IsNarrowMark}
+use Rattle.save_elem.specs.Elems.{attribute, marker, sync}
+use Rattle.save_elem.specs.Telling.{told_attr, told_mark, told_sync, saved, IsNarrowMark}
 use Rattle.save_elem.specs.Inside.Spellings.{spell_attr, spell_mark, spell_sync}
 
 -- where the spelling of an item doesn't rest on the one before

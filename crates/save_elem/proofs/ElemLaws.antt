@@ -1,13 +1,13 @@
 -- Laws of the forms of elements.
-use Rattle.std.proofs.Common.{◌≡◌, ℕ, zero, suc, ◌^◌, ◌<◌, List, length, Option, Some, None, Bool, refl, sym, ap, subst, lit<}
-use Rattle.std.specs.Prelude.{IsSomeAnd, nat_lt, true, false}
-use Rattle.save_form.specs.Forms.{Form, number, flag, text, pair, made, as_case}
+use Rattle.std.proofs.Common.{◌≡◌, ℕ, zero, suc, ◌^◌, ◌<◌, List, length, Option, Some, Bool, refl, sym, ap, subst, lit<}
+use Rattle.std.specs.Prelude.{IsSomeAnd, nat_lt}
+use Rattle.save_form.specs.Forms.{number, flag, text, pair}
 use Rattle.save_form.specs.Laws.{Lawful, StopsFirst, TakesBytes}
-use Rattle.save_form.specs.Lists.{list, rising}
+use Rattle.save_form.specs.Lists.{list}
 use Rattle.save_form.proofs.Fields.{number_lawful, text_lawful}
 use Rattle.save_form.proofs.Combined.{lawful_as, pair_lawful, made_lawful, seen_lawful, case_lawful, one_of_lawful, flag_lawful, rising_lawful}
 use Rattle.save_form.proofs.Sequences.{list_lawful}
-use Rattle.save_form.proofs.Stops.{number_bytes, text_bytes, number_stops, text_stops, pair_bytes, pair_stops, made_bytes, made_stops, seen_bytes, seen_stops, case_stops, one_of_bytes, one_of_stops, flag_stops, list_bytes, list_stops, rising_bytes, rising_stops}
+use Rattle.save_form.proofs.Stops.{number_bytes, text_bytes, number_stops, text_stops, pair_stops, made_bytes, made_stops, seen_stops, case_stops, one_of_stops, flag_stops, list_stops, rising_stops}
 use Rattle.ws_elem.specs.declared.kind.Kind.{Kind}
 use Rattle.ws_elem.specs.declared.kind.Kind.TheVariants.{File, Folder, Project, Root}
 use Rattle.ws_elem.specs.Kinds.{kind_number}
@@ -18,7 +18,6 @@ use Rattle.save_elem.specs.declared.elem.Told.TheVariants.{Int, Bool as Truth, T
 use Rattle.save_elem.specs.declared.elem.Attr.{Attr}
 use Rattle.save_elem.specs.declared.elem.Mark.{Mark}
 use Rattle.save_elem.specs.declared.elem.Sync.{Sync}
-use Rattle.save_elem.specs.declared.elem.Elem.{Elem}
 use Rattle.save_elem.specs.Elems.{kind_of, kind, sort_of, sort_number, sort, sort_told, int_told, truth_told, text_told, value_by, value, is_name_below, attribute, marker, sync, elem}
 use Rattle.save_elem.specs.Fits.{FitsValue, FitsAttr, FitsMark, FitsSync, FitsElem}
 

@@ -1,10 +1,10 @@
 -- Elements by hand, and what their form makes of them.
-use Rattle.std.specs.Prelude.{◌≡◌, ℕ, Bool, true, false, List, [], ◌∷◌, ◌++◌, Ok, Err, refl}
+use Rattle.std.specs.Prelude.{◌≡◌, ℕ, true, false, List, [], ◌∷◌, ◌++◌, Ok, Err, refl}
 use Rattle.ws_wire.specs.Fields.{number_field, text_field}
 use Rattle.save_form.specs.declared.stop.Stop.TheVariants.{Short, Bad}
 use Rattle.save_form.specs.Forms.{number, text, read_all}
 use Rattle.save_form.specs.Lists.{read_each}
-use Rattle.ws_elem.specs.declared.kind.Kind.TheVariants.{File, Root}
+use Rattle.ws_elem.specs.declared.kind.Kind.TheVariants.{Root}
 use Rattle.save_elem.specs.Elems.{value, attribute, marker, sync, elem}
 use Rattle.save_elem.specs.declared.elem.Elem.{Elem}
 use Rattle.save_elem.specs.declared.elem.Mark.{Mark}

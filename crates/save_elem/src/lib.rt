@@ -7,6 +7,7 @@
 //!
 //! - `elem`: `Elem` and its parts.
 //! - `reading`: an `Elem` read from bytes, with the place at which they can't go on.
+//! - `building`: the `Element` that an `Elem` tells, if it is one by itself.
 //! - `writing`: an `Element` written to any sink.
 //! - `measuring`: how long it is, whether bytes are its own, and whether it can be written.
 #![tactic(auto)]
@@ -17,6 +18,7 @@ mod measuring;
 mod reading;
 mod writing;
 
+pub use building::element_of;
 pub use elem::{Attr, Elem, Mark, Sort, Sync, Told};
 pub use measuring::{elem_len, is_narrow, spells};
 pub use reading::read_elem;

@@ -1,4 +1,4 @@
-use Rattle.std.proofs.Common.{◌≡◌, ◌+◌, ◌<◌, ◌^◌, length, refl, arith, ap, sym, ◌∙◌}
+use Rattle.std.proofs.Common.{◌≡◌, length, arith, ap, sym, ◌∙◌}
 use Rattle.save_elem.specs.Telling.{saved}
 use Rattle.save_elem.proofs.Each.{all_counted}
 use Rattle.save_elem.proofs.writing.count_lasting.Goals as goal

@@ -1,5 +1,4 @@
 use Rattle.std.proofs.Common.{◌≡◌, ◌+◌, ◌^◌, ◌<◌, length}
-use Rattle.std.specs.FinMap.{values}
 use Rattle.save_elem.specs.Telling.{saved, lasting}
 use Rattle.save_elem.proofs.writing.count_lasting.Given as goal
 
