@@ -129,7 +129,7 @@ each_owned : (es : List (ℕ × Marker)) → AllByRecursion (λ e. IsSaved e.0 e
 each_owned [] a = tt
 each_owned (e ∷ es) a = (owned e.0 e.1 a.0, each_owned es a.1)
 
-saved_entries : (marks : Marks) → AreSaved marks → AllByRecursion (λ e. IsSaved e.0 e.1) (entries marks)
+pub saved_entries : (marks : Marks) → AreSaved marks → AllByRecursion (λ e. IsSaved e.0 e.1) (entries marks)
 saved_entries marks h = to_all nat_cmp_total IsSaved marks h
 
 saved_all : (ms : List Marker) → AllByRecursion IsOwn ms → saved ms ≡ ms

@@ -1,6 +1,6 @@
 -- Maps by the list of their entries, whose keys rise.
 use Rattle.std.proofs.Common.{◌≡◌, ◌<◌, ℕ, Bool, true, false, cond, List, [], ◌∷◌, ◌++◌, ◌&&◌, map, nat_cmp, Ordering, refl, sym, ap, ◌∙◌, subst, arith}
-use Rattle.std.specs.Prelude.{Option, Some, IfSome, T, nat_lt}
+use Rattle.std.specs.Prelude.{Option, Some, None, IfSome, T, nat_lt}
 use Rattle.std.specs.declared.cmp.Ordering.TheVariants.{Less, Equal, Greater}
 use Rattle.std.specs.Cmp.{IsTotalOrder, tied_itself}
 use Rattle.std.specs.List.{AllByRecursion}
@@ -101,6 +101,17 @@ module _ {K X : Type 0} {R : K → K → Ordering} (o : IsTotalOrder R) where
   pub sorted_chain : (before : Option K) (es : List (K × X)) → Chain before es → T (is_sorted R es)
   sorted_chain before [] h = tt
   sorted_chain before (e ∷ es) h = both _ _ (below_chain e.0 es h.1) (sorted_chain (Some e.0) es h.1)
+
+  chain_below : (k : K) (es : List (K × X)) → T (below_all R k es) → T (is_sorted R es) → Chain (Some k) es
+  chain_below k [] h s = tt
+  chain_below k (e ∷ es) h s =
+      let p = parts _ _ h in
+      let q = parts _ _ s in
+      (ap is_lt (less (R k e.0) p.0), chain_below e.0 es q.0 q.1)
+
+  pub chain_sorted : (es : List (K × X)) → T (is_sorted R es) → Chain None es
+  chain_sorted [] s = tt
+  chain_sorted (e ∷ es) s = let q = parts _ _ s in (refl, chain_below e.0 es q.0 q.1)
 
   -- ---- an entry above all others
 

@@ -1,6 +1,7 @@
 -- What has a spelling, from which it is read back.
 use Rattle.std.specs.Prelude.{◌≡◌, ◌<◌, ◌^◌, length, true, Option, None, nat_lt}
 use Rattle.std.specs.Option.{option_map}
+use Rattle.std.specs.List.{AllByRecursion}
 use Rattle.save_form.specs.Laws.{FitEach}
 use Rattle.save_form.specs.Lists.{is_above}
 use Rattle.save_elem.specs.Elems.{is_name_below}
@@ -43,3 +44,11 @@ pub record FitsElem (e : Elem) : Type 0 where
   pub bytes : length e.bytes < 2 ^ 32
   pub marks : (length e.marks < 2 ^ 32) × FitEach FitsMark None e.marks
   pub syncs : (length e.syncs < 2 ^ 32) × FitEach FitsSync None e.syncs
+
+-- numbers that have room in their fields
+pub record InRange (e : Elem) : Type 0 where
+  pub node : e.node < 2 ^ 64
+  pub stamp : e.stamp < 2 ^ 64
+  pub desc_stamp : e.desc_stamp < 2 ^ 64
+  pub marks : AllByRecursion (λ m. m.id < 2 ^ 64) e.marks
+  pub syncs : AllByRecursion (λ s. s.partner < 2 ^ 32) e.syncs

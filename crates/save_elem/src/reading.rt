@@ -1,9 +1,10 @@
 //! Elements as they are read.
 
-ghost use Rattle.std.specs.Prelude.{◌≡◌, Option, nat_lt};
+ghost use Rattle.std.specs.Prelude.{◌≡◌, Option, IfOk, nat_lt};
 ghost use Rattle.std.specs.Option.{option_copied, option_map};
 ghost use Rattle.save_form.specs.Gives.{Gives};
 ghost use Rattle.save_form.specs.Lists.{is_above};
+ghost use Rattle.save_elem.specs.Fits.{FitsElem};
 ghost use Rattle.save_elem.specs.Elems.{kind, sort, value, is_name_below, attribute, marker, sync, elem};
 ghost use Rattle.save_elem.specs.declared.elem.Attr.{Attr as AttrRecord};
 ghost use Rattle.save_elem.specs.declared.elem.Mark.{Mark as MarkRecord};
@@ -163,8 +164,16 @@ impl<'a> Item<'a> for Syncs {
 }
 
 /// The element at the front. Takes memory for lists, of what was read alone; texts are lent from the input's bytes.
-#[tactic(auto, unfolding(crate::specs::Elems::elem))]
+#[tactic(auto, using(crate::proofs::Fitting::given_fits))]
 pub fn read_elem<'a>(alloc: Global, input: &mut In<'a>) -> Result<Elem<'a>, Stuck>
+    ensures gives { Gives result input.new (elem.read input.old) }
+    ensures fits { IfOk result FitsElem }
+{
+    read_fields(alloc, input)
+}
+
+#[tactic(auto, unfolding(crate::specs::Elems::elem))]
+fn read_fields<'a>(alloc: Global, input: &mut In<'a>) -> Result<Elem<'a>, Stuck>
     ensures { Gives result input.new (elem.read input.old) }
 {
     let kind = read_kind(input)?;
