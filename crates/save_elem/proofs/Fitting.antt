@@ -1,5 +1,5 @@
 -- What an element tells has a spelling, where it is sound by itself and narrow.
-use Rattle.std.proofs.Common.{◌≡◌, ◌<◌, ◌^◌, ℕ, true, List, [], ◌∷◌, ◌++◌, map, nat_cmp, refl, sym, ap, ◌∙◌, subst}
+use Rattle.std.proofs.Common.{◌≡◌, ◌<◌, ◌^◌, ℕ, true, List, [], ◌∷◌, map, nat_cmp, refl, sym, ap, ◌∙◌, subst}
 use Rattle.std.specs.Prelude.{Option, Some, None, nat_lt}
 use Rattle.std.specs.Option.{option_map}
 use Rattle.std.specs.Cmp.{nat_cmp_total}
@@ -11,16 +11,13 @@ use Rattle.std.specs.FinMap.{entries, entries_sorted, values}
 use Rattle.std.proofs.Math.Facts.{Fits-of_z, Fits-lt-pow}
 use Rattle.std.specs.Prelude.{Result, Ok, Err, IfOk}
 use Rattle.ws_wire.specs.Fields.{Input}
-use Rattle.save_form.specs.Gives.{Gives, GivesAll, Fails}
-use Rattle.save_form.specs.declared.stop.Stop.{Stop}
-use Rattle.save_form.specs.declared.stop.Stuck.TheVariants.{At, Memory}
+use Rattle.save_form.specs.Gives.{Gives}
 use Rattle.save_form.specs.Forms.{read_all}
-use Rattle.save_form.specs.Laws.{IsFirst}
-use Rattle.save_form.proofs.Wholes.{all_found, all_again, no_prefix, all_first}
+use Rattle.save_form.proofs.Wholes.{all_again}
 use Rattle.save_form.specs.declared.stop.Stuck.{Stuck}
 use Rattle.save_elem.specs.Elems.{elem}
 use Rattle.save_elem.specs.declared.elem.Elem.{Elem}
-use Rattle.save_elem.proofs.ElemLaws.{elem_lawful, elem_stops}
+use Rattle.save_elem.proofs.ElemLaws.{elem_lawful}
 use Rattle.save_form.specs.Laws.{FitEach}
 use Rattle.save_form.specs.Lists.{is_above}
 use Rattle.mark_set.specs.Attributes.{Attributes, AreAttributes}
@@ -103,17 +100,3 @@ given_fits (Err stuck) i j given = tt
 
 pub told_read : (e : Element) (bytes : List ℕ) → IsNarrow (told e) → bytes ≡ elem.spell (told e) → IsSound e → InRange (told e) → read_all elem bytes ≡ Ok (told e)
 told_read e bytes n same s r = ap (read_all elem) same ∙ all_again FitsElem elem elem_lawful (told e) (told_fits e s r n)
-
-pub none_longer : (bytes : List ℕ) (r : Result Elem Stuck) → GivesAll r (read_all elem bytes) → IfOk r (λ e. (f : Elem) (rest : List ℕ) → FitsElem f → elem.spell f ≡ bytes ++ rest → f ≡ e)
-none_longer bytes (Ok e) given = λ f rest fits same.
-    let is = all_found FitsElem elem elem_lawful bytes e given in
-    sym (no_prefix FitsElem elem elem_lawful e f rest is.0 fits (same ∙ ap (λ (x : List ℕ). x ++ rest) is.1)).0
-none_longer bytes (Err stuck) given = tt
-
-stuck_at : (stuck : Stuck) (stop : Stop) (reading : Result Elem Stop) → Fails stuck reading → stuck ≡ At stop → reading ≡ Err stop
-stuck_at (At s) stop reading fails e = let same : s ≡ stop = cc in fails ∙ ap (λ (x : Stop). Err x) same
-stuck_at Memory stop reading fails e = absurd cc
-
-pub stops_first : (bytes : List ℕ) (r : Result Elem Stuck) → GivesAll r (read_all elem bytes) → (stop : Stop) → r ≡ Err (At stop) → IsFirst elem bytes stop
-stops_first bytes (Ok e) given stop is = absurd cc
-stops_first bytes (Err stuck) given stop is = let same : stuck ≡ At stop = cc in all_first FitsElem elem elem_lawful elem_stops bytes stop (stuck_at stuck stop (read_all elem bytes) given same)
