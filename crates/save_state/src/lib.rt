@@ -8,6 +8,7 @@
 //! - `entry`, `change`: what stands at a path, and the changes of a tree.
 //! - `records`: built records and kept states.
 //! - `state`, `reading`: a whole state, and how it is read.
+//! - `writing`: entries and changes, as they are written.
 #![tactic(auto)]
 
 mod base;
@@ -16,6 +17,7 @@ mod entry;
 mod reading;
 mod records;
 mod state;
+mod writing;
 
 pub use base::{Base, Changed, Nothing};
 pub use change::Change;
@@ -23,3 +25,4 @@ pub use entry::Entry;
 pub use reading::read_state;
 pub use records::{Built, Kept};
 pub use state::State;
+pub use writing::{put_change, put_entry};
