@@ -19,9 +19,9 @@ use Rattle.save_state.specs.declared.change.Change.{Change}
 use Rattle.save_state.specs.declared.records.Built.{Built}
 use Rattle.save_state.specs.declared.records.Kept.{Kept}
 use Rattle.save_state.specs.Entries.{Entries, spell_entry}
-use Rattle.save_state.specs.Changed.{changed}
+use Rattle.save_state.specs.Changed.{changed, is_path_below}
 use Rattle.save_state.specs.Paths.{path, path_of}
-use Rattle.save_state.specs.States.{is_new, is_path_below, change, is_project_from, is_built_above, built_key, built, kept, state}
+use Rattle.save_state.specs.States.{is_new, change, is_project_from, is_built_above, built_key, built, kept, state}
 use Rattle.save_state.specs.Fits.{FitsTexts, FitsChange, FitsChanges, FitsBuilt, FitsKept, FitsState}
 use Rattle.save_state.proofs.PathForm.{path_lawful}
 

@@ -11,8 +11,8 @@ use Rattle.save_state.specs.declared.records.Built.{Built}
 use Rattle.save_state.specs.declared.records.Kept.{Kept}
 use Rattle.save_state.specs.declared.state.State.{State}
 use Rattle.save_state.specs.Entries.{Entries}
-use Rattle.save_state.specs.Changed.{changed}
-use Rattle.save_state.specs.States.{is_new, is_path_below, is_project_from, is_built_above}
+use Rattle.save_state.specs.Changed.{changed, is_path_below}
+use Rattle.save_state.specs.States.{is_new, is_project_from, is_built_above}
 
 abbrev pub FitsTexts : List (List ℕ) → Type 0
 FitsTexts ts = (length ts < 2 ^ 32) × FitEach (λ _ t. length t < 2 ^ 32) None ts

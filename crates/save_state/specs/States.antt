@@ -1,7 +1,5 @@
 -- The forms of a state text and of its parts.
 use Rattle.std.specs.Prelude.{ℕ, Bool, true, not, ◌&&◌, ◌||◌, List, Option, Some, None, nat_lt, bytes_eq}
-use Rattle.std.specs.Ordering.{is_lt}
-use Rattle.res_path.specs.Paths.{Names, path_cmp}
 use Rattle.save_form.specs.Forms.{Form, number, text, pair, checked, seen_as, optional}
 use Rattle.save_form.specs.Lists.{list, rising}
 use Rattle.save_elem.specs.declared.elem.Elem.{Elem}
@@ -11,7 +9,7 @@ use Rattle.save_state.specs.declared.records.Built.{Built}
 use Rattle.save_state.specs.declared.records.Kept.{Kept}
 use Rattle.save_state.specs.declared.state.State.{State}
 use Rattle.save_state.specs.Entries.{Entries, spell_entry}
-use Rattle.save_state.specs.Changed.{changed}
+use Rattle.save_state.specs.Changed.{is_path_below, changed}
 use Rattle.save_state.specs.Paths.{path}
 
 -- ---- changes
@@ -19,9 +17,6 @@ use Rattle.save_state.specs.Paths.{path}
 -- an entry that isn't the base's own
 abbrev pub is_new : Option Elem → Option Elem → Bool
 is_new old entry = not (bytes_eq (spell_entry old) (spell_entry entry))
-
-abbrev pub is_path_below : Names → Names → Bool
-is_path_below p q = is_lt (path_cmp p q)
 
 -- a path, and what stands there after the change; an entry that is the base's own can't stand there
 unfoldable pub change : Entries → Option Change → Form Change

@@ -1,12 +1,13 @@
 //! What changes are told against.
 
-ghost use Rattle.std.specs.Prelude.{◌≡◌, bytes_eq};
+ghost use Rattle.std.specs.Prelude.{◌≡◌, ◌++◌, [], ◌∷◌, true, None, MatchOption, bytes_eq};
 ghost use Rattle.save_state.specs.Entries.{spell_entry};
 ghost use Rattle.save_state.specs.Entries.{Entries};
-ghost use Rattle.save_state.specs.Changed.{changed};
+ghost use Rattle.save_state.specs.Changed.{changed, is_rising};
 
 use crate::change::Change;
 use res_path::Path;
+use std::cmp::Ordering;
 
 /// What changes are told against.
 pub trait Base {
@@ -32,11 +33,23 @@ impl Base for Nothing {
     }
 }
 
-/// A base after changes.
+/// A base after changes, in which a path is looked for by halves.
 #[derive(Drop)]
 pub struct Changed<'b, 'c, 'a, B> {
-    pub base: &'b B,
-    pub changes: &'c [Change<'a>],
+    base: &'b B,
+    changes: &'c [Change<'a>],
+    ghost rising: { is_rising None changes.now ≡ true },
+}
+
+impl<'b, 'c, 'a, B> Changed<'b, 'c, 'a, B> {
+    /// The base after these changes, whose paths rise.
+    pub fn of(base: &'b B, changes: &'c [Change<'a>]) -> Changed<'b, 'c, 'a, B>
+        requires { is_rising None changes.now ≡ true }
+        ensures base { result.base.now ≡ base.now }
+        ensures changes { result.changes.now ≡ changes.now }
+    {
+        Changed { base, changes }
+    }
 }
 
 impl<'b, 'c, 'a, B: Base> Base for Changed<'b, 'c, 'a, B> {
@@ -47,17 +60,30 @@ impl<'b, 'c, 'a, B: Base> Base for Changed<'b, 'c, 'a, B> {
     }
 }
 
+#[tactic(auto, using(crate::proofs::Searches::by_halves))]
 fn is_own_after<B: Base>(base: &B, changes: &[Change<'_>], path: &Path, entry: &[u8]) -> bool
+    requires { is_rising None changes.now ≡ true }
     ensures { result ≡ bytes_eq (spell_entry (changed (B.entries base.now) changes.now path.now)) entry.now }
 {
-    match changes {
-        [] => base.is_own(path, entry),
-        [first, others @ ..] => {
-            if first.path == *path {
-                first.entry.is_spelled(entry)
-            } else {
-                is_own_after(base, others, path, entry)
-            }
-        }
+    let Some((front, middle, back)) = halves(changes) else {
+        return base.is_own(path, entry);
+    };
+    match path.cmp(&middle.path) {
+        Ordering::Less => is_own_after(base, front, path, entry),
+        Ordering::Equal => middle.entry.is_spelled(entry),
+        Ordering::Greater => is_own_after(base, back, path, entry),
+    }
+}
+
+// The change in the middle, with those before and behind it.
+fn halves<'c, 'a>(
+    changes: &'c [Change<'a>],
+) -> Option<(&'c [Change<'a>], &'c Change<'a>, &'c [Change<'a>])>
+    ensures { MatchOption result (changes.now ≡ []) (λ parts. changes.now ≡ parts.0.now ++ parts.1.now ∷ parts.2.now) }
+{
+    let (front, rest) = changes.split_at(changes.len() / 2);
+    match rest.split_first() {
+        None => None,
+        Some((middle, back)) => Some((front, middle, back)),
     }
 }

@@ -1,17 +1,18 @@
 //! Changes of a tree.
 
-ghost use Rattle.std.specs.Prelude.{◌≡◌, IfOk, Option};
+ghost use Rattle.std.specs.Prelude.{◌≡◌, IfOk, None, true, Option};
 ghost use Rattle.std.specs.Option.{option_copied, option_map};
 ghost use Rattle.save_form.specs.Gives.{Gives};
 ghost use Rattle.save_state.specs.Paths.{path, path_of};
-ghost use Rattle.save_form.specs.Lists.{is_above};
-ghost use Rattle.save_state.specs.States.{change, is_path_below};
+ghost use Rattle.save_form.specs.Lists.{is_above, list};
+ghost use Rattle.save_state.specs.Changed.{is_path_below, is_rising};
+ghost use Rattle.save_state.specs.States.{change};
 ghost use Rattle.save_state.specs.declared.change.Change.{Change as ChangeRecord};
 
 use crate::base::Base;
 use crate::entry::Entry;
 use res_path::{NoMemory, Path, PathError};
-use save_form::{Item, Stop, Stuck, read_text};
+use save_form::{Item, Items, Stop, Stuck, read_list, read_text};
 use std::alloc::{AllocError, Global};
 use std::cmp::Ordering;
 use ws_wire::In;
@@ -89,4 +90,17 @@ impl<'a, 'b, B: Base> Item<'a> for Changes<'b, B> {
         }
         Ok(Change { path, entry })
     }
+}
+
+/// The changes from a base, whose paths rise.
+#[tactic(auto, using(crate::proofs::Searches::given_rising))]
+pub fn read_changes<'a, B: Base>(
+    alloc: Global,
+    input: &mut In<'a>,
+    base: &B,
+) -> Result<Items<Change<'a>>, Stuck>
+    ensures gives { Gives result input.new ((list (change (B.entries base.now))).read input.old) }
+    ensures rising { IfOk result (λ changes. is_rising None changes ≡ true) }
+{
+    read_list(alloc, input, &Changes { base })
 }

@@ -11,7 +11,7 @@ ghost use Rattle.save_state.specs.States.{state};
 ghost use Rattle.save_state.specs.declared.state.State.{State as StateRecord};
 
 use crate::base::{Base, Changed};
-use crate::change::Changes;
+use crate::change::read_changes;
 use crate::records::{BuiltOf, KeptOf, Texts};
 use crate::state::State;
 use save_form::{Stuck, read_end, read_list, read_u64};
@@ -31,12 +31,9 @@ fn read_fields<'a, B: Base, H: Base>(
     let next_stamp = read_u64(input)?;
     let next_marker = read_u64(input)?;
     let partners = read_list(alloc, input, &Texts)?;
-    let changes = read_list(alloc, input, &Changes { base: tree })?;
-    let shelf = read_list(alloc, input, &Changes { base: shelf })?;
-    let now = Changed {
-        base: tree,
-        changes: changes.as_slice(),
-    };
+    let changes = read_changes(alloc, input, tree)?;
+    let shelf = read_changes(alloc, input, shelf)?;
+    let now = Changed::of(tree, changes.as_slice());
     let built = read_list(alloc, input, &BuiltOf { tree: &now })?;
     let kept = read_list(alloc, input, &KeptOf { tree: &now })?;
     Ok(State {
