@@ -1,13 +1,12 @@
 //! The element that is told in a text.
 
-ghost use Rattle.std.specs.Prelude.{◌≡◌, ◌↔◌, IsTrue, IfOk};
+ghost use Rattle.std.specs.Prelude.{◌≡◌, ◌↔◌, map, IsTrue, IfOk, None, Some};
 ghost use Rattle.std.specs.FinMap as finite;
-ghost use Rattle.std.specs.Prelude.{map, None, Some};
 ghost use Rattle.mark_set.specs.Attributes.{AreAttributes};
+ghost use Rattle.mark_set.specs.Forms.{IsName, IsText, IsValue};
 ghost use Rattle.ws_elem.specs.declared.element.Element.{Element as ElementRecord};
 ghost use Rattle.save_form.specs.Laws.{FitEach};
 ghost use Rattle.save_elem.specs.Fits.{FitsAttr, FitsMark, FitsSync, FitsElem};
-ghost use Rattle.mark_set.specs.Forms.{IsName, IsText, IsValue};
 ghost use Rattle.save_elem.specs.Sound.{FitsKind, HasNoContents, IsUndescribed, IsAttr, IsSaved, AreSaved, IsSound, Finds};
 ghost use Rattle.save_elem.specs.Telling.{told_value, told_attr, told_mark, told_sync, lasting, told};
 
@@ -42,7 +41,7 @@ fn fits_kind(elem: &Elem<'_>) -> bool
     }
 }
 
-/// The text of fewer than 65,536 bytes of UTF-8.
+// The text, where it is UTF-8 of fewer than 65,536 bytes.
 fn text_of(alloc: Global, bytes: &[u8]) -> Result<Option<MarkText>, NoMemory>
     ensures { Finds (λ text. (text ≡ bytes.now) × IsText text) result }
 {
@@ -55,7 +54,7 @@ fn text_of(alloc: Global, bytes: &[u8]) -> Result<Option<MarkText>, NoMemory>
     }
 }
 
-/// The text of 1 to 255 bytes of UTF-8.
+// The text, where it is UTF-8 of 1 to 255 bytes.
 fn name_of(alloc: Global, bytes: &[u8]) -> Result<Option<MarkText>, NoMemory>
     ensures { Finds (λ text. (text ≡ bytes.now) × IsName text) result }
 {

@@ -1,8 +1,7 @@
 //! What changes are told against.
 
 ghost use Rattle.std.specs.Prelude.{◌≡◌, ◌++◌, [], ◌∷◌, true, None, MatchOption, bytes_eq};
-ghost use Rattle.save_state.specs.Entries.{spell_entry};
-ghost use Rattle.save_state.specs.Entries.{Entries};
+ghost use Rattle.save_state.specs.Entries.{Entries, spell_entry};
 ghost use Rattle.save_state.specs.Changed.{changed, is_rising};
 
 use crate::change::Change;
