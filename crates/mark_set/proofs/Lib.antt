@@ -5,5 +5,6 @@ pub mod Formed
 pub mod Ids
 pub mod Lengths
 pub mod Maps
+pub mod Orders
 pub mod Placing
 pub mod Sorted

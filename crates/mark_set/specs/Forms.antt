@@ -1,5 +1,6 @@
 -- The form that types, names and texts have once they are checked.
-use Rattle.std.specs.Prelude.{ℕ, ◌<◌, ◌≤◌, List, length, IsUtf8, ⊤}
+use Rattle.std.specs.Prelude.{ℕ, ◌<◌, ◌≤◌, List, length, IsUtf8, ⊤, FitsSigned}
+use Rattle.std.specs.Int.{w32}
 use Rattle.mark_set.specs.declared.value.Value.{Value}
 use Rattle.mark_set.specs.declared.value.Value.TheVariants.{Int, Bool, Text}
 
@@ -14,8 +15,8 @@ pub record IsText (text : List ℕ) : Type 0 where
   pub utf8 : IsUtf8 text
   pub bound : length text < 65536
 
--- a value: a text has its form
+-- a value: a whole number is one of 32 bits, and a text has its form
 abbrev pub IsValue : Value → Type 0
-IsValue (Int _) = ⊤
+IsValue (Int n) = FitsSigned w32 n
 IsValue (Bool _) = ⊤
 IsValue (Text text) = IsText text

@@ -65,7 +65,14 @@ impl Attrs {
     pub fn get(&self, name: &MarkText) -> Option<&Value>
         ensures { option_copied result ≡ map.get self.now name.now }
     {
-        places::found(self.values.as_slice(), name)
+        self.named(name.text())
+    }
+
+    /// The value of the name that is this text.
+    pub(crate) fn named(&self, name: &str) -> Option<&Value>
+        ensures { option_copied result ≡ map.get self.now name.now }
+    {
+        places::found(self.values.as_slice(), name.as_bytes())
     }
 
     /// How many there are.

@@ -1,6 +1,6 @@
 //! One marker.
 
-ghost use Rattle.std.specs.Prelude.{◌≡◌, ◌↔◌, IfOk, IsTrue, OnOk, OnErr, None, codes};
+ghost use Rattle.std.specs.Prelude.{◌≡◌, ◌↔◌, IfOk, IsTrue, OnOk, OnErr, None};
 ghost use Rattle.std.specs.FinMap as map;
 ghost use Rattle.mark_set.specs.Attributes.{AreAttributes, with_value};
 ghost use Rattle.mark_set.specs.Causes.{marker_cause, change_cause};
@@ -59,12 +59,11 @@ impl Marker {
         })
     }
 
-    /// Whether the attribute `transient` is true.
-    pub(crate) fn is_transient(&self, transient: &MarkText) -> bool
-        requires { transient.now ≡ codes "transient" }
+    /// Whether the attribute `transient` is the value true. A transient marker isn't saved. Takes no memory.
+    pub fn is_transient(&self) -> bool
         ensures { result ≡ is_transient self.now }
     {
-        match self.attrs.get(transient) {
+        match self.attrs.named("transient") {
             Some(Value::Bool(on)) => *on,
             _ => false,
         }

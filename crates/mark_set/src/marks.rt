@@ -13,6 +13,7 @@ use crate::NoMemory;
 use crate::causes::{change_cause, marker_cause};
 use crate::delta::MarkerDelta;
 use crate::error::MarkError;
+use crate::mark_iter::MarkIter;
 use crate::marker::Marker;
 use crate::table::Table;
 use crate::text::RawText;
@@ -22,8 +23,8 @@ use indexmap::IndexMap;
 use std::alloc::Global;
 use std::marker::Model;
 
-/// The markers of one resource, by id. An empty set owns no memory. Finding, changing or deleting a marker takes expected
-/// constant time, and an empty set takes none to copy or compare.
+/// The markers of one resource, by id. An empty set owns no memory. Finding or changing a marker takes expected constant
+/// time, and deleting one time that grows with the logarithm of their number. An empty set takes none to copy or compare.
 #[derive(Debug, Drop)]
 pub struct MarkSet {
     table: Option<Box<Table>>,
@@ -108,7 +109,8 @@ impl MarkSet {
         }
     }
 
-    fn put(&mut self, alloc: Global, marker: Marker) -> Result<(), NoMemory>
+    /// Puts a marker whose type, names and values have their form under its own id, in the place of one that has the id.
+    pub fn put(&mut self, alloc: Global, marker: Marker) -> Result<(), NoMemory>
         requires { IsMarker marker.id marker }
         ensures ok { OnOk result (self.new ≡ map.insert self.old marker.id marker) }
         ensures err { OnErr result (self.new ≡ self.old) }
@@ -199,13 +201,25 @@ impl MarkSet {
         }
     }
 
-    /// The ids in order. Sorts them.
+    /// The ids in order.
     pub fn ids(&self, alloc: Global) -> Result<Vec<u64>, NoMemory>
         ensures { IfOk result (λ ids. ids.items ≡ map.keys self.now) }
     {
         match &self.table {
             None => Ok(Vec::new(alloc)),
             Some(table) => table.ids(alloc),
+        }
+    }
+
+    /// The markers in the order of their ids. Takes no memory.
+    pub fn iter(&self) -> MarkIter<'_>
+        ensures { result ≡ map.values self.now }
+    {
+        MarkIter {
+            rest: match &self.table {
+                None => None,
+                Some(table) => Some(table.walk()),
+            },
         }
     }
 

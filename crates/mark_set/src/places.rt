@@ -13,8 +13,8 @@ use crate::text::MarkText;
 use crate::value::Value;
 use std::cmp::Ordering;
 
-/// The value of the name.
-pub fn found<'a>(values: &'a [(MarkText, Value)], name: &MarkText) -> Option<&'a Value>
+/// The value of the name with these bytes.
+pub fn found<'a>(values: &'a [(MarkText, Value)], name: &[u8]) -> Option<&'a Value>
     ensures { option_copied result ≡ find text_cmp name.now values.now }
 {
     let mut rest = values;
@@ -27,10 +27,10 @@ pub fn found<'a>(values: &'a [(MarkText, Value)], name: &MarkText) -> Option<&'a
     None
 }
 
-fn is_at(name: &MarkText, attribute: &(MarkText, Value)) -> bool
+fn is_at(name: &[u8], attribute: &(MarkText, Value)) -> bool
     ensures { result ≡ eq_by_cmp text_cmp name.now attribute.now.0 }
 {
-    name.cmp(&attribute.0).is_eq()
+    name.cmp(attribute.0.text().as_bytes()).is_eq()
 }
 
 /// Gives the name this value.
@@ -80,5 +80,6 @@ fn place_of(values: &[(MarkText, Value)], name: &MarkText) -> Result<usize, usiz
 pub fn take(values: &mut Vec<(MarkText, Value)>, name: &MarkText)
     ensures { values.new.items ≡ where_key text_cmp (λ other. not (eq_by_cmp text_cmp name.now other)) values.old.items }
 {
+    let name = name.text().as_bytes();
     values.retain(|attribute| !is_at(name, attribute));
 }

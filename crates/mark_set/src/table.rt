@@ -7,23 +7,27 @@ ghost use Rattle.mark_set.specs.Causes.{change_cause};
 ghost use Rattle.mark_set.specs.Markers.{AreMarkers, IsMarker, durable_marks, with_attribute};
 
 use crate::NoMemory;
+use crate::mark_iter::Walk;
 use crate::marker::{Marker, put_attribute};
 use crate::value::RawValue;
-use crate::walks::{durable_of, ids_of};
+use crate::walks::{collect_ids, durable_of, found_ids};
 use indexmap::IndexMap;
 use std::alloc::Global;
+use std::collections::BTreeMap;
 use std::marker::Model;
 
-/// Markers in no order: a marker that goes leaves its place to the last one.
+/// Markers in no order, since a marker that goes leaves its place to the last one, and their ids in order.
 #[derive(Debug, Drop)]
 pub struct Table {
     markers: IndexMap<u64, Marker>,
+    ids: BTreeMap<u64, ()>,
 }
 
 impl Model for Table {
     ghost use Rattle.std.specs.FinMap as map;
     ghost use Rattle.std.specs.Coded.{coded_ℕ};
     ghost use Rattle.mark_set.specs.Markers.{Marks, AreMarkers};
+    ghost use Rattle.mark_set.specs.Inside.Orders.{HasIds};
     ghost use Rattle.mark_set.specs.contracts.marker.Marker as marker;
 
     ghost Value = { Marks };
@@ -32,7 +36,8 @@ impl Model for Table {
 
     ghost view = { λ table. map.from_entries table.markers.entries };
 
-    ghost invariant = { λ table. AreMarkers (map.from_entries table.markers.entries) };
+    ghost invariant = { λ table. AreMarkers (map.from_entries table.markers.entries)
+        × HasIds (map.from_entries table.ids.entries) (map.from_entries table.markers.entries) };
 }
 
 impl Table {
@@ -41,6 +46,7 @@ impl Table {
     {
         Table {
             markers: IndexMap::new(alloc),
+            ids: BTreeMap::new(alloc),
         }
     }
 
@@ -68,6 +74,8 @@ impl Table {
         ensures ok { OnOk result (self.new ≡ map.insert self.old marker.id marker) }
         ensures err { OnErr result (self.new ≡ self.old) }
     {
+        self.markers.reserve(1)?;
+        self.ids.insert(marker.id, ())?;
         self.markers.insert(marker.id, marker)?;
         Ok(())
     }
@@ -77,6 +85,7 @@ impl Table {
         ensures taken { self.new ≡ map.remove self.old id }
         ensures was { IsTrue result ↔ IsSome (map.get self.old id) }
     {
+        self.ids.remove(&id);
         self.markers.swap_remove(&id).is_some()
     }
 
@@ -104,16 +113,26 @@ impl Table {
     pub fn ids(&self, alloc: Global) -> Result<Vec<u64>, NoMemory>
         ensures { IfOk result (λ ids. ids.items ≡ map.keys self.now) }
     {
-        ids_of(alloc, &self.markers)
+        collect_ids(alloc, self.ids.clone()?)
+    }
+
+    /// The markers in the order of their ids.
+    pub fn walk(&self) -> Walk<'_>
+        ensures { result ≡ map.values self.now }
+    {
+        Walk {
+            ids: self.ids.iter(),
+            markers: &self.markers,
+        }
     }
 
     /// The markers that aren't transient.
     pub fn durable(&self, alloc: Global) -> Result<Table, NoMemory>
         ensures { IfOk result (λ table. table ≡ durable_marks self.now) }
     {
-        Ok(Table {
-            markers: durable_of(alloc, &self.markers)?,
-        })
+        let markers = durable_of(alloc, &self.markers)?;
+        let ids = found_ids(alloc, &markers)?;
+        Ok(Table { markers, ids })
     }
 
     pub fn markers(&self) -> &IndexMap<u64, Marker>
@@ -135,6 +154,7 @@ impl Clone for Table {
     fn clone(&self) -> Result<Table, NoMemory> {
         Ok(Table {
             markers: self.markers.clone()?,
+            ids: self.ids.clone()?,
         })
     }
 }

@@ -40,7 +40,8 @@ impl MarkText {
         Ok(MarkText::copy_of(alloc, text)?)
     }
 
-    pub(crate) fn copy_of(alloc: Global, text: &str) -> Result<MarkText, NoMemory>
+    /// This text of fewer than 65,536 bytes.
+    pub fn copy_of(alloc: Global, text: &str) -> Result<MarkText, NoMemory>
         requires { length text.now < 65536 }
         ensures value { IfOk result (λ copied. copied ≡ text.now) }
         ensures utf8 { IfOk result IsUtf8 }

@@ -1,6 +1,6 @@
 //! Passes over a table of markers.
 
-ghost use Rattle.std.specs.Prelude.{◌≡◌, ◌++◌, [], ℕ, IfOk, OnOk, Some, None, option_copied, option_map, codes, if◌then◌else◌};
+ghost use Rattle.std.specs.Prelude.{◌≡◌, ◌++◌, [], ℕ, IfOk, OnOk, Some, None, option_copied, option_map, if◌then◌else◌};
 ghost use Rattle.std.specs.Ordering.{nat_cmp};
 ghost use Rattle.std.specs.FinMap as map;
 ghost use Rattle.std.specs.Map.{keys_of};
@@ -11,27 +11,23 @@ ghost use Rattle.mark_set.specs.Markers.{durable_marks, is_durable};
 use crate::NoMemory;
 use crate::delta::MarkerDelta;
 use crate::marker::Marker;
-use crate::text::MarkText;
 use indexmap::IndexMap;
 use std::alloc::Global;
 use std::collections::BTreeMap;
 
 /// The ids in order.
-pub fn ids_of(alloc: Global, markers: &IndexMap<u64, Marker>) -> Result<Vec<u64>, NoMemory>
-    ensures { IfOk result (λ ids. ids.items ≡ map.keys (map.from_entries {R = nat_cmp} markers.now.entries)) }
-{
-    let found = found_ids(alloc, markers)?;
-    collect_ids(alloc, found)
-}
-
-fn collect_ids(alloc: Global, found: BTreeMap<u64, ()>) -> Result<Vec<u64>, NoMemory>
+pub fn collect_ids(alloc: Global, found: BTreeMap<u64, ()>) -> Result<Vec<u64>, NoMemory>
     ensures { IfOk result (λ ids. ids.items ≡ map.keys (map.from_entries {R = nat_cmp} found.entries)) }
 {
     let keys = found.into_keys();
     keys.collect(alloc)
 }
 
-fn found_ids(alloc: Global, markers: &IndexMap<u64, Marker>) -> Result<BTreeMap<u64, ()>, NoMemory>
+/// The ids of these markers.
+pub fn found_ids(
+    alloc: Global,
+    markers: &IndexMap<u64, Marker>,
+) -> Result<BTreeMap<u64, ()>, NoMemory>
     ensures { IfOk result (λ found. (id : ℕ) → map.get (map.from_entries {R = nat_cmp} found.entries) id
         ≡ option_map (λ _. tt) (map.get (map.from_entries {R = nat_cmp} markers.now.entries) id)) }
 {
@@ -52,28 +48,21 @@ pub fn durable_of(
 ) -> Result<IndexMap<u64, Marker>, NoMemory>
     ensures { IfOk result (λ kept. map.from_entries {R = nat_cmp} kept.entries ≡ durable_marks (map.from_entries markers.now.entries)) }
 {
-    let transient = MarkText::copy_of(alloc, "transient")?;
     let mut kept = IndexMap::new(alloc);
     for i in 0..markers.len() {
         let Some((id, marker)) = markers.get_index(i) else {
             unreachable!()
         };
-        keep(&mut kept, *id, marker, &transient)?;
+        keep(&mut kept, *id, marker)?;
     }
     Ok(kept)
 }
 
-fn keep(
-    kept: &mut IndexMap<u64, Marker>,
-    id: u64,
-    marker: &Marker,
-    transient: &MarkText,
-) -> Result<(), NoMemory>
-    requires { transient.now ≡ codes "transient" }
+fn keep(kept: &mut IndexMap<u64, Marker>, id: u64, marker: &Marker) -> Result<(), NoMemory>
     ensures { OnOk result (map.from_entries {R = nat_cmp} kept.new.entries
         ≡ with_some (map.from_entries kept.old.entries) id (if is_durable (Some marker.now) then Some marker.now else None)) }
 {
-    if marker.is_transient(transient) {
+    if marker.is_transient() {
         Ok(())
     } else {
         kept.insert(id, marker.copy()?)?;

@@ -8,8 +8,9 @@ use Rattle.ws_wire.specs.Fields.{Input}
 use Rattle.save_form.specs.declared.stop.Stop.{Stop}
 use Rattle.save_form.specs.declared.stop.Stop.TheVariants.{Bad}
 use Rattle.save_form.specs.declared.stop.Stuck.{Stuck}
+use Rattle.save_form.specs.declared.stop.Stuck.TheVariants.{At, Memory}
 use Rattle.save_form.specs.Forms.{Reading, Form, ended, read_all}
-use Rattle.save_form.specs.Gives.{GivesAll}
+use Rattle.save_form.specs.Gives.{GivesAll, Fails}
 use Rattle.save_form.specs.Laws.{Lawful, place, cut, StopsFirst, IsFirst}
 use Rattle.save_form.proofs.Steps.{ok_is, err_is, never_both, test_ok}
 use Rattle.save_form.proofs.Stops.{ok_cut, ok_longer, test_stop}
@@ -99,3 +100,20 @@ all_first {A = A} fits f l sf bytes s e =
             ap ended read ∙ rw left (ap (λ (u : Stop). Err u) (sym p.3 ∙ is))
       ];
     }
+
+-- ---- the same of a call that reads all the bytes
+
+-- no other value's spelling begins with the bytes of one
+pub none_longer : {A : Type 0} (fits : A → Type 0) (f : Form A) → Lawful fits f → (bytes : List ℕ) (r : Result A Stuck) → GivesAll r (read_all f bytes) → IfOk r (λ a. (b : A) (rest : List ℕ) → fits b → f.spell b ≡ bytes ++ rest → b ≡ a)
+none_longer fits f l bytes (Ok a) given = λ b rest fit same.
+    let is = all_found fits f l bytes a given in
+    sym (no_prefix fits f l a b rest is.0 fit (same ∙ ap (λ (x : List ℕ). x ++ rest) is.1)).0
+none_longer fits f l bytes (Err stuck) given = tt
+
+stuck_at : {A : Type 0} (stuck : Stuck) (stop : Stop) (reading : Result A Stop) → Fails stuck reading → stuck ≡ At stop → reading ≡ Err stop
+stuck_at (At s) stop reading fails e = let same : s ≡ stop = cc in fails ∙ ap (λ (x : Stop). Err x) same
+stuck_at Memory stop reading fails e = absurd cc
+
+pub is_first : {A : Type 0} (fits : A → Type 0) (f : Form A) → Lawful fits f → StopsFirst f → (bytes : List ℕ) (r : Result A Stuck) → GivesAll r (read_all f bytes) → (stop : Stop) → r ≡ Err (At stop) → IsFirst f bytes stop
+is_first fits f l sf bytes (Ok a) given stop is = absurd cc
+is_first fits f l sf bytes (Err stuck) given stop is = let same : stuck ≡ At stop = cc in all_first fits f l sf bytes stop (stuck_at stuck stop (read_all f bytes) given same)

@@ -46,6 +46,13 @@ impl<'a> In<'a> {
         self.at
     }
 
+    /// The bytes that remain.
+    pub fn rest(&self) -> &'a [u8]
+        ensures { result.now ≡ self.now.left }
+    {
+        self.left
+    }
+
     /// How many bytes remain.
     pub fn len(&self) -> usize
         ensures { result ≡ length self.now.left }

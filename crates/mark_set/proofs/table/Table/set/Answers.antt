@@ -8,6 +8,7 @@ use Rattle.mark_set.specs.Markers.{IsMarker}
 use Rattle.mark_set.specs.declared.marker.Marker.{Marker}
 use Rattle.mark_set.proofs.Ids.{get_is, one_put, insert_same, there, onto_ok, onto_err}
 use Rattle.mark_set.proofs.Maps.{all_put}
+use Rattle.mark_set.proofs.Orders.{ids_changed}
 use Rattle.mark_set.proofs.table.Table.set.Goals as goal
 
 pub unreachable-requires : goal.unreachable-requires
@@ -21,10 +22,10 @@ invariant_of-self c =
     let new : Marker = record old { attrs = c.put_attribute.new.attrs } in
     let here : get (from_entries {R = nat_cmp} es) id ≡ Some old = get_is es id ∙ sym c.in-Some.ensures.value in
     let some : IsSome (lookup (nat_eq id) es) = rw (← c.in-Some.ensures.value) refl in
-    let was : IsMarker id old = there (from_entries es) id old here IsMarker c.self.invariant in
+    let was : IsMarker id old = there (from_entries es) id old here IsMarker c.self.invariant.0 in
     let is : IsMarker id new = record { own = was.own; named = was.named; attributes = c.put_attribute.ensures.form was.attributes } in
     rw (one_put es (c.get_mut.follows.lender new).entries id new ((c.get_mut.follows.holds new).3 some).0)
-    (all_put nat_cmp_total nat_cmp-IsAntisymmetric IsMarker (from_entries es) id new c.self.invariant is)
+    (all_put nat_cmp_total nat_cmp-IsAntisymmetric IsMarker (from_entries es) id new c.self.invariant.0 is, ids_changed (from_entries c.self.inside.ids.entries) (from_entries es) id old new here c.self.invariant.1)
 
 pub returns-clause-ok : goal.returns-clause-ok
 returns-clause-ok c =

@@ -1,0 +1,5 @@
+pub mod Elems
+pub mod Fits
+pub mod Inside
+pub mod Sound
+pub mod Telling

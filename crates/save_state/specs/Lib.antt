@@ -1,0 +1,5 @@
+pub mod Changed
+pub mod Entries
+pub mod Fits
+pub mod Paths
+pub mod States
