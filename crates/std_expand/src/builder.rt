@@ -6,6 +6,7 @@ ghost use Rattle.std_kit.specs.Roots.{rooted};
 ghost use Rattle.std_expand.specs.Expand.{with_roots};
 
 use crate::expanding::expand_roots;
+use crate::kept::Kept;
 use builder_api::{BuildFault, Builder, Edits, Handed};
 use proj_desc::Command;
 use res_path::NoMemory;
@@ -18,11 +19,22 @@ use std::alloc::Global;
 /// file is, with the problem `shadowed`.
 ///
 /// It never fails. Its edits put and remove only files that differ. Costs one pass over the inputs, and a search for
-/// each line that includes a file.
+/// each line that includes a file. How a file is cut at such lines is kept by its contents until `clean`.
 #[derive(Drop)]
 pub struct Expand {
-    /// Where it takes its memory.
-    pub alloc: Global,
+    // where it takes its memory
+    alloc: Global,
+    kept: Kept,
+}
+
+impl Expand {
+    /// The builder, which takes its memory there, and has kept nothing yet. It takes no memory.
+    pub fn new(alloc: Global) -> Expand {
+        Expand {
+            alloc,
+            kept: Kept::nothing(alloc),
+        }
+    }
 }
 
 impl Builder for Expand {
@@ -36,17 +48,19 @@ impl Builder for Expand {
     }
 
     fn build(&mut self, _command: &Command, handed: &Handed) -> Result<Edits, BuildFault> {
-        Ok(edits_of(self.alloc, handed)?)
+        Ok(edits_of(self.alloc, &mut self.kept, handed)?)
     }
 
-    fn clean(&mut self) {}
+    fn clean(&mut self) {
+        self.kept.clear();
+    }
 }
 
 /// What it answers.
-fn edits_of(alloc: Global, handed: &Handed) -> Result<Edits, NoMemory>
+fn edits_of(alloc: Global, kept: &mut Kept, handed: &Handed) -> Result<Edits, NoMemory>
     ensures files { IfOk result (λ edits. AreChanges handed.now.output handed.now.view (with_roots nothing_made (rooted handed.now.inputs handed.now.view)).files edits.files) }
     ensures problems { IfOk result (λ edits. edits.problems ≡ (with_roots nothing_made (rooted handed.now.inputs handed.now.view)).problems) }
 {
-    let made = expand_roots(alloc, handed.inputs.as_slice(), &handed.view)?;
+    let made = expand_roots(alloc, kept, handed.inputs.as_slice(), &handed.view)?;
     made.into_edits(alloc, &handed.output, &handed.view)
 }
