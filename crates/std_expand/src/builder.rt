@@ -1,9 +1,13 @@
 //! The builder.
-ghost use Rattle.std.specs.Prelude.{◌≡◌, IfOk};
+ghost use Rattle.std.specs.Prelude.{◌≡◌, ◌≢◌, Err, IfOk};
+ghost use Rattle.builder_api.specs.declared.builder.BuildFault.TheVariants.{Failed};
+ghost use Rattle.builder_api.specs.Lawful.{Does};
+ghost use Rattle.builder_api.specs.Tasks.{task_of, inputs_of};
+ghost use Rattle.builder_api.specs.Told.{Built, WasCalled};
 ghost use Rattle.std_kit.specs.Changes.{AreChanges};
 ghost use Rattle.std_kit.specs.Making.{nothing_made};
 ghost use Rattle.std_kit.specs.Roots.{rooted};
-ghost use Rattle.std_expand.specs.Expand.{with_roots};
+ghost use Rattle.std_expand.specs.Expand.{with_roots, expand, expand_told};
 
 use crate::expanding::expand_roots;
 use crate::kept::Kept;
@@ -38,16 +42,21 @@ impl Expand {
 }
 
 impl Builder for Expand {
-    ghost use Rattle.std.specs.Prelude.{Some, None, codes};
-    ghost use Rattle.std_expand.specs.Expand.{expand};
+    ghost use Rattle.std_expand.specs.Expand.{expand_told};
 
-    ghost tells = { λ b. record { named = codes "expand"; means = Some expand; calls = None; faults = 0 } };
+    ghost tells = { λ b. expand_told };
 
     fn name(&self) -> &str {
         "expand"
     }
 
-    fn build(&mut self, _command: &Command, handed: &Handed) -> Result<Edits, BuildFault> {
+    fn build(&mut self, command: &Command, handed: &Handed) -> Result<Edits, BuildFault>
+        ensures lawful { IfOk result (λ edits. Does expand command.now handed.now edits) }
+        ensures called { WasCalled (Built command.now handed.now) expand_told expand_told }
+        ensures changes { IfOk result (λ edits. let c = task_of command.now handed.now in AreChanges c.output handed.now.view (expand c (inputs_of c handed.now.view)).files edits.files) }
+        ensures problems { IfOk result (λ edits. let c = task_of command.now handed.now in edits.problems ≡ (expand c (inputs_of c handed.now.view)).problems) }
+        ensures fails { result ≢ Err Failed }
+    {
         Ok(edits_of(self.alloc, &mut self.kept, handed)?)
     }
 
