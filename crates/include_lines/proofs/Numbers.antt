@@ -1,10 +1,9 @@
 -- Lines by their numbers.
-use Rattle.std.proofs.Common.{◌≡◌, ℕ, ◌+◌, List, [], ◌∷◌, ◌++◌, Option, Some, None, refl, sym, ap, ◌∙◌, append_assoc, arith}
+use Rattle.std.proofs.Common.{◌≡◌, ℕ, ◌+◌, List, [], ◌∷◌, ◌++◌, Option, Some, None, refl, arith}
 use Rattle.std.specs.Prelude.{pos, min}
-use Rattle.include_lines.specs.declared.expanding.Missing.{Missing}
-use Rattle.include_lines.specs.Lines.{lines_of, include_name}
+use Rattle.include_lines.specs.Lines.{include_name}
 use Rattle.include_lines.specs.Messages.{message}
-use Rattle.include_lines.specs.Expanding.{Files, expanded, replaced, told, missing_by, missing_among, missing}
+use Rattle.include_lines.specs.Expanding.{Files, told, missing_by, missing_among}
 
 told_same : (n m : ℕ) (name : List ℕ) (found : Option (List ℕ)) → min n 2147483647 ≡ min m 2147483647 → told n name found ≡ told m name found
 told_same n m name (Some bytes) same = refl

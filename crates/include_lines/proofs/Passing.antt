@@ -1,11 +1,11 @@
 -- Lines that are passed.
-use Rattle.std.proofs.Common.{◌≡◌, ℕ, zero, suc, ◌+◌, ◌<◌, ◌≤◌, List, [], ◌∷◌, ◌++◌, Option, Some, None, length, take, drop, refl, sym, ap, ◌∙◌, arith, append_assoc, append-nil, length-append}
+use Rattle.std.proofs.Common.{◌≡◌, ℕ, zero, suc, ◌+◌, ◌≤◌, List, [], ◌∷◌, ◌++◌, Option, Some, None, length, take, drop, refl, sym, ap, ◌∙◌, arith, append_assoc, append-nil, length-append}
 use Rattle.std.specs.List.{flat_map}
 use Rattle.std.specs.Option.{unwrap_or}
 use Rattle.std.proofs.lemmas.List.{length-take-le, take-append-drop, take_at, drop_at, take_all}
 use Rattle.include_lines.specs.declared.cutting.Part.{Part}
 use Rattle.include_lines.specs.declared.expanding.Missing.{Missing}
-use Rattle.include_lines.specs.declared.cutting.Part.TheVariants.{Text, Include}
+use Rattle.include_lines.specs.declared.cutting.Part.TheVariants.{Include}
 use Rattle.include_lines.specs.Lines.{lines_of, include_name}
 use Rattle.include_lines.specs.Expanding.{Files, expanded, replaced, told, missing_by, missing_among, missing}
 use Rattle.include_lines.specs.Cutting.{part_bytes, part_missing}
@@ -14,8 +14,7 @@ use Rattle.include_lines.specs.Cutting.{part_bytes, part_missing}
 pub cut_more : (left line others : List ℕ) (n : ℕ) → n ≤ length left → drop n left ≡ line ++ others → (take (n + length line) left ≡ take n left ++ line) × (drop (n + length line) left ≡ others)
 cut_more left line others n within tail =
     let all : left ≡ (take n left ++ line) ++ others = sym (take-append-drop n left) ∙ ap (λ xs. take n left ++ xs) tail ∙ sym (append_assoc (take n left) line others) in
-    let size : length (take n left ++ line) ≡ n + length line = length-append (take n left) line ∙ ap (λ k. k + length line) (length-take-le n left within) in
-    (
+    let size : length (take n left ++ line) ≡ n + length line = length-append (take n left) line ∙ ap (λ k. k + length line) (length-take-le n left within) in (
       ap (take (n + length line)) all ∙ take_at (take n left ++ line) others (n + length line) size,
       ap (drop (n + length line)) all ∙ drop_at (take n left ++ line) others (n + length line) size,
     )
@@ -64,7 +63,7 @@ included_whole old mid new left middle rest line others name n number tail lines
     let before = flat_map (part_bytes files) old in
     ap (λ xs. xs ++ expanded files rest) (append-nil (flat_map (part_bytes files) new))
     ∙ (λ i. (ap (flat_map (part_bytes files)) part ∙ one_more (part_bytes files) mid (Include (record { number = number; name = name })) ∙ ap (λ xs. xs ++ file) (text files)) i
-      ++ expanded files (rest_is left middle rest line others n tail middle_is after i))
+    ++ expanded files (rest_is left middle rest line others n tail middle_is after i))
     ∙ append_assoc (before ++ take n left) file (expanded files others)
     ∙ ap (λ xs. before ++ take n left ++ xs) (sym (line_first files (drop n left) line others (Some name) lines is))
 
@@ -76,7 +75,7 @@ included_told old mid new left middle rest line others name n number tail lines 
     let lost = told number name (files name) in
     let before = flat_map (part_missing files) old in
     (λ i. (ap (flat_map (part_missing files)) part ∙ one_more (part_missing files) mid (Include (record { number = number; name = name })) ∙ ap (λ xs. xs ++ lost) (text files)) i
-      ++ missing files (number + 1) (rest_is left middle rest line others n tail middle_is after i))
+    ++ missing files (number + 1) (rest_is left middle rest line others n tail middle_is after i))
     ∙ append_assoc before lost (missing files (number + 1) others)
     ∙ ap (λ xs. before ++ xs) (sym (told_first files number (drop n left) line others (Some name) lines is))
 

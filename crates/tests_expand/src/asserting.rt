@@ -1,0 +1,17 @@
+//! The assertions. None has a clause, so that a test carries nothing of them.
+use std::process::Abort;
+
+pub fn holds(rt: &impl Abort, is: bool) {
+    assert!(rt; is);
+}
+
+pub fn must<T: Drop, E: Drop>(rt: &impl Abort, it: Result<T, E>) -> T {
+    match it {
+        Ok(value) => value,
+        Err(_) => panic!(rt; "memory"),
+    }
+}
+
+pub fn same(rt: &impl Abort, one: &str, other: &str) {
+    assert_eq!(rt; one, other);
+}
