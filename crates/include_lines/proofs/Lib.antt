@@ -1,3 +1,4 @@
 pub mod Cut
+pub mod Passing
 pub mod Numbers
 pub mod Shown

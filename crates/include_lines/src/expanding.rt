@@ -1,13 +1,14 @@
 //! A file with the files that its lines include.
 ghost use Rattle.std.specs.Prelude.{◌≡◌, ◌++◌, [], IfOk, OnOk};
+ghost use Rattle.std.specs.List.{flat_map};
 ghost use Rattle.std.specs.Option.{option_map, unwrap_or};
-ghost use Rattle.include_lines.specs.Lines.{include_name};
-ghost use Rattle.include_lines.specs.Expanding.{Files, expanded, replaced, line_number, missing, missing_by, told};
+ghost use Rattle.include_lines.specs.Expanding.{Files, line_number, told};
+ghost use Rattle.include_lines.specs.Cutting.{part_bytes, part_missing};
 
-use crate::NoMemory;
-use crate::lines::{first_line, include_name};
+use crate::cutting::{CutFile, IncludeLine, Part};
 use crate::message::message;
-use mark_set::MarkText;
+use bytes::Bytes;
+use mark_set::{MarkText, NoMemory};
 use std::alloc::Global;
 
 /// The files that lines may include, by the names that stand in those lines.
@@ -32,78 +33,93 @@ pub struct Missing {
 /// What becomes of a file.
 #[derive(Drop)]
 pub struct Expanded {
-    pub bytes: Vec<u8>,
+    pub bytes: Bytes,
     /// The lines that include files that aren't there, in order.
     pub missing: Vec<Missing>,
 }
 
-/// The bytes in which each line `@include NAME` is replaced, its line feed included, by the bytes of the file of that
-/// name, as they are. A line for which there is no file is left out, and told. The first line has the number `first`,
-/// which is 1 for a whole file. Costs one pass over the bytes, and a search for each such line.
-pub fn expand<F: Included>(
-    alloc: Global,
-    files: &F,
-    bytes: &[u8],
-    first: u64,
-) -> Result<Expanded, NoMemory>
-    ensures bytes { IfOk result (λ e. e.bytes.items ≡ expanded (F.files files.now) bytes.now) }
-    ensures missing { IfOk result (λ e. e.missing.items ≡ missing (F.files files.now) first bytes.now) }
+/// What becomes of a file, so far.
+#[derive(Drop)]
+struct Making {
+    bytes: Vec<u8>,
+    missing: Vec<Missing>,
+}
+
+impl CutFile {
+    /// The file with each line that includes another, its line feed included, replaced by the bytes of that file, as
+    /// they are. A line for which there is no file is left out, and told. A file without such lines shares its bytes.
+    /// Costs one pass over what it gives, and a search for each such line.
+    pub fn expand<F: Included>(&self, alloc: Global, files: &F) -> Result<Expanded, NoMemory>
+        ensures bytes { IfOk result (λ e. e.bytes ≡ flat_map (part_bytes (F.files files.now)) self.now) }
+        ensures missing { IfOk result (λ e. e.missing.items ≡ flat_map (part_missing (F.files files.now)) self.now) }
+    {
+        if let [Part::Text(bytes)] = self.parts() {
+            return Ok(Expanded {
+                bytes: bytes.clone()?,
+                missing: Vec::new(alloc),
+            });
+        }
+        let Making { bytes, missing } = put_parts(alloc, files, self.parts())?;
+        Ok(Expanded {
+            bytes: Bytes::from_vec(bytes)?,
+            missing,
+        })
+    }
+}
+
+/// What the parts come to.
+fn put_parts<F: Included>(alloc: Global, files: &F, parts: &[Part]) -> Result<Making, NoMemory>
+    ensures bytes { IfOk result (λ made. made.bytes.items ≡ flat_map (part_bytes (F.files files.now)) parts.now) }
+    ensures missing { IfOk result (λ made. made.missing.items ≡ flat_map (part_missing (F.files files.now)) parts.now) }
 {
-    let mut made = Expanded {
+    let mut made = Making {
         bytes: Vec::new(alloc),
         missing: Vec::new(alloc),
     };
-    let mut rest = bytes;
-    let mut number = first;
-    while !rest.is_empty() {
-        let (line, others) = first_line(rest);
-        put_line(alloc, files, &mut made, line, number)?;
-        rest = others;
-        number = number.saturating_add(1);
+    for part in parts {
+        put_part(alloc, files, &mut made, part)?;
     }
     Ok(made)
 }
 
-/// Adds what stands in the line's place.
-fn put_line<F: Included>(
+/// Adds what a part comes to.
+fn put_part<F: Included>(
     alloc: Global,
     files: &F,
-    made: &mut Expanded,
-    line: &[u8],
-    number: u64,
+    made: &mut Making,
+    part: &Part,
 ) -> Result<(), NoMemory>
-    ensures bytes { OnOk result (made.new.bytes.items ≡ made.old.bytes.items ++ replaced (F.files files.now) line.now (include_name line.now)) }
-    ensures missing { OnOk result (made.new.missing.items ≡ made.old.missing.items ++ missing_by (F.files files.now) number (include_name line.now)) }
+    ensures bytes { OnOk result (made.new.bytes.items ≡ made.old.bytes.items ++ part_bytes (F.files files.now) part.now) }
+    ensures missing { OnOk result (made.new.missing.items ≡ made.old.missing.items ++ part_missing (F.files files.now) part.now) }
 {
-    match include_name(line) {
-        None => {
-            made.bytes.extend_from_slice(line)?;
+    match part {
+        Part::Text(bytes) => {
+            made.bytes.extend_from_slice(bytes.as_slice())?;
             Ok(())
         }
-        Some(name) => put_included(alloc, files, made, name, number),
+        Part::Include(line) => put_included(alloc, files, made, line),
     }
 }
 
-/// Adds the bytes of the file of this name, or that it isn't there.
+/// Adds the bytes of the file that the line includes, or that it isn't there.
 fn put_included<F: Included>(
     alloc: Global,
     files: &F,
-    made: &mut Expanded,
-    name: &[u8],
-    number: u64,
+    made: &mut Making,
+    line: &IncludeLine,
 ) -> Result<(), NoMemory>
-    ensures bytes { OnOk result (made.new.bytes.items ≡ made.old.bytes.items ++ unwrap_or (F.files files.now name.now) []) }
-    ensures missing { OnOk result (made.new.missing.items ≡ made.old.missing.items ++ told number name.now (F.files files.now name.now)) }
+    ensures bytes { OnOk result (made.new.bytes.items ≡ made.old.bytes.items ++ unwrap_or (F.files files.now line.now.name) []) }
+    ensures missing { OnOk result (made.new.missing.items ≡ made.old.missing.items ++ told line.now.number line.now.name (F.files files.now line.now.name)) }
 {
-    match files.find(name)? {
+    match files.find(line.name.as_slice())? {
         Some(bytes) => {
             made.bytes.extend_from_slice(bytes)?;
             Ok(())
         }
         None => {
-            let message = message(alloc, name)?;
+            let message = message(alloc, line.name.as_slice())?;
             made.missing.push(Missing {
-                line: line_number(number),
+                line: line_number(line.number),
                 message,
             })?;
             Ok(())

@@ -23,6 +23,6 @@ copied roots = fold with_root nothing_made roots
 abbrev pub copy : Meaning
 copy c i = copied (rooted c.inputs i)
 
--- what the builder tells: it is never told how it was called, and never fails
+-- what the builder tells of itself: its name and meaning, not its calls, and that it never failed
 abbrev pub copy_told : Told
 copy_told = record { named = codes "copy"; means = Some copy; calls = None; faults = 0 }

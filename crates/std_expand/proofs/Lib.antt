@@ -1,3 +1,4 @@
 pub mod Finding
+pub mod KeptFiles
 pub mod Making
 pub mod Sound

@@ -1,11 +1,15 @@
 -- `expand` is a meaning, and its builder is lawful.
-use Rattle.std.proofs.Common.{◌≡◌, ℕ, Bool, true, false, cond, List, [], ◌∷◌, ◌++◌, map, refl, sym, ap}
+use Rattle.std.proofs.Common.{◌≡◌, ℕ, Bool, true, false, cond, List, [], ◌∷◌, ◌++◌, map, refl, sym, ap, ◌∙◌, subst}
 use Rattle.std.specs.Prelude.{Option, Some, None}
 use Rattle.std.specs.FinMap.{insert}
 use Rattle.res_path.specs.Paths.{Names}
 use Rattle.proj_desc.specs.declared.command.Command.{Command}
 use Rattle.builder_api.specs.declared.handed.Handed.{Handed}
 use Rattle.builder_api.specs.declared.edits.Edits.{Edits}
+use Rattle.builder_api.specs.declared.edits.Problem.{Problem}
+use Rattle.builder_api.specs.Edits.{Edit}
+use Rattle.builder_api.specs.Files.{Files}
+use Rattle.builder_api.specs.Tasks.{Task, task_of, inputs_of}
 use Rattle.builder_api.specs.Meanings.{Made, IsMeaning}
 use Rattle.builder_api.specs.Lawful.{Does}
 use Rattle.include_lines.specs.declared.expanding.Missing.{Missing}
@@ -44,6 +48,17 @@ roots_made m (root ∷ roots) made = roots_made (with_sources (file_named root.0
 pub expand_sound : IsMeaning expand
 expand_sound = meaning_of expand (λ c f. roots_made nothing_made (rooted c.inputs f) empty_made)
 
+-- what it makes of the view's inputs is what it makes of the view
+seen : (c : Task) (view : Files) → with_roots nothing_made (rooted c.inputs view) ≡ expand c (inputs_of c view)
+seen c view = ap (with_roots nothing_made) (sym (rooted_in c.inputs view))
+
+pub changes : (command : Command) (h : Handed) (edits : List Edit) → AreChanges h.output h.view (with_roots nothing_made (rooted h.inputs h.view)).files edits
+    → AreChanges h.output h.view (expand (task_of command h) (inputs_of (task_of command h) h.view)).files edits
+changes command h edits are = subst (λ m. AreChanges h.output h.view m.files edits) (seen (task_of command h) h.view) are
+
+pub problems : (command : Command) (h : Handed) (told : List Problem) → told ≡ (with_roots nothing_made (rooted h.inputs h.view)).problems → told ≡ (expand (task_of command h) (inputs_of (task_of command h) h.view)).problems
+problems command h told same = same ∙ ap (λ m. m.problems) (seen (task_of command h) h.view)
+
 pub does : (command : Command) (h : Handed) (e : Edits) → AreChanges h.output h.view (with_roots nothing_made (rooted h.inputs h.view)).files e.files
     → e.problems ≡ (with_roots nothing_made (rooted h.inputs h.view)).problems → Does expand command h e
-does command h e are same = does_made expand command h e (with_roots nothing_made (rooted h.inputs h.view)) (ap (with_roots nothing_made) (sym (rooted_in h.inputs h.view))) are same
+does command h e are same = does_made expand command h e (with_roots nothing_made (rooted h.inputs h.view)) (seen (task_of command h) h.view) are same

@@ -1,10 +1,11 @@
 -- The builder `expand`.
-use Rattle.std.specs.Prelude.{ℕ, pos, if◌then◌else◌, List, [], ◌∷◌, ◌++◌, map, drop, Option, Some, None}
+use Rattle.std.specs.Prelude.{ℕ, pos, if◌then◌else◌, List, [], ◌∷◌, ◌++◌, map, drop, codes, Option, Some, None}
 use Rattle.std.specs.FinMap.{insert}
 use Rattle.std.specs.Str.{bytes_eq}
 use Rattle.res_path.specs.Paths.{Names, parent, path_text}
 use Rattle.builder_api.specs.declared.edits.Problem.{Problem}
 use Rattle.builder_api.specs.Meanings.{Made, Meaning}
+use Rattle.builder_api.specs.Told.{Told}
 use Rattle.include_lines.specs.declared.expanding.Missing.{Missing}
 use Rattle.include_lines.specs.Expanding.{expanded, missing}
 use Rattle.std_kit.specs.Making.{nothing_made, shadowed, with_problem}
@@ -50,3 +51,7 @@ with_roots m (root ∷ roots) = with_roots (with_sources (file_named root.0 root
 -- what `expand` makes of input files
 abbrev pub expand : Meaning
 expand c i = with_roots nothing_made (rooted c.inputs i)
+
+-- what the builder tells: it isn't told how it was called, and never fails
+abbrev pub expand_told : Told
+expand_told = record { named = codes "expand"; means = Some expand; calls = None; faults = 0 }

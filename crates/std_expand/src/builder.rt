@@ -1,11 +1,16 @@
 //! The builder.
-ghost use Rattle.std.specs.Prelude.{◌≡◌, IfOk};
+ghost use Rattle.std.specs.Prelude.{◌≡◌, ◌≢◌, Err, IfOk};
+ghost use Rattle.builder_api.specs.declared.builder.BuildFault.TheVariants.{Failed};
+ghost use Rattle.builder_api.specs.Lawful.{Does};
+ghost use Rattle.builder_api.specs.Tasks.{task_of, inputs_of};
+ghost use Rattle.builder_api.specs.Told.{Built, WasCalled};
 ghost use Rattle.std_kit.specs.Changes.{AreChanges};
 ghost use Rattle.std_kit.specs.Making.{nothing_made};
 ghost use Rattle.std_kit.specs.Roots.{rooted};
-ghost use Rattle.std_expand.specs.Expand.{with_roots};
+ghost use Rattle.std_expand.specs.Expand.{with_roots, expand, expand_told};
 
 use crate::expanding::expand_roots;
+use crate::kept::Kept;
 use builder_api::{BuildFault, Builder, Edits, Handed};
 use proj_desc::Command;
 use res_path::NoMemory;
@@ -18,35 +23,53 @@ use std::alloc::Global;
 /// file is, with the problem `shadowed`.
 ///
 /// It never fails. Its edits put and remove only files that differ. Costs one pass over the inputs, and a search for
-/// each line that includes a file.
+/// each line that includes a file. How a file is cut at such lines is kept by its contents until `clean`.
 #[derive(Drop)]
 pub struct Expand {
-    /// Where it takes its memory.
-    pub alloc: Global,
+    // where it takes its memory
+    alloc: Global,
+    kept: Kept,
+}
+
+impl Expand {
+    /// The builder, which takes its memory there, and has kept nothing yet. It takes no memory.
+    pub fn new(alloc: Global) -> Expand {
+        Expand {
+            alloc,
+            kept: Kept::nothing(alloc),
+        }
+    }
 }
 
 impl Builder for Expand {
-    ghost use Rattle.std.specs.Prelude.{Some, None, codes};
-    ghost use Rattle.std_expand.specs.Expand.{expand};
+    ghost use Rattle.std_expand.specs.Expand.{expand_told};
 
-    ghost tells = { λ b. record { named = codes "expand"; means = Some expand; calls = None; faults = 0 } };
+    ghost tells = { λ b. expand_told };
 
     fn name(&self) -> &str {
         "expand"
     }
 
-    fn build(&mut self, _command: &Command, handed: &Handed) -> Result<Edits, BuildFault> {
-        Ok(edits_of(self.alloc, handed)?)
+    fn build(&mut self, command: &Command, handed: &Handed) -> Result<Edits, BuildFault>
+        ensures lawful { IfOk result (λ edits. Does expand command.now handed.now edits) }
+        ensures called { WasCalled (Built command.now handed.now) expand_told expand_told }
+        ensures changes { IfOk result (λ edits. let c = task_of command.now handed.now in AreChanges c.output handed.now.view (expand c (inputs_of c handed.now.view)).files edits.files) }
+        ensures problems { IfOk result (λ edits. let c = task_of command.now handed.now in edits.problems ≡ (expand c (inputs_of c handed.now.view)).problems) }
+        ensures fails { result ≢ Err Failed }
+    {
+        Ok(edits_of(self.alloc, &mut self.kept, handed)?)
     }
 
-    fn clean(&mut self) {}
+    fn clean(&mut self) {
+        self.kept.clear();
+    }
 }
 
 /// What it answers.
-fn edits_of(alloc: Global, handed: &Handed) -> Result<Edits, NoMemory>
+fn edits_of(alloc: Global, kept: &mut Kept, handed: &Handed) -> Result<Edits, NoMemory>
     ensures files { IfOk result (λ edits. AreChanges handed.now.output handed.now.view (with_roots nothing_made (rooted handed.now.inputs handed.now.view)).files edits.files) }
     ensures problems { IfOk result (λ edits. edits.problems ≡ (with_roots nothing_made (rooted handed.now.inputs handed.now.view)).problems) }
 {
-    let made = expand_roots(alloc, handed.inputs.as_slice(), &handed.view)?;
+    let made = expand_roots(alloc, kept, handed.inputs.as_slice(), &handed.view)?;
     made.into_edits(alloc, &handed.output, &handed.view)
 }

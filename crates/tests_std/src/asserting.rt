@@ -11,3 +11,7 @@ pub fn must<T: Drop, E: Drop>(rt: &impl Abort, it: Result<T, E>) -> T {
         Err(_) => panic!(rt; "memory"),
     }
 }
+
+pub fn same(rt: &impl Abort, one: &str, other: &str) {
+    assert_eq!(rt; one, other);
+}

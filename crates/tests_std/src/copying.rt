@@ -2,8 +2,9 @@
 use crate::edits::{put, put_again, put_built, put_edits, put_file};
 use crate::rows::{Row, check_all};
 use crate::views::{OUTPUT, file, files_of, path, paths_of, view_of};
-use builder_api::{Edits, Problems, View};
-use res_path::NoMemory;
+use builder_api::{Edits, FileEdits, Problems, View};
+use bytes::Bytes;
+use res_path::{NoMemory, Path};
 use std::alloc::Global;
 use std_copy::Copy;
 use std_kit::{MadeFiles, Making, changes_to, files_of_root, problem_of, relative};
@@ -53,47 +54,81 @@ made|/a=1 ; |/a=1 /a=2|
 made|; ||/P/o=1 /P/out=2 /P/outs=3 /Q/out/a=4
 tell|; /P/x 7 2 odd, /P/a 7 2 odd, |/P/x /P/a|";
 
-/// The files of a root, at their paths from there.
+/// A file of the root, at its path from there.
+fn put_from(
+    alloc: Global,
+    out: &mut String,
+    root: &Path,
+    file: &(Path, Bytes),
+) -> Result<(), NoMemory> {
+    if !root.is_prefix_of(&file.0) {
+        return put(out, "elsewhere ");
+    }
+    let from = relative(alloc, root, &file.0)?;
+    put_file(out, &from, &file.1)
+}
+
 fn put_root(alloc: Global, out: &mut String, row: &Row<'_>) -> Result<(), NoMemory> {
-    let root = path(alloc, row.paths)?;
     let view = view_of(alloc, files_of(alloc, row.files)?)?;
+    let root = path(alloc, row.paths)?;
     for file in files_of_root(&view, &root) {
-        if root.is_prefix_of(&file.0) {
-            put_file(out, &relative(alloc, &root, &file.0)?, &file.1)?;
-        }
+        put_from(alloc, out, &root, file)?;
     }
     Ok(())
+}
+
+fn place(alloc: Global, made: &mut MadeFiles, word: &str) -> Result<bool, NoMemory> {
+    let (path, bytes) = file(alloc, word)?;
+    made.place(path, bytes)
 }
 
 fn put_placed(alloc: Global, out: &mut String, row: &Row<'_>) -> Result<(), NoMemory> {
     let mut made = MadeFiles::empty(alloc);
     for word in row.paths.split_whitespace() {
-        let (path, bytes) = file(alloc, word)?;
-        let placed = made.place(path, bytes)?;
+        let placed = place(alloc, &mut made, word)?;
         put(out, if placed { "yes " } else { "no " })?;
     }
     Ok(())
 }
 
-fn put_made(alloc: Global, out: &mut String, row: &Row<'_>) -> Result<(), NoMemory> {
+fn made_of(alloc: Global, words: &str) -> Result<MadeFiles, NoMemory> {
     let mut made = MadeFiles::empty(alloc);
-    for word in row.paths.split_whitespace() {
-        let (path, bytes) = file(alloc, word)?;
-        made.place(path, bytes)?;
+    for word in words.split_whitespace() {
+        place(alloc, &mut made, word)?;
     }
+    Ok(made)
+}
+
+fn changes_of(alloc: Global, view: &View, words: &str) -> Result<FileEdits, NoMemory> {
+    let output = path(alloc, OUTPUT)?;
+    let made = made_of(alloc, words)?;
+    changes_to(alloc, &output, view, made)
+}
+
+fn put_made(alloc: Global, out: &mut String, row: &Row<'_>) -> Result<(), NoMemory> {
     let view = view_of(alloc, files_of(alloc, row.files)?)?;
-    let files = changes_to(alloc, &path(alloc, OUTPUT)?, &view, made)?;
+    let files = changes_of(alloc, &view, row.paths)?;
     let problems = Problems::empty(alloc);
     put_edits(alloc, out, &Edits { files, problems })
 }
 
-fn put_problems(alloc: Global, out: &mut String, row: &Row<'_>) -> Result<(), NoMemory> {
+fn tell(alloc: Global, making: &mut Making, location: &Path) -> Result<(), NoMemory> {
+    let problem = problem_of(alloc, location, 7, 2, "odd")?;
+    making.tell(problem)
+}
+
+fn making_of(alloc: Global, locations: &[Path]) -> Result<Making, NoMemory> {
     let mut making = Making::nothing(alloc);
-    for location in paths_of(alloc, row.paths)?.iter() {
-        making.tell(problem_of(alloc, location, 7, 2, "odd")?)?;
+    for location in locations {
+        tell(alloc, &mut making, location)?;
     }
-    let view = View::empty(alloc);
-    let edits = making.into_edits(alloc, &path(alloc, OUTPUT)?, &view)?;
+    Ok(making)
+}
+
+fn put_problems(alloc: Global, out: &mut String, row: &Row<'_>) -> Result<(), NoMemory> {
+    let output = path(alloc, OUTPUT)?;
+    let making = making_of(alloc, paths_of(alloc, row.paths)?.as_slice())?;
+    let edits = making.into_edits(alloc, &output, &View::empty(alloc))?;
     put_edits(alloc, out, &edits)
 }
 

@@ -97,24 +97,36 @@ pub fn put_built(
     put_edits(alloc, out, &edits)
 }
 
-/// Makes an edit below the output.
-fn make(
-    alloc: Global,
-    files: &mut BTreeMap<Path, Bytes>,
-    edit: &(Path, Option<Bytes>),
-) -> Result<(), NoMemory> {
-    let Ok(at) = edit.0.rebase(alloc, &Path::root(), &path(alloc, OUTPUT)?) else {
-        return Err(AllocError);
-    };
-    match &edit.1 {
+/// The path in the workspace of one from the output.
+fn at_output(alloc: Global, from: &Path) -> Result<Path, NoMemory> {
+    let output = path(alloc, OUTPUT)?;
+    match from.rebase(alloc, &Path::root(), &output) {
+        Ok(at) => Ok(at),
+        Err(_) => Err(AllocError),
+    }
+}
+
+fn set(files: &mut BTreeMap<Path, Bytes>, at: Path, bytes: Option<Bytes>) -> Result<(), NoMemory> {
+    match bytes {
         Some(bytes) => {
-            files.insert(at, bytes.clone()?)?;
+            files.insert(at, bytes)?;
         }
         None => {
             files.remove(&at);
         }
     }
     Ok(())
+}
+
+/// Makes an edit below the output.
+fn make(
+    alloc: Global,
+    files: &mut BTreeMap<Path, Bytes>,
+    edit: &(Path, Option<Bytes>),
+) -> Result<(), NoMemory> {
+    let at = at_output(alloc, &edit.0)?;
+    let bytes = edit.1.clone()?;
+    set(files, at, bytes)
 }
 
 /// What the builder answers where its edits were made and it is called once more, after it was cleaned.

@@ -1,18 +1,11 @@
-//! The builder `expand`, and the lines that include files.
-ghost use Rattle.std.specs.Prelude.{None};
-
-use crate::asserting::{holds, must};
-use crate::edits::{put, put_again, put_built};
+//! The builder `expand`.
+use crate::edits::{put_again, put_built};
 use crate::rows::{Row, check_all};
-use crate::views::bytes;
-use include_lines::{Included, expand};
 use res_path::NoMemory;
 use std::alloc::Global;
-use std::process::Abort;
 use std_expand::Expand;
 
-/// `expand` tells what the builder answers for the roots, `expanded again` what it answers once its edits were made. `line` tells
-/// what is told of the last line of a file, whose first line has the number, where there is no other file.
+/// `expand` tells what the builder answers for the roots, `expanded again` what it answers once its edits were made.
 const EXPANSIONS: &str = "expand|; |/P/src|
 expand|/a=x+ ; |/P/src|/P/src/a.in=x+
 expand|/a= ; |/P/src|/P/src/a.in=
@@ -39,71 +32,17 @@ expand|/a=1 ; /P/two/a/b.in 0 1 shadowed, |/P/one /P/two|/P/one/a.in=1 /P/two/a/
 expand|/a=1 ; /P/src/a.in 0 1 shadowed, |/P/src /P/src|/P/src/a.in=1
 expand|/b- ; |/P/src|/P/out/a=1 /P/out/b=2 /P/src/a.in=1
 expand|/a=2 ; |/P/src|/P/out/a=1 /P/src/a.in=@include~b /P/src/b=2
-expanded again|; /P/src/a.in 2 2 missing c, |/P/src|/P/src/a.in=@include~b+@include~c /P/src/b=2
-line|1|1|@include~b
-line|2|1|x+@include~b
-line|2147483647|2147483647|@include~b
-line|2147483647|2147483648|@include~b
-line|2147483647|2147483646|x+y+@include~b";
-
-/// No files.
-struct Nothing;
-
-impl Included for Nothing {
-    ghost files = { λ _ _. None };
-
-    fn find(&self, _name: &[u8]) -> Result<Option<&[u8]>, NoMemory> {
-        Ok(None)
-    }
-}
-
-fn number(text: &str) -> u64 {
-    match text.parse() {
-        Ok(number) => number,
-        Err(_) => 0,
-    }
-}
-
-fn put_line(alloc: Global, out: &mut String, row: &Row<'_>) -> Result<(), NoMemory> {
-    let text = bytes(alloc, row.files)?;
-    let expanded = expand(alloc, &Nothing, text.as_slice(), number(row.paths))?;
-    for missing in &expanded.missing {
-        let line = missing.line;
-        put(out, format!(in alloc; "{line}")?.as_str())?;
-    }
-    Ok(())
-}
+expanded again|; /P/src/a.in 2 2 missing c, |/P/src|/P/src/a.in=@include~b+@include~c /P/src/b=2";
 
 /// What a row's word tells.
 pub fn put_told(alloc: Global, out: &mut String, row: &Row<'_>) -> Result<(), NoMemory> {
     match row.word {
-        "expand" => put_built(alloc, out, &mut Expand { alloc }, row),
-        "expanded again" => put_again(alloc, out, &mut Expand { alloc }, row),
-        _ => put_line(alloc, out, row),
-    }
-}
-
-/// How long the message is of a line that includes a file of a name of 150 letters of two bytes behind the others.
-fn message_len(rt: &(impl Abort + AllocGlobal), others: &str) -> usize {
-    let mut text = must(rt, String::from_str(rt.alloc(), "@include "));
-    must(rt, put(&mut text, others));
-    for _ in 0..150 {
-        must(rt, put(&mut text, "é"));
-    }
-    let expanded = must(rt, expand(rt.alloc(), &Nothing, text.as_bytes(), 1));
-    match expanded.missing.first() {
-        Some(missing) => missing.message.text().len(),
-        None => 0,
+        "expand" => put_built(alloc, out, &mut Expand::new(alloc), row),
+        _ => put_again(alloc, out, &mut Expand::new(alloc), row),
     }
 }
 
 #[test]
 fn expansions_are_what_the_rows_say(rt: HostRuntime) {
     check_all(&rt, EXPANSIONS);
-}
-
-#[test]
-fn a_long_message_is_cut_at_a_letters_end(rt: HostRuntime) {
-    holds(&rt, message_len(&rt, "") == 200);
-    holds(&rt, message_len(&rt, "x") == 199);
 }

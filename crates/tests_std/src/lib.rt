@@ -7,7 +7,9 @@
 //! - `building`: builders in order, called by name.
 //! - `copying`: `copy`, and what the builders share.
 //! - `joining`: `concat`.
-//! - `expanding`: `expand`, and the lines that include files.
+//! - `expanding`: `expand`.
+//! - `lines`: lines that include files.
+//! - `texts`: texts as these are written in rows.
 #![tactic(auto)]
 
 #[cfg(test)]
@@ -23,6 +25,10 @@ mod expanding;
 #[cfg(test)]
 mod joining;
 #[cfg(test)]
+mod lines;
+#[cfg(test)]
 mod rows;
+#[cfg(test)]
+mod texts;
 #[cfg(test)]
 mod views;

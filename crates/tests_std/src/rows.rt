@@ -41,7 +41,7 @@ fn row_of(line: &str) -> Row<'_> {
 fn put_told(alloc: Global, out: &mut String, row: &Row<'_>) -> Result<(), NoMemory> {
     match row.word {
         "concat" | "joined again" => joining::put_told(alloc, out, row),
-        "expand" | "expanded again" | "line" => expanding::put_told(alloc, out, row),
+        "expand" | "expanded again" => expanding::put_told(alloc, out, row),
         _ => copying::put_told(alloc, out, row),
     }
 }
