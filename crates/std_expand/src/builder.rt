@@ -1,9 +1,9 @@
 //! The builder.
-ghost use Rattle.std.specs.Prelude.{◌≡◌, ◌≢◌, Err, IfOk};
+ghost use Rattle.std.specs.Prelude.{◌≡◌, ◌≢◌, [], Err, IfOk};
 ghost use Rattle.builder_api.specs.declared.builder.BuildFault.TheVariants.{Failed};
 ghost use Rattle.builder_api.specs.Lawful.{Does};
 ghost use Rattle.builder_api.specs.Tasks.{task_of, inputs_of};
-ghost use Rattle.builder_api.specs.Told.{Built, WasCalled};
+ghost use Rattle.builder_api.specs.Told.{Built, Cleaned, WasCalled};
 ghost use Rattle.std_kit.specs.Changes.{AreChanges};
 ghost use Rattle.std_kit.specs.Making.{nothing_made};
 ghost use Rattle.std_kit.specs.Roots.{rooted};
@@ -15,6 +15,7 @@ use builder_api::{BuildFault, Builder, Edits, Handed};
 use proj_desc::Command;
 use res_path::NoMemory;
 use std::alloc::Global;
+use std::marker::Model;
 
 /// The builder `expand`. Of each input's files whose last name ends with `.in`, and is a name without it too, it makes
 /// one at the same path without `.in`, in which each line `@include NAME` is replaced by the bytes of the file of the
@@ -23,7 +24,8 @@ use std::alloc::Global;
 /// file is, with the problem `shadowed`.
 ///
 /// It never fails. Its edits put and remove only files that differ. Costs one pass over the inputs, and a search for
-/// each line that includes a file. How a file is cut at such lines is kept by its contents until `clean`.
+/// each line that includes a file. How a file is cut at such lines is kept by its contents until `clean`. A contract
+/// sees the list of these contents.
 #[derive(Drop)]
 pub struct Expand {
     // where it takes its memory
@@ -31,9 +33,19 @@ pub struct Expand {
     kept: Kept,
 }
 
+impl Model for Expand {
+    ghost use Rattle.std.specs.Prelude.{ℕ, List};
+
+    ghost Value = { List (List ℕ) };
+
+    ghost view = { λ b. b.kept };
+}
+
 impl Expand {
     /// The builder, which takes its memory there, and has kept nothing yet. It takes no memory.
-    pub fn new(alloc: Global) -> Expand {
+    pub fn new(alloc: Global) -> Expand
+        ensures { result ≡ [] }
+    {
         Expand {
             alloc,
             kept: Kept::nothing(alloc),
@@ -60,7 +72,10 @@ impl Builder for Expand {
         Ok(edits_of(self.alloc, &mut self.kept, handed)?)
     }
 
-    fn clean(&mut self) {
+    fn clean(&mut self)
+        ensures called { WasCalled Cleaned expand_told expand_told }
+        ensures emptied { self.new ≡ [] }
+    {
         self.kept.clear();
     }
 }
