@@ -2,7 +2,6 @@
 #![tactic(auto)]
 
 use builder_api::Meanings;
-
 pub use std_concat::Concat;
 pub use std_copy::Copy;
 pub use std_expand::Expand;
