@@ -8,7 +8,7 @@ use Rattle.std.specs.declared.cmp.Ordering.{Ordering}
 use Rattle.std.specs.declared.cmp.Ordering.TheVariants.{Less, Equal, Greater}
 use Rattle.std.specs.FinMap.{IsAntisymmetric, find as look, is_sorted}
 use Rattle.std.specs.FinMap.Entries.{below_all}
-use Rattle.job_queue.proofs.Named.{tied}
+use Rattle.job_queue.proofs.Tables.{tied}
 
 pub first : (a b : Bool) → T (a && b) → T a
 first true b p = tt

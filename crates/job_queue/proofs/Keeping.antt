@@ -13,10 +13,11 @@ use Rattle.job_queue.specs.declared.job.Job.{Job}
 use Rattle.job_queue.specs.declared.job.Turn.{Turn}
 use Rattle.job_queue.specs.States.{is_over, is_live, is_sleeping, is_waiting, is_running}
 use Rattle.job_queue.specs.Turns.{turn_cmp, turn_cmp_total, turn_cmp_exact}
-use Rattle.job_queue.specs.Queues.{name_cmp, Jobs, changed, put_if, in_state, over, schedule_refusal, number_refusal}
+use Rattle.job_queue.specs.Changed.{changed, put_if}
+use Rattle.job_queue.specs.Queues.{name_cmp, Jobs, in_state, over, schedule_refusal, number_refusal}
 use Rattle.job_queue.specs.Inside.Kept.{Turns, number_kept, IsKept}
-use Rattle.job_queue.proofs.Named.{name_cmp_total, name_cmp_exact, tied}
-use Rattle.job_queue.proofs.Tables.{entries-empty}
+use Rattle.job_queue.proofs.Named.{name_cmp_total, name_cmp_exact}
+use Rattle.job_queue.proofs.Tables.{entries-empty, tied}
 use Rattle.job_queue.proofs.Counted.{bit, bit_at, count_insert, fewer_pass}
 
 not_Some : {X : Type 0} (x : X) → None ≡ Some x → ⊥

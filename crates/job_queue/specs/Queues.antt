@@ -13,6 +13,7 @@ use Rattle.job_queue.specs.declared.state.JobState.TheVariants as state
 use Rattle.job_queue.specs.declared.error.JobError.{JobError}
 use Rattle.job_queue.specs.declared.error.JobError.TheVariants.{UnknownJob, WrongState, NumbersUsed}
 use Rattle.job_queue.specs.declared.job.Job.{Job}
+use Rattle.job_queue.specs.Changed.{changed}
 use Rattle.job_queue.specs.States.{is_over, is_waiting, is_live}
 use Rattle.job_queue.specs.Turns.{turn_cmp}
 
@@ -75,15 +76,6 @@ scheduled q name priority rule asleep = record q {
 }
 
 -- the jobs, with this one, if any, in the place of the one of its name
-abbrev pub put_if : {A : Type 0} → Jobs A → List ℕ → Option (Job A) → Jobs A
-put_if jobs name None = jobs
-put_if jobs name (Some job) = insert jobs name job
-
--- the jobs, of which the one of this name is changed
-abbrev pub changed : {A : Type 0} → (Job A → Job A) → List ℕ → Jobs A → Jobs A
-changed change name jobs = put_if jobs name (option_map change (get jobs name))
-
--- the job in another state, with its turn and its rule
 abbrev pub in_state : {A : Type 0} → JobState → Job A → Job A
 in_state state job = record job { state = state }
 

@@ -3,7 +3,8 @@ ghost use Rattle.std.specs.Prelude.{◌≡◌, IfOk, IsSome, OnOk, OnErr, option
 ghost use Rattle.std.specs.BTreeMap.{get, Updates};
 ghost use Rattle.std.specs.FinMap as map;
 ghost use Rattle.std.specs.Option.{option_map};
-ghost use Rattle.job_queue.specs.Queues.{name_cmp, changed, in_state, over};
+ghost use Rattle.job_queue.specs.Changed.{changed};
+ghost use Rattle.job_queue.specs.Queues.{name_cmp, in_state, over};
 
 use crate::{Job, JobState, NoMemory};
 use res_path::Name;

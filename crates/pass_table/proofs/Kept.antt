@@ -2,33 +2,25 @@
 use Rattle.std.proofs.Common.{◌≡◌, ◌≤◌, ◌<◌, ◌+◌, ◌-◌, ◌==◌, ◌^◌, ℕ, suc, arith, rules, Bool, true, false, cond, not, ◌||◌, if◌then◌else◌, List, [], ◌∷◌, length, refl, sym, ap, ◌∙◌, subst}
 use Rattle.std.specs.Prelude.{Option, Some, None, IsSome, is_some, filter}
 use Rattle.std.specs.List.{list_any}
-use Rattle.std.specs.Ordering.{nat_cmp, eq_by_cmp, is_eq}
-use Rattle.std.specs.declared.cmp.Ordering.{Ordering}
-use Rattle.std.specs.declared.cmp.Ordering.TheVariants.{Less, Equal, Greater}
+use Rattle.std.specs.Ordering.{nat_cmp, eq_by_cmp}
 use Rattle.std.specs.Option.{option_map}
 use Rattle.std.specs.FinMap.{nat_cmp-IsAntisymmetric, get, insert, remove, empty, entries, len, len-entries, len-insert, len-remove, len-empty, get-insert, get-remove, get-empty, same_map}
 use Rattle.std.proofs.lemmas.Cmp.{nat_cmp_total}
+use Rattle.job_queue.specs.Changed.{put_if, changed}
 use Rattle.job_queue.proofs.Counted.{bit, bit_at, count_insert}
+use Rattle.job_queue.proofs.Found.{differ, itself, same_key}
 use Rattle.pass_table.specs.declared.pass.Pass.{Pass}
 use Rattle.pass_table.specs.Passes.{Table, batches_in, has_batch, idle}
-use Rattle.pass_table.specs.Rows.{put_if, changed, with_batches, with_job}
+use Rattle.pass_table.specs.Rows.{with_batches, with_job}
 use Rattle.pass_table.specs.Inside.Kept.{IsKept, number_in_batch}
 
 -- ---- one entry
-
-tied : (o : Ordering) → is_eq o ≡ true → o ≡ Equal
-tied Less h = cc
-tied Equal h = refl
-tied Greater h = cc
-
-same_key : (n m : ℕ) → eq_by_cmp nat_cmp n m ≡ true → n ≡ m
-same_key n m h = nat_cmp-IsAntisymmetric n m (tied (nat_cmp n m) h)
 
 inserted_some : (t : Table) (n k : ℕ) (v : Pass) → IsSome (get (insert t n v) k) → (k ≡ n → ⊥) → IsSome (get t k)
 inserted_some t n k v h other = by (eq_by_cmp nat_cmp k n) refl (subst IsSome (get-insert nat_cmp_total t n v k) h)
   where
     by : (b : Bool) → eq_by_cmp nat_cmp k n ≡ b → IsSome (cond b (Some v) (get t k)) → IsSome (get t k)
-    by true e g = absurd (other (same_key k n e))
+    by true e g = absurd (other (same_key nat_cmp-IsAntisymmetric k n e))
     by false e g = g
 
 changed_is : (t : Table) (n : ℕ) (change : Pass → Pass) (pass : Pass) → get t n ≡ Some pass → changed change n t ≡ insert t n (change pass)
@@ -59,14 +51,8 @@ kept_changed t now next m after n change pass is set bits kept = subst (λ u. Is
 })
   where
     by : (k : ℕ) (b : Bool) → eq_by_cmp nat_cmp k n ≡ b → IsSome (get (insert t n (change pass)) k) → k < next
-    by k true e h = subst (λ x. x < next) (sym (same_key k n e)) (kept.below n (ap is_some is))
-    by k false e h = kept.below k (inserted_some t n k (change pass) h (λ same. differ (sym e ∙ ap (eq_by_cmp nat_cmp k) (sym same) ∙ itself k)))
-      where
-        differ : false ≡ true → ⊥
-        differ i = cc
-
-        itself : (x : ℕ) → eq_by_cmp nat_cmp x x ≡ true
-        itself x = search rules
+    by k true e h = subst (λ x. x < next) (sym (same_key nat_cmp-IsAntisymmetric k n e)) (kept.below n (ap is_some is))
+    by k false e h = kept.below k (inserted_some t n k (change pass) h (λ same. differ (sym (itself nat_cmp_total k) ∙ ap (eq_by_cmp nat_cmp k) same ∙ e)))
 
 -- the pass has an open batch: so many do
 pub some_in_batch : (t : Table) (next m n : ℕ) (pass : Pass) → get t n ≡ Some pass → has_batch pass ≡ true → IsKept t next m → 0 < m
@@ -128,15 +114,9 @@ entered_kept t now next m kept lt set = subst (λ u. IsKept u (next + 1) m) (sym
     none = none_next t next m kept
 
     by : (k : ℕ) (b : Bool) → eq_by_cmp nat_cmp k next ≡ b → IsSome (get (insert t next idle) k) → k < next + 1
-    by k true e h = let same = same_key k next e in omega (arith, same)
+    by k true e h = let same = same_key nat_cmp-IsAntisymmetric k next e in omega (arith, same)
     by k false e h =
-        let lt = kept.below k (inserted_some t next k idle h (λ same. differ (sym e ∙ ap (eq_by_cmp nat_cmp k) (sym same) ∙ itself k))) in omega (arith, lt)
-      where
-        differ : false ≡ true → ⊥
-        differ i = cc
-
-        itself : (x : ℕ) → eq_by_cmp nat_cmp x x ≡ true
-        itself x = search rules
+        let lt = kept.below k (inserted_some t next k idle h (λ same. differ (sym (itself nat_cmp_total k) ∙ ap (eq_by_cmp nat_cmp k) same ∙ e))) in omega (arith, lt)
 
 pub first_kept : (t now : Table) → t ≡ empty → now ≡ insert t 0 idle → IsKept now 1 0
 first_kept t now none set = entered_kept t now 0 0 (record {
@@ -170,7 +150,7 @@ same_if_none : (t : Table) (n : ℕ) → get t n ≡ None → remove t n ≡ t
 same_if_none t n none = same_map nat_cmp_total nat_cmp-IsAntisymmetric _ _ (λ k. get-remove nat_cmp_total t n k ∙ by k (eq_by_cmp nat_cmp k n) refl)
   where
     by : (k : ℕ) (b : Bool) → eq_by_cmp nat_cmp k n ≡ b → cond b None (get t k) ≡ get t k
-    by k true e = sym (ap (get t) (same_key k n e) ∙ none)
+    by k true e = sym (ap (get t) (same_key nat_cmp-IsAntisymmetric k n e) ∙ none)
     by k false e = refl
 
 put_again : (t : Table) (n : ℕ) (pass : Pass) → get t n ≡ Some pass → insert (remove t n) n pass ≡ t
@@ -178,14 +158,11 @@ put_again t n pass is = same_map nat_cmp_total nat_cmp-IsAntisymmetric _ _ (λ k
     get-insert nat_cmp_total (remove t n) n pass k ∙ ap (cond (eq_by_cmp nat_cmp k n) (Some pass)) (get-remove nat_cmp_total t n k) ∙ by k (eq_by_cmp nat_cmp k n) refl)
   where
     by : (k : ℕ) (b : Bool) → eq_by_cmp nat_cmp k n ≡ b → cond b (Some pass) (cond b None (get t k)) ≡ get t k
-    by k true e = sym (ap (get t) (same_key k n e) ∙ is)
+    by k true e = sym (ap (get t) (same_key nat_cmp-IsAntisymmetric k n e) ∙ is)
     by k false e = refl
 
 gone_there : (t : Table) (n : ℕ) → get (remove t n) n ≡ None
-gone_there t n = get-remove nat_cmp_total t n n ∙ ap (λ b. cond b None (get t n)) (itself n)
-  where
-    itself : (x : ℕ) → eq_by_cmp nat_cmp x x ≡ true
-    itself x = search rules
+gone_there t n = get-remove nat_cmp_total t n n ∙ ap (λ b. cond b None (get t n)) (itself nat_cmp_total n)
 
 number_removed : (t : Table) (n : ℕ) (k : Option Pass) → get t n ≡ k → bit_at has_batch k ≡ 0 → number_in_batch (remove t n) ≡ number_in_batch t
 number_removed t n None is nought = ap number_in_batch (same_if_none t n is)

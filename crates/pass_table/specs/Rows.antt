@@ -1,20 +1,12 @@
 -- What becomes of the passes, event by event, where the event isn't refused; and what refuses a transfer.
 use Rattle.std.specs.Prelude.{◌≡◌, ℕ, true, false, ◌+◌, ◌-◌, List, [], ◌∷◌, ◌++◌, Option, Some, None, IsSome}
-use Rattle.std.specs.FinMap.{get, insert, remove}
-use Rattle.std.specs.Option.{option_map}
+use Rattle.std.specs.FinMap.{insert, remove}
 use Rattle.rule_table.specs.Tables.{last_rule, without_last, moved, without}
+use Rattle.job_queue.specs.Changed.{changed}
 use Rattle.pass_table.specs.declared.pass.Pass.{Pass}
 use Rattle.pass_table.specs.declared.error.TransferError.{TransferError}
 use Rattle.pass_table.specs.declared.error.TransferError.TheVariants.{NoPass, HoldsNothing, TargetHolds}
-use Rattle.pass_table.specs.Passes.{Table, Passes, idle, has_pass}
-
-abbrev pub put_if : Table → ℕ → Option Pass → Table
-put_if table n None = table
-put_if table n (Some pass) = insert table n pass
-
--- the pass is changed, if it is there
-abbrev pub changed : (Pass → Pass) → ℕ → Table → Table
-changed change n table = put_if table n (option_map change (get table n))
+use Rattle.pass_table.specs.Passes.{Passes, idle, has_pass}
 
 abbrev pub with_batches : ℕ → Pass → Pass
 with_batches batches pass = record pass { batches = batches }

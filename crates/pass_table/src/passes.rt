@@ -205,6 +205,7 @@ impl<A: Atom> Passes<A> {
     pub fn begin_batch(&mut self, pass: u64) -> Result<(), NoMemory>
         requires { IsSome (map.get self.old.there pass) }
         ensures ok { OnOk result (self.new ≡ in_batch self.old pass) }
+        ensures full { OnErr result (batches_of self.old pass ≡ 2 ^ 64 - 1) }
         ensures err { OnErr result (self.new ≡ self.old) }
     {
         let batches = self.batches(pass);

@@ -5,7 +5,8 @@ ghost use Rattle.std.specs.FinMap as map;
 ghost use Rattle.std.specs.Option.{option_map};
 ghost use Rattle.std.specs.Ordering.{nat_cmp};
 ghost use Rattle.pass_table.specs.Passes.{idle};
-ghost use Rattle.pass_table.specs.Rows.{changed, with_batches, with_job};
+ghost use Rattle.job_queue.specs.Changed.{changed};
+ghost use Rattle.pass_table.specs.Rows.{with_batches, with_job};
 
 use crate::{NoMemory, Pass};
 use res_path::Name;
