@@ -240,9 +240,13 @@ impl LayerTree {
 }
 
 impl TreeRep for LayerTree {
+    type Memory = Mark;
+
     ghost tree = { λ t. t.map };
 
     ghost room = { λ t. t.room };
+
+    ghost remembered = { λ t m. tree_at t m };
 
     fn get(&self, path: &Path) -> Option<&Element> {
         self.newest.elements().get(path)

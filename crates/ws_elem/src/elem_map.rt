@@ -1,5 +1,5 @@
 //! Elements by path.
-ghost use Rattle.std.specs.Prelude.{◌≡◌, ◌↔◌, IfOk, OnOk, OnErr, IsOk, IsTrue, true, false, not};
+ghost use Rattle.std.specs.Prelude.{◌≡◌, ◌↔◌, None, IfOk, OnOk, OnErr, IsOk, IsTrue, true, false, not};
 ghost use Rattle.std.specs.Option.{option_copied, option_map};
 ghost use Rattle.std.specs.Map.Iter.{deref_pair};
 ghost use Rattle.std.specs.FinMap as map;
@@ -223,9 +223,13 @@ impl Clone for ElemMap {
 }
 
 impl TreeRep for ElemMap {
+    type Memory = ();
+
     ghost tree = { λ m. m.map };
 
     ghost room = { λ m. m.room };
+
+    ghost remembered = { λ _ _. None };
 
     fn get(&self, path: &Path) -> Option<&Element> {
         ElemMap::get(self, path)
