@@ -240,13 +240,11 @@ impl LayerTree {
 }
 
 impl TreeRep for LayerTree {
-    type Memory = Mark;
-
     ghost tree = { λ t. t.map };
 
     ghost room = { λ t. t.room };
 
-    ghost remembered = { λ t m. tree_at t m };
+    ghost remembered = { tree_at };
 
     fn get(&self, path: &Path) -> Option<&Element> {
         self.newest.elements().get(path)

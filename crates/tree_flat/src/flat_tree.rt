@@ -1,5 +1,5 @@
 //! A tree over one ordered map.
-ghost use Rattle.std.specs.Prelude.{◌≡◌, Some, IfOk};
+ghost use Rattle.std.specs.Prelude.{◌≡◌, None, IfOk};
 
 use res_path::Path;
 use std::marker::Model;
@@ -59,14 +59,11 @@ impl FlatTree {
 }
 
 impl TreeRep for FlatTree {
-    /// A copy.
-    type Memory = ElemMap;
-
     ghost tree = { λ t. t.map };
 
     ghost room = { λ t. t.room };
 
-    ghost remembered = { λ _ m. Some m.map };
+    ghost remembered = { λ _ _. None };
 
     fn get(&self, path: &Path) -> Option<&Element> {
         self.elements.get(path)

@@ -223,8 +223,6 @@ impl Clone for ElemMap {
 }
 
 impl TreeRep for ElemMap {
-    type Memory = ();
-
     ghost tree = { λ m. m.map };
 
     ghost room = { λ m. m.room };

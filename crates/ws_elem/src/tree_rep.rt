@@ -1,5 +1,5 @@
 //! What serves as a tree of elements.
-ghost use Rattle.std.specs.Prelude.{◌≡◌, true, not, Option, IfOk, OnOk, OnErr, IsOk};
+ghost use Rattle.std.specs.Prelude.{◌≡◌, ℕ, true, not, Option, IfOk, OnOk, OnErr, IsOk};
 ghost use Rattle.std.specs.Option.{option_copied, option_map};
 ghost use Rattle.std.specs.Map.Iter.{deref_pair};
 ghost use Rattle.std.specs.FinMap as map;
@@ -13,17 +13,14 @@ use res_path::Path;
 /// paths with room. At a path with room a `put` or a `take` never answers `NoMemory`. Only `make_room` and
 /// `put_new` add to the room, and only `drop_room` takes room away.
 ///
-/// A tree may also remember what it was before: `remembered` is the tree for which a value of the type `Memory` stands,
-/// if there is one. No call of this trait changes any such tree.
+/// A tree may also remember what it was before: `remembered` is the tree that is remembered under a number, if there is
+/// one. No call of this trait changes any such tree.
 pub trait TreeRep {
-    /// What stands for a tree that is remembered.
-    type Memory: Drop;
-
     ghost tree: { Self → Tree };
 
     ghost room: { Self → Room };
 
-    ghost remembered: { Self → Self.Memory → Option Tree };
+    ghost remembered: { Self → ℕ → Option Tree };
 
     /// The element at the path.
     fn get(&self, path: &Path) -> Option<&Element>
