@@ -3,7 +3,7 @@ use Rattle.std.specs.Prelude.{Bool, true, false, if◌then◌else◌, Option, So
 use Rattle.op_kind.specs.declared.op.Op.{Op}
 use Rattle.op_kind.specs.declared.op.Op.TheVariants.{Read}
 use Rattle.core_event.specs.declared.event.Event.{Event}
-use Rattle.core_event.specs.declared.event.Event.TheVariants.{Leave, Checkpoint, Operation}
+use Rattle.core_event.specs.declared.event.Event.TheVariants.{Leave, TryBegin, Checkpoint, Operation}
 
 abbrev pub is_checkpoint : Event → Bool
 is_checkpoint Checkpoint = true
@@ -22,3 +22,8 @@ is_read op = false
 abbrev pub change_of : Event → Option Op
 change_of (Operation op) = if is_read op then None else Some op
 change_of event = None
+
+-- the event is one of those that are tried again, without an entry, where another pass's rule is in the way
+abbrev pub waits : Event → Bool
+waits (TryBegin rule) = false
+waits event = true

@@ -1,4 +1,2 @@
-pub mod Batches
 pub mod Events
-pub mod Numbers
 pub mod Replies

@@ -1,7 +1,7 @@
 //! What a pass may ask.
 ghost use Rattle.std.specs.Prelude.{◌≡◌, IfOk};
 ghost use Rattle.std.specs.Option.{option_copied};
-ghost use Rattle.core_event.specs.Events.{change_of, is_read};
+ghost use Rattle.core_event.specs.Events.{change_of, is_read, waits};
 
 use crate::WsRule;
 use op_kind::Op;
@@ -10,14 +10,21 @@ use res_path::{Name, NoMemory};
 /// What a pass may ask of the core.
 #[derive(Drop)]
 pub enum Event {
-    /// A new pass enters, with the next number.
+    /// A new pass enters, with the next number. The pass that asks is the one that it is split from.
     Enter,
     /// The pass leaves.
     Leave,
-    /// The job of this name and priority waits, and is to have this rule while it runs.
-    Schedule(Name, u8, WsRule),
-    /// The waiting job is to be run by the pass, which gets its rule. There is none where that rule conflicts with one
-    /// that is held, or isn't within the one that the pass has.
+    /// The job of this name and priority waits, or sleeps where the last part says so, and is to have this rule while it
+    /// is run (`Job.schedule`).
+    Schedule(Name, u8, WsRule, bool),
+    /// The job that waits sleeps (`Job.sleep`).
+    Sleep(Name),
+    /// The job that sleeps waits (`Job.wakeUp`).
+    Wake(Name),
+    /// The job that waits or sleeps is over (`Job.cancel`).
+    Cancel(Name),
+    /// Of the jobs that wait, and whose rule conflicts with none that is held, the one with the least priority number,
+    /// and of one priority the one that was scheduled first, is run by the pass, which gets its rule.
     Take,
     /// The pass's job is over, its batches are closed and its rules ended.
     Finish,
@@ -28,6 +35,8 @@ pub enum Event {
     TryBegin(WsRule),
     /// The pass gives back the rule that it began last (`IJobManager.endRule`).
     End(WsRule),
+    /// All rules of the pass are this one's from now on (`IJobManager.transferRule`).
+    Transfer(u64),
     /// A batch begins: until it ends nothing is told but at checkpoints (`IWorkspace.run`).
     Batch,
     /// The pass's newest batch ends.
@@ -47,16 +56,27 @@ impl Event {
             Event::Operation(op) => change(op),
             Event::Enter
             | Event::Leave
-            | Event::Schedule(_, _, _)
+            | Event::Schedule(_, _, _, _)
+            | Event::Sleep(_)
+            | Event::Wake(_)
+            | Event::Cancel(_)
             | Event::Take
             | Event::Finish
             | Event::Begin(_)
             | Event::TryBegin(_)
             | Event::End(_)
+            | Event::Transfer(_)
             | Event::Batch
             | Event::EndBatch
             | Event::Checkpoint => None,
         }
+    }
+
+    /// Whether the event is tried again, without an entry, where another pass's rule is in the way.
+    pub fn waits(&self) -> bool
+        ensures { result ≡ waits self.now }
+    {
+        !matches!(self, Event::TryBegin(_))
     }
 
     /// An equal event, which shares its texts.
@@ -66,12 +86,18 @@ impl Event {
         match self {
             Event::Enter => Ok(Event::Enter),
             Event::Leave => Ok(Event::Leave),
-            Event::Schedule(name, priority, rule) => schedule(name, *priority, rule),
+            Event::Schedule(name, priority, rule, asleep) => {
+                schedule(name, *priority, rule, *asleep)
+            }
+            Event::Sleep(name) => sleep(name),
+            Event::Wake(name) => wake(name),
+            Event::Cancel(name) => cancel(name),
             Event::Take => Ok(Event::Take),
             Event::Finish => Ok(Event::Finish),
             Event::Begin(rule) => begin(rule),
             Event::TryBegin(rule) => try_begin(rule),
             Event::End(rule) => end(rule),
+            Event::Transfer(to) => Ok(Event::Transfer(*to)),
             Event::Batch => Ok(Event::Batch),
             Event::EndBatch => Ok(Event::EndBatch),
             Event::Checkpoint => Ok(Event::Checkpoint),
@@ -88,10 +114,28 @@ impl Clone for Event {
     }
 }
 
-fn schedule(name: &Name, priority: u8, rule: &WsRule) -> Result<Event, NoMemory>
-    ensures { IfOk result (λ copy. copy ≡ Event.Schedule name.now priority rule.now) }
+fn schedule(name: &Name, priority: u8, rule: &WsRule, asleep: bool) -> Result<Event, NoMemory>
+    ensures { IfOk result (λ copy. copy ≡ Event.Schedule name.now priority rule.now asleep) }
 {
-    Ok(Event::Schedule(name.copy()?, priority, rule.copy()?))
+    Ok(Event::Schedule(name.copy()?, priority, rule.copy()?, asleep))
+}
+
+fn sleep(name: &Name) -> Result<Event, NoMemory>
+    ensures { IfOk result (λ copy. copy ≡ Event.Sleep name.now) }
+{
+    Ok(Event::Sleep(name.copy()?))
+}
+
+fn wake(name: &Name) -> Result<Event, NoMemory>
+    ensures { IfOk result (λ copy. copy ≡ Event.Wake name.now) }
+{
+    Ok(Event::Wake(name.copy()?))
+}
+
+fn cancel(name: &Name) -> Result<Event, NoMemory>
+    ensures { IfOk result (λ copy. copy ≡ Event.Cancel name.now) }
+{
+    Ok(Event::Cancel(name.copy()?))
 }
 
 fn begin(rule: &WsRule) -> Result<Event, NoMemory>

@@ -1,8 +1,10 @@
 //! What an event is answered.
-ghost use Rattle.std.specs.Prelude.{◌≡◌, IfOk};
-ghost use Rattle.core_event.specs.Replies.{refusal_number, answered};
+ghost use Rattle.std.specs.Prelude.{◌≡◌, ◌&&◌, IfOk};
+ghost use Rattle.core_event.specs.Replies.{refusal_number, answered, is_attempt, is_conflict};
+ghost use Rattle.core_event.specs.Events.{waits};
 
-use crate::{Apart, NoMemory, Notice, WsRule};
+use crate::{Apart, Event, NoMemory, Notice, WsRule};
+use job_queue::JobState;
 use op_kind::{Entries, OpAnswer, OpRefusal, Partners};
 use res_path::Name;
 use std::alloc::Global;
@@ -21,15 +23,26 @@ pub enum Refusal {
     NotLast(u64),
     /// The pass has no rule.
     HoldsNothing,
-    /// A new pass's number would pass 2^63 - 1.
+    /// The pass that is to get the rules has one.
+    TargetHolds,
+    /// The number of a new job would pass 2^63 - 1.
     NumbersUsed,
+    /// No job of this name was ever scheduled.
+    UnknownJob,
+    /// The event isn't for a job in this state.
+    WrongState(JobState),
+    /// The pass has a rule, an open batch or a job.
+    PassBusy,
+    /// There is no such pass.
+    NoPass,
     /// The pass has no open batch.
     NoBatch,
 }
 
 impl Refusal {
     /// The refusal's number: that of the operation's refusal, 15 for a rule that isn't contained, 18 for used numbers, 19
-    /// for a rule that isn't the last, 20 for no rule, 30 for a conflict, 44 for no batch.
+    /// for a rule that isn't the last, 20 for no rule, 30 for a conflict, 31 for a target that has rules, 40 for an unknown
+    /// job, 41 for a job in another state, 42 for a busy pass, 43 for no pass, 44 for no batch.
     pub fn number(&self) -> u8
         ensures { result ≡ refusal_number self.now }
     {
@@ -40,8 +53,20 @@ impl Refusal {
             Refusal::NotLast(_) => 19,
             Refusal::HoldsNothing => 20,
             Refusal::Conflict(_, _) => 30,
+            Refusal::TargetHolds => 31,
+            Refusal::UnknownJob => 40,
+            Refusal::WrongState(_) => 41,
+            Refusal::PassBusy => 42,
+            Refusal::NoPass => 43,
             Refusal::NoBatch => 44,
         }
+    }
+
+    /// Whether another pass has a rule that conflicts.
+    pub fn is_conflict(&self) -> bool
+        ensures { result ≡ is_conflict self.now }
+    {
+        matches!(self, Refusal::Conflict(_, _))
     }
 
     /// An equal refusal, which shares its texts.
@@ -54,7 +79,12 @@ impl Refusal {
             Refusal::Conflict(holder, rule) => conflict(*holder, rule),
             Refusal::NotLast(held) => Ok(Refusal::NotLast(*held)),
             Refusal::HoldsNothing => Ok(Refusal::HoldsNothing),
+            Refusal::TargetHolds => Ok(Refusal::TargetHolds),
             Refusal::NumbersUsed => Ok(Refusal::NumbersUsed),
+            Refusal::UnknownJob => Ok(Refusal::UnknownJob),
+            Refusal::WrongState(state) => Ok(Refusal::WrongState(*state)),
+            Refusal::PassBusy => Ok(Refusal::PassBusy),
+            Refusal::NoPass => Ok(Refusal::NoPass),
             Refusal::NoBatch => Ok(Refusal::NoBatch),
         }
     }
@@ -94,7 +124,7 @@ pub enum Answer {
     Id(u64),
     /// How many markers went, or how many resources lost a partner's bytes.
     Count(u64),
-    /// No job waits.
+    /// No job waits whose rule is free.
     None,
     /// The job that is to be run.
     Job(Apart<Name>),
@@ -132,6 +162,18 @@ impl Answer {
         Ok(Answer::Refused(refusal))
     }
 
+    /// Whether the event that is answered so is none: it only found that it must wait.
+    pub fn is_attempt(&self, event: &Event) -> bool
+        ensures { result ≡ is_attempt event.now self.now }
+    {
+        match self {
+            Answer::Done | Answer::Id(_) | Answer::Count(_) | Answer::Job(_) | Answer::Seen(_) =>
+                false,
+            Answer::None => true,
+            Answer::Refused(refusal) => is_in_the_way(refusal, event),
+        }
+    }
+
     /// An equal answer, which shares its texts.
     pub fn copy(&self) -> Result<Answer, NoMemory>
         ensures { IfOk result (λ copy. copy ≡ self.now) }
@@ -154,6 +196,12 @@ impl Clone for Answer {
     fn clone(&self) -> Result<Answer, NoMemory> {
         self.copy()
     }
+}
+
+fn is_in_the_way(refusal: &Apart<Refusal>, event: &Event) -> bool
+    ensures { result ≡ (is_conflict refusal.now && waits event.now) }
+{
+    refusal.value().is_conflict() && event.waits()
 }
 
 fn job(name: &Apart<Name>) -> Result<Answer, NoMemory>

@@ -227,13 +227,24 @@ impl<A: Atom> JobQueue<A> {
         ensures refused { IfErr result (λ e. (e ≡ JobError.Memory) ⊎ (refusal is_waiting (state_of self.old name.now) ≡ Some e)) }
         ensures same { OnErr result (self.new ≡ self.old) }
     {
+        let rule = self.known(name)?.rule.copy()?;
+        self.begin(name)?;
+        Ok(rule)
+    }
+
+    /// As `start`, for who has the job's rule already. Takes no memory.
+    pub fn begin(&mut self, name: &Name) -> Result<(), JobError>
+        ensures runs { OnOk result (self.new ≡ moved self.old name.now Running) }
+        ensures allowed { OnOk result (refusal is_waiting (state_of self.old name.now) ≡ None) }
+        ensures refused { IfErr result (λ e. refusal is_waiting (state_of self.old name.now) ≡ Some e) }
+        ensures same { OnErr result (self.new ≡ self.old) }
+    {
         let job = self.known(name)?;
         expect(job.state.is_waiting(), job.state)?;
         let turn = job.turn;
-        let rule = job.rule.copy()?;
         self.turns.remove(&turn);
         self.jobs.set_state(name, JobState::Running);
-        Ok(rule)
+        Ok(())
     }
 
     /// The job that was run is over, and counted as finished. Refused with `UnknownJob` where no job of the name was

@@ -2,7 +2,7 @@ use Rattle.std.proofs.Common.{sym, ap, ◌∙◌}
 use Rattle.std.specs.FinMap.{get}
 use Rattle.job_queue.specs.Queues.{Queue}
 use Rattle.job_queue.proofs.Keeping.{start_kept}
-use Rattle.job_queue.proofs.queue.JobQueue.start.Goals as goal
+use Rattle.job_queue.proofs.queue.JobQueue.begin.Goals as goal
 
 pub invariant_of-self : goal.invariant_of-self
 invariant_of-self g c =
