@@ -55,6 +55,7 @@ impl Back {
         requires shelf { HasRooms side.old.shelf.room self.shelf }
         ensures resources { resources (T.tree tree.new) side.new ≡ taken_back (resources (T.tree tree.old) side.old) self }
         ensures room { T.room tree.new ≡ T.room tree.old }
+        ensures remembered { T.remembered tree.new ≡ T.remembered tree.old }
         ensures shelf_room { side.new.shelf.room ≡ side.old.shelf.room }
     {
         let Back {

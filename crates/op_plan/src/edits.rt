@@ -144,6 +144,7 @@ impl Edits {
         requires space { length self ≤ vec_capacity space }
         ensures tree { T.tree tree.new ≡ changed (T.tree tree.old) self }
         ensures room { T.room tree.new ≡ T.room tree.old }
+        ensures remembered { T.remembered tree.new ≡ T.remembered tree.old }
         ensures earlier { result ≡ undoing (T.tree tree.old) self }
     {
         let mut entries = space;
@@ -156,6 +157,7 @@ impl Edits {
         ensures tree { T.tree tree.new ≡ T.tree tree.old }
         ensures kept { KeepsRoom (T.room tree.old) (T.room tree.new) }
         ensures ok { OnOk result (HasRooms (T.room tree.new) self.now) }
+        ensures remembered { T.remembered tree.new ≡ T.remembered tree.old }
     {
         for edit in self.edits.as_slice() {
             tree.make_room(edit.path())?;
@@ -208,6 +210,7 @@ impl Earlier {
         requires { HasRooms (T.room tree.old) self }
         ensures tree { T.tree tree.new ≡ changed (T.tree tree.old) self }
         ensures room { T.room tree.new ≡ T.room tree.old }
+        ensures remembered { T.remembered tree.new ≡ T.remembered tree.old }
     {
         let Earlier { mut entries } = self;
         put_back_from(&mut entries, tree);
@@ -219,6 +222,7 @@ fn put_back_from<T: TreeRep>(entries: &mut Vec<(Path, Option<Element>)>, tree: &
     requires { HasRooms (T.room tree.old) (reverse entries.old.items) }
     ensures tree { T.tree tree.new ≡ changed (T.tree tree.old) (reverse entries.old.items) }
     ensures room { T.room tree.new ≡ T.room tree.old }
+    ensures remembered { T.remembered tree.new ≡ T.remembered tree.old }
 {
     while let Some((path, entry)) = entries.pop() {
         let _ = set_entry(tree, path, entry);
@@ -239,6 +243,7 @@ fn make<T: TreeRep>(edits: Edits, tree: &mut T, earlier: &mut Vec<(Path, Option<
     requires space { vec_len earlier.old + length edits ≤ vec_capacity earlier.old }
     ensures tree { T.tree tree.new ≡ changed (T.tree tree.old) edits }
     ensures room { T.room tree.new ≡ T.room tree.old }
+    ensures remembered { T.remembered tree.new ≡ T.remembered tree.old }
     ensures earlier { reverse earlier.new.items ≡ undoing (T.tree tree.old) edits ++ reverse earlier.old.items }
 {
     let Edits { edits } = edits;
@@ -255,6 +260,7 @@ fn set_entry<T: TreeRep>(tree: &mut T, path: Path, entry: Option<Element>) -> Op
     ensures before { result ≡ get (T.tree tree.old) path }
     ensures tree { T.tree tree.new ≡ set_at (T.tree tree.old) path entry }
     ensures room { T.room tree.new ≡ T.room tree.old }
+    ensures remembered { T.remembered tree.new ≡ T.remembered tree.old }
 {
     let changed = match entry {
         None => tree.take(&path),

@@ -25,7 +25,7 @@ use std::alloc::Global;
 use ws_elem::TreeRep;
 
 /// Does the operation, or refuses it with the first cause in the order of its list. After a refusal, and where memory
-/// wants, tree, shelf, counters and partners are as before.
+/// wants, tree, shelf, counters and partners are as before. No tree that the tree remembers changes.
 ///
 /// Room is made for all paths that change, and all new elements are made, before the first change; the room is left for
 /// `take_back`, and the caller drops it. Costs a few look-ups, and some more for each element that changes: never a walk
@@ -46,6 +46,7 @@ pub fn apply<T: TreeRep>(
         (resources (T.tree tree.new) side.new) (resources (T.tree tree.old) side.old)) }
     // What had room has it still.
     ensures room { KeepsRoom (T.room tree.old) (T.room tree.new) }
+    ensures remembered { T.remembered tree.new ≡ T.remembered tree.old }
     ensures shelf_room { KeepsRoom side.old.shelf.room side.new.shelf.room }
     // Sound resources stay so.
     ensures sound { IsConsistent (resources (T.tree tree.old) side.old) → IsConsistent (resources (T.tree tree.new) side.new) }
@@ -70,6 +71,7 @@ fn apply_planned<T: TreeRep>(
     ensures done { IfOk result (λ done. IsDone (resources (T.tree tree.old) side.old) op.now (T.room tree.new) side.new.shelf.room
         (resources (T.tree tree.new) side.new) done) }
     ensures room { KeepsRoom (T.room tree.old) (T.room tree.new) }
+    ensures remembered { T.remembered tree.new ≡ T.remembered tree.old }
     ensures shelf_room { KeepsRoom side.old.shelf.room side.new.shelf.room }
     ensures refused { IfErr result (IfRefused (λ r. refusal (resources (T.tree tree.old) side.old) op.now ≡ Some r)) }
     ensures same { OnErr result (resources (T.tree tree.new) side.new ≡ resources (T.tree tree.old) side.old) }
@@ -79,12 +81,13 @@ fn apply_planned<T: TreeRep>(
 }
 
 /// Takes an operation back, after which nothing has changed and no room was dropped: tree, shelf, counters and
-/// partners are as before it. It takes no memory.
+/// partners are as before it. No tree that the tree remembers changes. It takes no memory.
 pub fn take_back<T: TreeRep>(tree: &mut T, side: &mut Side, back: Back)
     requires tree { HasRooms (T.room tree.old) back.tree }
     requires shelf { HasRooms side.old.shelf.room back.shelf }
     ensures resources { resources (T.tree tree.new) side.new ≡ taken_back (resources (T.tree tree.old) side.old) back }
     ensures room { T.room tree.new ≡ T.room tree.old }
+    ensures remembered { T.remembered tree.new ≡ T.remembered tree.old }
     ensures shelf_room { side.new.shelf.room ≡ side.old.shelf.room }
 {
     back.lead(tree, side);
@@ -137,6 +140,7 @@ fn perform<T: TreeRep>(
     ensures back { IfOk result (λ done. HasWay done.back (T.room tree.new) side.new.shelf.room
         (resources (T.tree tree.new) side.new) (resources (T.tree tree.old) side.old)) }
     ensures room { KeepsRoom (T.room tree.old) (T.room tree.new) }
+    ensures remembered { T.remembered tree.new ≡ T.remembered tree.old }
     ensures shelf_room { KeepsRoom side.old.shelf.room side.new.shelf.room }
     ensures same { OnErr result (resources (T.tree tree.new) side.new ≡ resources (T.tree tree.old) side.old) }
 {

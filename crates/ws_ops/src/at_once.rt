@@ -29,6 +29,7 @@ pub fn create_at_once<T: TreeRep>(
     ensures done { IfOk result (λ found. IfSome found (λ done. IsDone (resources (T.tree tree.old) side.old) op.now
         (T.room tree.new) side.new.shelf.room (resources (T.tree tree.new) side.new) done)) }
     ensures room { KeepsRoom (T.room tree.old) (T.room tree.new) }
+    ensures remembered { T.remembered tree.new ≡ T.remembered tree.old }
     ensures shelf_room { side.new.shelf.room ≡ side.old.shelf.room }
     ensures none { IfOk result (λ found. found ≡ None → resources (T.tree tree.new) side.new ≡ resources (T.tree tree.old) side.old) }
     ensures err { OnErr result (resources (T.tree tree.new) side.new ≡ resources (T.tree tree.old) side.old) }
@@ -50,6 +51,7 @@ fn create_file<T: TreeRep>(
     ensures done { IfOk result (λ found. IfSome found (λ done. IsDone (resources (T.tree tree.old) side.old) (Op.CreateFile path.now bytes.now)
         (T.room tree.new) side.new.shelf.room (resources (T.tree tree.new) side.new) done)) }
     ensures room { KeepsRoom (T.room tree.old) (T.room tree.new) }
+    ensures remembered { T.remembered tree.new ≡ T.remembered tree.old }
     ensures shelf_room { side.new.shelf.room ≡ side.old.shelf.room }
     ensures none { IfOk result (λ found. found ≡ None → resources (T.tree tree.new) side.new ≡ resources (T.tree tree.old) side.old) }
     ensures err { OnErr result (resources (T.tree tree.new) side.new ≡ resources (T.tree tree.old) side.old) }
@@ -70,6 +72,7 @@ fn create_folder<T: TreeRep>(
     ensures done { IfOk result (λ found. IfSome found (λ done. IsDone (resources (T.tree tree.old) side.old) (Op.CreateFolder path.now)
         (T.room tree.new) side.new.shelf.room (resources (T.tree tree.new) side.new) done)) }
     ensures room { KeepsRoom (T.room tree.old) (T.room tree.new) }
+    ensures remembered { T.remembered tree.new ≡ T.remembered tree.old }
     ensures shelf_room { side.new.shelf.room ≡ side.old.shelf.room }
     ensures none { IfOk result (λ found. found ≡ None → resources (T.tree tree.new) side.new ≡ resources (T.tree tree.old) side.old) }
     ensures err { OnErr result (resources (T.tree tree.new) side.new ≡ resources (T.tree tree.old) side.old) }
@@ -115,6 +118,7 @@ fn put<T: TreeRep>(
     ensures done { IfOk result (λ found. IfSome found (λ done. IsPut (resources (T.tree tree.old) side.old) path.now element stamps
         (T.room tree.new) side.new.shelf.room (resources (T.tree tree.new) side.new) done)) }
     ensures room { KeepsRoom (T.room tree.old) (T.room tree.new) }
+    ensures remembered { T.remembered tree.new ≡ T.remembered tree.old }
     ensures shelf_room { side.new.shelf.room ≡ side.old.shelf.room }
     ensures none { IfOk result (λ found. found ≡ None → resources (T.tree tree.new) side.new ≡ resources (T.tree tree.old) side.old) }
     ensures err { OnErr result (resources (T.tree tree.new) side.new ≡ resources (T.tree tree.old) side.old) }

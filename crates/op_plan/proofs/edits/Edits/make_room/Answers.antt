@@ -12,4 +12,5 @@ loop-edit-preserved g c =
       tree = c.make_room.ensures.tree ∙ c.loop-edit.invariant.tree;
       kept = keeps_more (g.T.TreeRep.room c.args.tree.now) before after c.edit-item.result.0 c.loop-edit.invariant.kept more;
       rooms = rooms_more before after c.as_slice-edit-items.result.now c.loop-edit.edit-index c.edit-item.result c.loop-edit-test.true c.edit-item.is more c.loop-edit.invariant.rooms;
+      remembered = c.make_room.ensures.remembered ∙ c.loop-edit.invariant.remembered;
     }
