@@ -5,6 +5,7 @@ use Rattle.std.specs.List.{list_any}
 use Rattle.std.specs.Ordering.{nat_cmp, eq_by_cmp}
 use Rattle.std.specs.Option.{option_map}
 use Rattle.std.specs.FinMap.{nat_cmp-IsAntisymmetric, get, insert, remove, empty, entries, len, len-entries, len-insert, len-remove, len-empty, get-insert, get-remove, get-empty, same_map}
+use Rattle.std.proofs.lemmas.Bool.Decides.{nat_tests}
 use Rattle.std.proofs.lemmas.Cmp.{nat_cmp_total}
 use Rattle.job_queue.specs.Changed.{put_if, changed}
 use Rattle.job_queue.proofs.Counted.{bit, bit_at, count_insert}
@@ -277,3 +278,48 @@ job_begun t now next m n job some set kept = by (get t n) refl some
         no : false ≡ true → ⊥
         no j = cc
     by (Some pass) e h = kept_changed t now next m m n (with_job job) pass e set refl kept
+
+-- ---- whether a batch is open
+
+-- where a pass has one, some are open
+pub batches_within : (t : Table) (next m n b : ℕ) → IsKept t next m → b ≡ batches_in (get t n) → (b == 0) ≡ false → 0 < m
+batches_within t next m n b kept is h = some_open t next m n b is (λ e. differ_zero b h e) kept
+  where
+    differ_zero : (x : ℕ) → (x == 0) ≡ false → x ≡ 0 → ⊥
+    differ_zero x g e = no (sym (ap (λ y. y == 0) e) ∙ g)
+      where
+        no : true ≡ false → ⊥
+        no i = cc
+
+-- once a pass has one more, some are open
+pub one_open : (t : Table) (next m after n b : ℕ) → IsKept t next m → b ≡ batches_in (get t n) → after ≡ (if b == 0 then m + 1 else m) → (after == 0) ≡ false
+one_open t next m after n b kept is count = by (b == 0) refl count
+  where
+    not_zero : (x : ℕ) → 0 < x → (x == 0) ≡ false
+    not_zero x h = grind (arith, nat_tests)
+
+    by : (e : Bool) → (b == 0) ≡ e → after ≡ (if e then m + 1 else m) → (after == 0) ≡ false
+    by true e h = not_zero after (omega (arith, h))
+    by false e h = not_zero after (let some = batches_within t next m n b kept is e in omega (arith, h, some))
+
+-- what is left once a pass has none any more
+pub quiet_beside : (t : Table) (next m after n b : ℕ) → IsKept t next m → b ≡ batches_in (get t n) → after ≡ (if b == 0 then m else m - 1)
+    → (after == 0) ≡ not (list_any (λ e. has_batch e.1) (entries (changed (λ _. idle) n t)))
+quiet_beside t next m after n b kept is count = by (get t n) refl
+  where
+    by : (k : Option Pass) → get t n ≡ k → (after == 0) ≡ not (list_any (λ e. has_batch e.1) (entries (changed (λ _. idle) n t)))
+    by None e =
+        let none : b ≡ 0 = is ∙ ap batches_in e in
+        let same : after ≡ m = count ∙ ap (λ x. if x == 0 then m else m - 1) none in
+        ap (λ x. x == 0) same ∙ quiet t next m kept ∙ ap (λ k. not (list_any (λ e. has_batch e.1) (entries (put_if t n (option_map (λ _. idle) k))))) (sym e)
+    by (Some pass) e =
+        let same : after ≡ (if pass.batches == 0 then m else m - 1) = count ∙ ap (λ x. if x == 0 then m else m - 1) (is ∙ ap batches_in e) in
+        quiet (changed (λ _. idle) n t) next after (all_ended t (changed (λ _. idle) n t) next m after n pass e same refl kept)
+
+-- the pass's own count is the one that is known
+pub one_fewer : (t : Table) (n b : ℕ) → b ≡ batches_in (get t n) → changed (λ (pass : Pass). with_batches (pass.batches - 1) pass) n t ≡ changed (with_batches (b - 1)) n t
+one_fewer t n b is = by (get t n) is
+  where
+    by : (k : Option Pass) → b ≡ batches_in k → put_if t n (option_map (λ (pass : Pass). with_batches (pass.batches - 1) pass) k) ≡ put_if t n (option_map (with_batches (b - 1)) k)
+    by None h = refl
+    by (Some pass) h = ap (λ x. insert t n (with_batches (x - 1) pass)) (sym h)

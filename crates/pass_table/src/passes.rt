@@ -126,12 +126,30 @@ impl<A: Atom> Passes<A> {
         self.in_batch == 0
     }
 
+    /// Whether no pass has an open batch once the newest of this pass has ended, which has one.
+    pub fn is_last_batch(&self, pass: u64) -> bool
+        requires { batches_of self.now pass ≢ 0 }
+        ensures { result ≡ is_quiet (out_of_batch self.now pass) }
+    {
+        let batches = self.batches(pass);
+        without_last(self.in_batch, batches) == 0
+    }
+
+    /// Whether no pass but this one has an open batch.
+    pub fn is_quiet_beside(&self, pass: u64) -> bool
+        ensures { result ≡ is_quiet (finished self.now pass) }
+    {
+        let batches = self.batches(pass);
+        without_all(self.in_batch, batches) == 0
+    }
+
     /// One more pass, without a rule, a job or an open batch. Gives its number, which no pass has or had. It is want of
     /// memory, too, where the number would pass 2^63 - 1.
     pub fn enter(&mut self) -> Result<u64, NoMemory>
         ensures ok { OnOk result (self.new ≡ entered self.old) }
         ensures number { IfOk result (λ number. number ≡ self.old.next) }
         ensures fresh { IfOk result (λ number. has_pass self.old number ≡ false) }
+        ensures quiet { is_quiet self.new ≡ is_quiet self.old }
         ensures err { OnErr result (self.new ≡ self.old) }
     {
         let number = self.next;
@@ -148,6 +166,7 @@ impl<A: Atom> Passes<A> {
         ensures ok { OnOk result (self.new ≡ left self.old pass) }
         ensures idle { OnOk result (is_busy self.old pass ≡ false) }
         ensures busy { OnErr result (is_busy self.old pass ≡ true) }
+        ensures quiet { is_quiet self.new ≡ is_quiet self.old }
         ensures same { OnErr result (self.new ≡ self.old) }
     {
         if self.is_busy(pass) {
@@ -206,6 +225,7 @@ impl<A: Atom> Passes<A> {
         requires { IsSome (map.get self.old.there pass) }
         ensures ok { OnOk result (self.new ≡ in_batch self.old pass) }
         ensures full { OnErr result (batches_of self.old pass ≡ 2 ^ 64 - 1) }
+        ensures quiet { OnOk result (is_quiet self.new ≡ false) }
         ensures err { OnErr result (self.new ≡ self.old) }
     {
         let batches = self.batches(pass);
@@ -240,6 +260,7 @@ impl<A: Atom> Passes<A> {
         requires idle { is_busy self.old pass ≡ false }
         requires free { is_free A.conflicts self.old.rules rule ≡ true }
         ensures ok { OnOk result (self.new ≡ running self.old pass name rule) }
+        ensures quiet { is_quiet self.new ≡ is_quiet self.old }
         ensures err { OnErr result (self.new ≡ self.old) }
         ensures apart { IsApart A.contains A.conflicts self.new.rules }
     {
