@@ -1,0 +1,4 @@
+pub mod Managers
+pub mod Admission
+pub mod Refusals
+pub mod Effects

@@ -1,0 +1,148 @@
+//! The events that concern jobs.
+ghost use Rattle.std.specs.Prelude.{◌≡◌, true, false, Some, IfOk, OnErr};
+ghost use Rattle.core_event.specs.declared.event.Event.TheVariants.{Schedule, Sleep, Wake, Cancel, Take, Finish};
+ghost use Rattle.core_event.specs.declared.reply.Refusal.{Refusal};
+ghost use Rattle.core_event.specs.declared.reply.Answer.{Answer};
+ghost use Rattle.sched_rules.specs.Atoms.{atom_conflicts};
+ghost use Rattle.job_queue.specs.Queues.{ComesNext};
+ghost use Rattle.pass_table.specs.Passes.{has_pass, is_busy};
+ghost use Rattle.job_manager.specs.Refusals.{by_job};
+ghost use Rattle.job_manager.specs.Effects.{outcome, taken};
+
+use crate::{JobManager, NoMemory};
+use core_event::{Answer, Apart, Refusal, WsRule};
+use job_queue::{JobError, JobState};
+use res_path::Name;
+use std::alloc::{AllocError, Global};
+
+impl JobManager {
+    /// The job waits or sleeps.
+    pub(crate) fn schedule(
+        &mut self,
+        alloc: Global,
+        pass: u64,
+        name: &Name,
+        priority: u8,
+        rule: &WsRule,
+        asleep: bool,
+    ) -> Result<Answer, NoMemory>
+        ensures ok { IfOk result (λ answer. (self.new, answer) ≡ outcome self.old pass (Schedule name.now priority rule.now asleep)) }
+        ensures err { OnErr result (self.new ≡ self.old) }
+    {
+        let name = name.copy()?;
+        let rule = rule.copy()?;
+        match self.jobs.schedule(name, priority, rule, asleep) {
+            Ok(()) => Ok(Answer::Done),
+            Err(error) => refused(alloc, error),
+        }
+    }
+
+    /// The job that waits sleeps.
+    pub(crate) fn sleep(
+        &mut self,
+        alloc: Global,
+        pass: u64,
+        name: &Name,
+    ) -> Result<Answer, NoMemory>
+        ensures ok { IfOk result (λ answer. (self.new, answer) ≡ outcome self.old pass (Sleep name.now)) }
+        ensures err { OnErr result (self.new ≡ self.old) }
+    {
+        match self.jobs.sleep(name) {
+            Ok(()) => Ok(Answer::Done),
+            Err(error) => refused(alloc, error),
+        }
+    }
+
+    /// The job that sleeps waits.
+    pub(crate) fn wake(&mut self, alloc: Global, pass: u64, name: &Name) -> Result<Answer, NoMemory>
+        ensures ok { IfOk result (λ answer. (self.new, answer) ≡ outcome self.old pass (Wake name.now)) }
+        ensures err { OnErr result (self.new ≡ self.old) }
+    {
+        match self.jobs.wake(name) {
+            Ok(()) => Ok(Answer::Done),
+            Err(error) => refused(alloc, error),
+        }
+    }
+
+    /// The job that waits or sleeps is over.
+    pub(crate) fn cancel(
+        &mut self,
+        alloc: Global,
+        pass: u64,
+        name: &Name,
+    ) -> Result<Answer, NoMemory>
+        ensures ok { IfOk result (λ answer. (self.new, answer) ≡ outcome self.old pass (Cancel name.now)) }
+        ensures err { OnErr result (self.new ≡ self.old) }
+    {
+        match self.jobs.cancel(name) {
+            Ok(()) => Ok(Answer::Done),
+            Err(error) => refused(alloc, error),
+        }
+    }
+
+    /// The pass runs the job that comes next, if there is one. Refused where it has a rule, an open batch or a job.
+    pub(crate) fn take(&mut self, alloc: Global, pass: u64) -> Result<Answer, NoMemory>
+        requires { has_pass self.old.passes pass ≡ true }
+        ensures ok { IfOk result (λ answer. (self.new, answer) ≡ outcome self.old pass Take) }
+        ensures err { OnErr result (self.new ≡ self.old) }
+    {
+        if self.passes.is_busy(pass) {
+            return Answer::refused(alloc, Refusal::PassBusy);
+        }
+        match self.jobs.next(self.passes.rules()) {
+            None => Ok(Answer::None),
+            Some(name) => {
+                let name = name.copy()?;
+                self.run(alloc, pass, name)
+            }
+        }
+    }
+
+    /// The pass, which is not busy, runs the job of this name, which waits and whose rule is free.
+    fn run(&mut self, alloc: Global, pass: u64, name: Name) -> Result<Answer, NoMemory>
+        requires there { has_pass self.old.passes pass ≡ true }
+        requires idle { is_busy self.old.passes pass ≡ false }
+        requires next { ComesNext atom_conflicts self.old.passes.rules self.old.jobs.jobs name }
+        ensures ok { IfOk result (λ answer. (self.new, answer) ≡ taken self.old pass (Some name)) }
+        ensures err { OnErr result (self.new ≡ self.old) }
+    {
+        let answer = Answer::Job(Apart::of(alloc, name.copy()?)?);
+        let rule = match self.jobs.get(&name) {
+            Some(job) => job.rule.copy()?,
+            None => unreachable!(),
+        };
+        self.passes.run(pass, name.copy()?, rule)?;
+        match self.jobs.begin(&name) {
+            Ok(()) => Ok(answer),
+            Err(_) => unreachable!(),
+        }
+    }
+
+    /// The pass's job is over, with its batches and rules. Refused where it runs none.
+    pub(crate) fn finish(&mut self, alloc: Global, pass: u64) -> Result<Answer, NoMemory>
+        ensures ok { IfOk result (λ answer. (self.new, answer) ≡ outcome self.old pass Finish) }
+        ensures err { OnErr result (self.new ≡ self.old) }
+    {
+        let Some(name) = self.passes.job(pass) else {
+            return Answer::refused(alloc, Refusal::WrongState(JobState::None));
+        };
+        // A job that a pass runs is one that the queue knows as running; were it none, nothing would be done.
+        if self.jobs.finish(name).is_err() {
+            return Err(AllocError);
+        }
+        self.passes.finish(pass);
+        Ok(Answer::Done)
+    }
+}
+
+/// The answer to an event that is refused for what a job is.
+fn refused(alloc: Global, error: JobError) -> Result<Answer, NoMemory>
+    ensures { IfOk result (λ answer. (r : Refusal) × (by_job (Some error) ≡ Some r) × (answer ≡ Answer.Refused r)) }
+{
+    match error {
+        JobError::UnknownJob => Answer::refused(alloc, Refusal::UnknownJob),
+        JobError::WrongState(state) => Answer::refused(alloc, Refusal::WrongState(state)),
+        JobError::NumbersUsed => Answer::refused(alloc, Refusal::NumbersUsed),
+        JobError::Memory => Err(AllocError),
+    }
+}
