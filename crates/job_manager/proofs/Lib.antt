@@ -1,2 +1,3 @@
-mod Admitted
+pub mod Admitted
 mod Ended
+pub mod Apart

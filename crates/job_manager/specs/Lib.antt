@@ -2,3 +2,4 @@ pub mod Managers
 pub mod Admission
 pub mod Refusals
 pub mod Effects
+pub mod Batches

@@ -1,6 +1,8 @@
 //! Any event but an operation.
-ghost use Rattle.std.specs.Prelude.{◌≡◌, true, IfOk, OnErr};
-ghost use Rattle.pass_table.specs.Passes.{has_pass};
+ghost use Rattle.std.specs.Prelude.{◌≡◌, true, false, IfOk, OnOk, OnErr};
+ghost use Rattle.core_event.specs.declared.event.Event.TheVariants.{EndBatch, Finish};
+ghost use Rattle.pass_table.specs.Passes.{has_pass, is_quiet};
+ghost use Rattle.job_manager.specs.Batches.{closes};
 ghost use Rattle.job_manager.specs.Effects.{outcome};
 
 use crate::{JobManager, NoMemory};
@@ -17,6 +19,7 @@ impl JobManager {
         requires { has_pass self.old.passes pass ≡ true }
         ensures ok { IfOk result (λ answer. (self.new, answer) ≡ outcome self.old pass event.now) }
         ensures err { OnErr result (self.new ≡ self.old) }
+        ensures open { OnOk result (closes event.now ≡ false → is_quiet self.old.passes ≡ false → is_quiet self.new.passes ≡ false) }
     {
         match event {
             Event::Enter => self.enter(),
@@ -36,5 +39,48 @@ impl JobManager {
             Event::EndBatch => self.end_batch(alloc, pass),
             Event::Checkpoint | Event::Operation(_) => Ok(Answer::Done),
         }
+    }
+
+    /// Whether no batch is open once the event is done, or refused, which may close batches of the pass.
+    pub fn will_be_quiet(&self, pass: u64, event: &Event) -> bool
+        requires { closes event.now ≡ true }
+        ensures { result ≡ is_quiet (outcome self.now pass event.now).0.passes }
+    {
+        match event {
+            Event::EndBatch => self.is_quiet_after_batch(pass),
+            Event::Finish => self.is_quiet_after_job(pass),
+            Event::Enter
+            | Event::Leave
+            | Event::Schedule(_, _, _, _)
+            | Event::Sleep(_)
+            | Event::Wake(_)
+            | Event::Cancel(_)
+            | Event::Take
+            | Event::Begin(_)
+            | Event::TryBegin(_)
+            | Event::End(_)
+            | Event::Transfer(_)
+            | Event::Batch
+            | Event::Checkpoint
+            | Event::Operation(_) => unreachable!(),
+        }
+    }
+
+    fn is_quiet_after_batch(&self, pass: u64) -> bool
+        ensures { result ≡ is_quiet (outcome self.now pass EndBatch).0.passes }
+    {
+        if self.passes.batches(pass) == 0 {
+            return self.passes.is_quiet();
+        }
+        self.passes.is_last_batch(pass)
+    }
+
+    fn is_quiet_after_job(&self, pass: u64) -> bool
+        ensures { result ≡ is_quiet (outcome self.now pass Finish).0.passes }
+    {
+        if self.passes.job(pass).is_none() {
+            return self.passes.is_quiet();
+        }
+        self.passes.is_quiet_beside(pass)
     }
 }

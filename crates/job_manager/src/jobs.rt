@@ -5,7 +5,7 @@ ghost use Rattle.core_event.specs.declared.reply.Refusal.{Refusal};
 ghost use Rattle.core_event.specs.declared.reply.Answer.{Answer};
 ghost use Rattle.sched_rules.specs.Atoms.{atom_conflicts};
 ghost use Rattle.job_queue.specs.Queues.{ComesNext};
-ghost use Rattle.pass_table.specs.Passes.{has_pass, is_busy};
+ghost use Rattle.pass_table.specs.Passes.{has_pass, is_busy, is_quiet};
 ghost use Rattle.job_manager.specs.Refusals.{by_job};
 ghost use Rattle.job_manager.specs.Effects.{outcome, taken};
 
@@ -28,6 +28,7 @@ impl JobManager {
     ) -> Result<Answer, NoMemory>
         ensures ok { IfOk result (λ answer. (self.new, answer) ≡ outcome self.old pass (Schedule name.now priority rule.now asleep)) }
         ensures err { OnErr result (self.new ≡ self.old) }
+        ensures quiet { is_quiet self.new.passes ≡ is_quiet self.old.passes }
     {
         let name = name.copy()?;
         let rule = rule.copy()?;
@@ -46,6 +47,7 @@ impl JobManager {
     ) -> Result<Answer, NoMemory>
         ensures ok { IfOk result (λ answer. (self.new, answer) ≡ outcome self.old pass (Sleep name.now)) }
         ensures err { OnErr result (self.new ≡ self.old) }
+        ensures quiet { is_quiet self.new.passes ≡ is_quiet self.old.passes }
     {
         match self.jobs.sleep(name) {
             Ok(()) => Ok(Answer::Done),
@@ -57,6 +59,7 @@ impl JobManager {
     pub(crate) fn wake(&mut self, alloc: Global, pass: u64, name: &Name) -> Result<Answer, NoMemory>
         ensures ok { IfOk result (λ answer. (self.new, answer) ≡ outcome self.old pass (Wake name.now)) }
         ensures err { OnErr result (self.new ≡ self.old) }
+        ensures quiet { is_quiet self.new.passes ≡ is_quiet self.old.passes }
     {
         match self.jobs.wake(name) {
             Ok(()) => Ok(Answer::Done),
@@ -73,6 +76,7 @@ impl JobManager {
     ) -> Result<Answer, NoMemory>
         ensures ok { IfOk result (λ answer. (self.new, answer) ≡ outcome self.old pass (Cancel name.now)) }
         ensures err { OnErr result (self.new ≡ self.old) }
+        ensures quiet { is_quiet self.new.passes ≡ is_quiet self.old.passes }
     {
         match self.jobs.cancel(name) {
             Ok(()) => Ok(Answer::Done),
@@ -85,6 +89,7 @@ impl JobManager {
         requires { has_pass self.old.passes pass ≡ true }
         ensures ok { IfOk result (λ answer. (self.new, answer) ≡ outcome self.old pass Take) }
         ensures err { OnErr result (self.new ≡ self.old) }
+        ensures quiet { is_quiet self.new.passes ≡ is_quiet self.old.passes }
     {
         if self.passes.is_busy(pass) {
             return Answer::refused(alloc, Refusal::PassBusy);
@@ -105,6 +110,7 @@ impl JobManager {
         requires next { ComesNext atom_conflicts self.old.passes.rules self.old.jobs.jobs name }
         ensures ok { IfOk result (λ answer. (self.new, answer) ≡ taken self.old pass (Some name)) }
         ensures err { OnErr result (self.new ≡ self.old) }
+        ensures quiet { is_quiet self.new.passes ≡ is_quiet self.old.passes }
     {
         let answer = Answer::Job(Apart::of(alloc, name.copy()?)?);
         let rule = match self.jobs.get(&name) {

@@ -1,7 +1,7 @@
 //! The events that concern passes, their rules and their batches.
-ghost use Rattle.std.specs.Prelude.{◌≡◌, true, IfOk, OnOk, OnErr};
+ghost use Rattle.std.specs.Prelude.{◌≡◌, true, false, IfOk, OnOk, OnErr};
 ghost use Rattle.core_event.specs.declared.event.Event.TheVariants.{Leave, Begin, End, Transfer, Batch, EndBatch};
-ghost use Rattle.pass_table.specs.Passes.{has_pass};
+ghost use Rattle.pass_table.specs.Passes.{has_pass, is_quiet};
 ghost use Rattle.pass_table.specs.Rows.{entered};
 ghost use Rattle.job_manager.specs.Effects.{outcome};
 
@@ -17,6 +17,7 @@ impl JobManager {
         ensures state { OnOk result (self.new ≡ record self.old { passes = entered self.old.passes }) }
         ensures number { IfOk result (λ answer. answer ≡ Answer.Id self.old.passes.next) }
         ensures err { OnErr result (self.new ≡ self.old) }
+        ensures quiet { is_quiet self.new.passes ≡ is_quiet self.old.passes }
     {
         let number = self.passes.enter()?;
         Ok(Answer::Id(number))
@@ -26,6 +27,7 @@ impl JobManager {
     pub(crate) fn leave(&mut self, alloc: Global, pass: u64) -> Result<Answer, NoMemory>
         ensures ok { IfOk result (λ answer. (self.new, answer) ≡ outcome self.old pass Leave) }
         ensures err { OnErr result (self.new ≡ self.old) }
+        ensures quiet { is_quiet self.new.passes ≡ is_quiet self.old.passes }
     {
         match self.passes.leave(pass) {
             Ok(()) => Ok(Answer::Done),
@@ -42,6 +44,7 @@ impl JobManager {
     ) -> Result<Answer, NoMemory>
         ensures ok { IfOk result (λ answer. (self.new, answer) ≡ outcome self.old pass (Begin rule.now)) }
         ensures err { OnErr result (self.new ≡ self.old) }
+        ensures quiet { is_quiet self.new.passes ≡ is_quiet self.old.passes }
     {
         let rule = rule.copy()?;
         match self.passes.begin(pass, rule) {
@@ -65,6 +68,7 @@ impl JobManager {
     ) -> Result<Answer, NoMemory>
         ensures ok { IfOk result (λ answer. (self.new, answer) ≡ outcome self.old pass (End rule.now)) }
         ensures err { OnErr result (self.new ≡ self.old) }
+        ensures quiet { is_quiet self.new.passes ≡ is_quiet self.old.passes }
     {
         match self.passes.end(pass, rule) {
             Ok(()) => Ok(Answer::Done),
@@ -78,6 +82,7 @@ impl JobManager {
     pub(crate) fn transfer(&mut self, alloc: Global, pass: u64, to: u64) -> Result<Answer, NoMemory>
         ensures ok { IfOk result (λ answer. (self.new, answer) ≡ outcome self.old pass (Transfer to)) }
         ensures err { OnErr result (self.new ≡ self.old) }
+        ensures quiet { is_quiet self.new.passes ≡ is_quiet self.old.passes }
     {
         match self.passes.transfer(pass, to) {
             Ok(()) => Ok(Answer::Done),
@@ -92,6 +97,7 @@ impl JobManager {
         requires { has_pass self.old.passes pass ≡ true }
         ensures ok { IfOk result (λ answer. (self.new, answer) ≡ outcome self.old pass Batch) }
         ensures err { OnErr result (self.new ≡ self.old) }
+        ensures quiet { OnOk result (is_quiet self.new.passes ≡ false) }
     {
         self.passes.begin_batch(pass)?;
         Ok(Answer::Done)

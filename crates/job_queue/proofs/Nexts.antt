@@ -12,7 +12,7 @@ use Rattle.job_queue.specs.declared.job.Job.{Job}
 use Rattle.job_queue.specs.declared.job.Turn.{Turn}
 use Rattle.job_queue.specs.States.{is_waiting}
 use Rattle.job_queue.specs.Turns.{turn_cmp, turn_cmp_total, turn_cmp_exact}
-use Rattle.job_queue.specs.Queues.{name_cmp, Jobs, may_start, earlier, earliest, ComesNext}
+use Rattle.job_queue.specs.Queues.{name_cmp, Jobs, Queue, may_start, earlier, earliest, next_name, ComesNext}
 use Rattle.job_queue.specs.Inside.Kept.{Turns, IsKept, has_free}
 use Rattle.job_queue.proofs.Named.{name_cmp_total, name_cmp_exact}
 use Rattle.job_queue.proofs.Found.{second, differ, not_Some, same_Some, itself, apart_from, found_behind, found_first, by_place, find_none, find_some}
@@ -41,11 +41,11 @@ module _ {A : Type 0} (p : Job A → Bool) where
       ap (λ b. earliest (cond b (e ∷ filter (λ e. p e.1) es) (filter (λ e. p e.1) es))) (h e.0 e.1 (found_first name_cmp_total name_cmp_exact e es))
       ∙ none_earliest es (second _ _ s) (λ n job g. h n job (found_behind name_cmp_total name_cmp_exact e es s n job g))
 
-  record IsOne (es : List Entry) (e : Entry) : Type 0 where
-    there : look name_cmp e.0 es ≡ Some e.1
-    passes : p e.1 ≡ true
+  pub record IsOne (es : List Entry) (e : Entry) : Type 0 where
+    pub there : look name_cmp e.0 es ≡ Some e.1
+    pub passes : p e.1 ≡ true
 
-  one_of : (es : List Entry) → T (is_sorted name_cmp es) → (e : Entry) → earliest (filter (λ e. p e.1) es) ≡ Some e → IsOne es e
+  pub one_of : (es : List Entry) → T (is_sorted name_cmp es) → (e : Entry) → earliest (filter (λ e. p e.1) es) ≡ Some e → IsOne es e
   one_of [] s e h = absurd (not_Some e h)
   one_of (f ∷ es) s e h = by (p f.1) refl h (λ g. behind (one_of es (second _ _ s) e g))
     where
@@ -185,3 +185,17 @@ module _ {A : Type 0} (conflicts : A → A → Bool) (held : List (Held A)) (job
       by : (o : Option (Turn × List ℕ)) → find (λ (e : Turn × List ℕ). has_free conflicts held (get jobs e.1)) (entries turns) ≡ o → option_map (λ e. e.1) o ≡ Some n → ComesNext conflicts held jobs n
       by None i g = absurd (not_Some n g)
       by (Some e) i g = subst (ComesNext conflicts held jobs) (same_Some e.1 n g) (comes_next e i)
+
+-- ---- the definition, of any queue
+
+-- the job that comes next is there, and may be started
+pub may_next : {A : Type 0} (conflicts : A → A → Bool) (held : List (Held A)) (q : Queue A) (n : List ℕ) → next_name conflicts held q ≡ Some n
+    → (job : Job A) × (get q.jobs n ≡ Some job) × (may_start conflicts held job ≡ true)
+may_next {A} conflicts held q n h = by (earliest (filter (λ e. may_start conflicts held e.1) (entries q.jobs))) refl h
+  where
+    by : (o : Option (List ℕ × Job A)) → earliest (filter (λ e. may_start conflicts held e.1) (entries q.jobs)) ≡ o → option_map (λ e. e.0) o ≡ Some n
+        → (job : Job A) × (get q.jobs n ≡ Some job) × (may_start conflicts held job ≡ true)
+    by None e g = cc
+    by (Some x) e g =
+        let one = one_of (may_start conflicts held) (entries q.jobs) (entries_sorted q.jobs) x e in
+        (x.1, ap (get q.jobs) (sym (same_Some x.0 n g)) ∙ get-entries q.jobs x.0 ∙ one.there, one.passes)
