@@ -3,7 +3,7 @@ use Rattle.std.specs.Prelude.{Bool, true, false, if◌then◌else◌, Option, So
 use Rattle.op_kind.specs.declared.op.Op.{Op}
 use Rattle.op_kind.specs.declared.op.Op.TheVariants.{Read}
 use Rattle.core_event.specs.declared.event.Event.{Event}
-use Rattle.core_event.specs.declared.event.Event.TheVariants.{Leave, TryBegin, Checkpoint, Operation}
+use Rattle.core_event.specs.declared.event.Event.TheVariants.{Enter, Leave, Schedule, Sleep, Wake, Cancel, Take, Finish, Begin, TryBegin, End, Transfer, Batch, EndBatch, Checkpoint, Operation}
 
 abbrev pub is_checkpoint : Event → Bool
 is_checkpoint Checkpoint = true
@@ -12,6 +12,25 @@ is_checkpoint event = false
 abbrev pub is_leave : Event → Bool
 is_leave Leave = true
 is_leave event = false
+
+-- the operation that the event is, if it is one
+abbrev pub operation_of : Event → Option Op
+operation_of Enter = None
+operation_of Leave = None
+operation_of (Schedule name priority rule asleep) = None
+operation_of (Sleep name) = None
+operation_of (Wake name) = None
+operation_of (Cancel name) = None
+operation_of Take = None
+operation_of Finish = None
+operation_of (Begin rule) = None
+operation_of (TryBegin rule) = None
+operation_of (End rule) = None
+operation_of (Transfer to) = None
+operation_of Batch = None
+operation_of EndBatch = None
+operation_of Checkpoint = None
+operation_of (Operation op) = Some op
 
 -- whether the operation only reads
 abbrev pub is_read : Op → Bool

@@ -1,7 +1,7 @@
 //! What a pass may ask.
 ghost use Rattle.std.specs.Prelude.{◌≡◌, IfOk};
 ghost use Rattle.std.specs.Option.{option_copied};
-ghost use Rattle.core_event.specs.Events.{change_of, is_read, waits};
+ghost use Rattle.core_event.specs.Events.{change_of, is_read, operation_of, waits};
 
 use crate::WsRule;
 use op_kind::Op;
@@ -54,6 +54,30 @@ impl Event {
     {
         match self {
             Event::Operation(op) => change(op),
+            Event::Enter
+            | Event::Leave
+            | Event::Schedule(_, _, _, _)
+            | Event::Sleep(_)
+            | Event::Wake(_)
+            | Event::Cancel(_)
+            | Event::Take
+            | Event::Finish
+            | Event::Begin(_)
+            | Event::TryBegin(_)
+            | Event::End(_)
+            | Event::Transfer(_)
+            | Event::Batch
+            | Event::EndBatch
+            | Event::Checkpoint => None,
+        }
+    }
+
+    /// The operation that the event is, if it is one.
+    pub fn operation(&self) -> Option<&Op>
+        ensures { option_copied result ≡ operation_of self.now }
+    {
+        match self {
+            Event::Operation(op) => Some(op),
             Event::Enter
             | Event::Leave
             | Event::Schedule(_, _, _, _)

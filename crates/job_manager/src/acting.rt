@@ -1,13 +1,15 @@
 //! Any event but an operation.
-ghost use Rattle.std.specs.Prelude.{◌≡◌, true, false, IfOk, OnOk, OnErr};
+ghost use Rattle.std.specs.Prelude.{◌≡◌, true, false, None, IfOk, OnOk, OnErr};
 ghost use Rattle.core_event.specs.declared.event.Event.TheVariants.{EndBatch, Finish};
 ghost use Rattle.pass_table.specs.Passes.{has_pass, is_quiet};
-ghost use Rattle.job_manager.specs.Batches.{closes};
-ghost use Rattle.job_manager.specs.Effects.{outcome};
+ghost use Rattle.job_manager.specs.Batches.{closes, IsRun};
+ghost use Rattle.job_manager.specs.Refusals.{refusal};
+ghost use Rattle.job_manager.specs.Effects.{effect, outcome};
 
 use crate::{JobManager, NoMemory};
-use core_event::{Answer, Event};
-use std::alloc::Global;
+use core_event::{Answer, Event, Refusal};
+use job_queue::JobState;
+use std::alloc::{AllocError, Global};
 
 impl JobManager {
     /// Does the event of the pass, or refuses it with the first cause in the order of its list, and gives the answer. A
@@ -63,6 +65,90 @@ impl JobManager {
             | Event::Batch
             | Event::Checkpoint
             | Event::Operation(_) => unreachable!(),
+        }
+    }
+
+    /// Why an event that closes batches is refused, if it is. It is want of memory where the pass's job isn't one that is
+    /// run, which no event brings about.
+    pub fn closing_refusal(&self, pass: u64, event: &Event) -> Result<Option<Refusal>, NoMemory>
+        requires { closes event.now ≡ true }
+        ensures refusal { IfOk result (λ r. r ≡ refusal self.now pass event.now) }
+        ensures runs { OnOk result (IsRun self.now pass) }
+    {
+        if !self.is_run(pass) {
+            return Err(AllocError);
+        }
+        if matches!(event, Event::EndBatch) {
+            return Ok(self.batch_refusal(pass));
+        }
+        Ok(self.finish_refusal(pass))
+    }
+
+    /// Whether the job that the pass runs, if it runs one, is one that is run.
+    fn is_run(&self, pass: u64) -> bool
+        ensures { result ≡ true → IsRun self.now pass }
+    {
+        match self.passes.job(pass) {
+            None => true,
+            Some(name) => self.jobs.is_running(name),
+        }
+    }
+
+    fn batch_refusal(&self, pass: u64) -> Option<Refusal>
+        ensures { result ≡ refusal self.now pass EndBatch }
+    {
+        if self.passes.batches(pass) == 0 {
+            return Some(Refusal::NoBatch);
+        }
+        None
+    }
+
+    fn finish_refusal(&self, pass: u64) -> Option<Refusal>
+        ensures { result ≡ refusal self.now pass Finish }
+    {
+        if self.passes.job(pass).is_none() {
+            return Some(Refusal::WrongState(JobState::None));
+        }
+        None
+    }
+
+    /// Does an event that closes batches and isn't refused. It takes no memory.
+    pub fn close(&mut self, pass: u64, event: &Event)
+        requires closes { closes event.now ≡ true }
+        requires allowed { refusal self.old pass event.now ≡ None }
+        requires runs { IsRun self.old pass }
+        ensures { self.new ≡ (effect self.old pass event.now).0 }
+    {
+        if matches!(event, Event::EndBatch) {
+            self.close_batch(pass);
+        } else {
+            self.close_job(pass);
+        }
+    }
+
+    fn close_batch(&mut self, pass: u64)
+        requires { refusal self.old pass EndBatch ≡ None }
+        ensures { self.new ≡ (effect self.old pass EndBatch).0 }
+    {
+        match self.passes.end_batch(pass) {
+            Ok(()) => {}
+            Err(_) => unreachable!(),
+        }
+    }
+
+    fn close_job(&mut self, pass: u64)
+        requires allowed { refusal self.old pass Finish ≡ None }
+        requires runs { IsRun self.old pass }
+        ensures { self.new ≡ (effect self.old pass Finish).0 }
+    {
+        let Some(name) = self.passes.job(pass) else {
+            unreachable!();
+        };
+        match self.jobs.finish(name) {
+            Ok(()) => {
+                self.passes.finish(pass);
+            }
+            Err(_) => unreachable!(),
         }
     }
 

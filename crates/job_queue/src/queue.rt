@@ -84,6 +84,16 @@ impl<A: Atom> JobQueue<A> {
         }
     }
 
+    /// Whether the job of this name is run.
+    pub fn is_running(&self, name: &Name) -> bool
+        ensures { result ≡ true → refusal is_running (state_of self.now name.now) ≡ None }
+    {
+        match self.state(name) {
+            Some(state) => state.is_running(),
+            None => false,
+        }
+    }
+
     /// How many jobs wait or are run.
     pub fn live(&self) -> u64
         ensures { result ≡ live self.now }

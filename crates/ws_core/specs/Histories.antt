@@ -1,32 +1,25 @@
 -- What was done, entry by entry.
-use Rattle.std.specs.Prelude.{◌≡◌, ℕ, Bool, true, ◌&&◌, List, [], ◌∷◌, ◌++◌, map, None, if◌then◌else◌}
+use Rattle.std.specs.Prelude.{◌≡◌, ℕ, Bool, true, false, ◌&&◌, List, [], ◌∷◌, ◌++◌, map, if◌then◌else◌}
 use Rattle.std.specs.Option.{option_to_list}
 use Rattle.std.specs.FinMap.{empty}
+use Rattle.std.specs.List.{list_any}
 use Rattle.ws_elem.specs.Trees.{Tree, fresh_tree}
 use Rattle.delta_kind.specs.Deltas.{delta}
 use Rattle.delta_kind.specs.declared.node.DeltaNode.{DeltaNode}
+use Rattle.pass_table.specs.Passes.{has_pass}
 use Rattle.core_event.specs.declared.entry.Entry.{Entry}
 use Rattle.core_event.specs.declared.reply.Reply.{Reply}
+use Rattle.core_event.specs.Replies.{is_attempt, some_nodes}
+use Rattle.job_manager.specs.Managers.{first_manager}
 use Rattle.ws_core.specs.declared.state.State.{State}
-use Rattle.core_event.specs.Numbers.{has_number}
 use Rattle.ws_core.specs.Steps.{step, tells}
-use Rattle.core_event.specs.Replies.{some_nodes}
 
 -- the fresh workspace: the root alone, as node 1, and pass 0
 abbrev pub fresh : State
 fresh = record {
-  tree = fresh_tree;
-  shelf = empty;
-  told = fresh_tree;
-  next_node = 2;
-  next_stamp = 1;
-  next_marker = 1;
-  next_pass = 1;
-  partners = [];
-  passes = 0 ∷ [];
-  batches = empty;
-  rules = [];
-  waiting = None;
+  resources = record { tree = fresh_tree; shelf = empty; next_node = 2; next_stamp = 1; next_marker = 1; partners = [] };
+  remembered = record { start = fresh_tree; told = fresh_tree };
+  manager = first_manager;
 }
 
 -- the state after an entry
@@ -45,19 +38,25 @@ replies s (x ∷ h) = (step s x.pass x.event).1 ∷ replies (after s x) h
 
 -- the pass has entered, and hasn't left
 abbrev pub has_entered : ℕ → State → Bool
-has_entered pass s = has_number pass s.passes
+has_entered pass s = has_pass s.manager.passes pass
 
 -- each entry's pass has entered before it, and hasn't left
 abbrev pub entered : State → List Entry → Bool
 entered s [] = true
 entered s (x ∷ h) = has_entered x.pass s && entered (after s x) h
 
+-- the event only found that it must wait
+abbrev pub only_tried : Entry → Bool
+only_tried x = is_attempt x.event x.reply.answer
+
 -- a history that may follow the state s
 pub record Legal (s : State) (h : List Entry) : Type 0 where
   -- each reply is the one that the step gives at its place
   pub replies : map (λ (x : Entry). x.reply) h ≡ replies s h
-  -- and each pass is there at its place
+  -- each pass is there at its place
   pub entered : entered s h ≡ true
+  -- and no entry is an attempt
+  pub events : list_any only_tried h ≡ false
 
 -- a list of what is told, empty where that is nothing
 abbrev pub unless_empty : List DeltaNode → List (List DeltaNode)
@@ -68,11 +67,11 @@ abbrev pub notices_from : Tree → State → List Entry → List (List DeltaNode
 notices_from told s [] = []
 notices_from told s (x ∷ h) =
     let next = after s x in
-    if tells x.event next then unless_empty (delta told next.tree) ++ notices_from next.tree next h else notices_from told next h
+    if tells x.event next then unless_empty (delta told next.resources.tree) ++ notices_from next.resources.tree next h else notices_from told next h
 
 -- the notices of a history that begins at s, whose tree has been told
 abbrev pub notices : State → List Entry → List (List DeltaNode)
-notices s h = notices_from s.tree s h
+notices s h = notices_from s.resources.tree s h
 
 -- what the replies of a history tell
 abbrev pub told_of : List Entry → List (List DeltaNode)

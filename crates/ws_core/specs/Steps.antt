@@ -1,6 +1,5 @@
 -- One event of a pass: refused or done, and then told.
-use Rattle.std.specs.Prelude.{ℕ, Bool, true, false, ◌||◌, ◌==◌, List, Option, Some, None}
-use Rattle.std.specs.FinMap.{len}
+use Rattle.std.specs.Prelude.{ℕ, Bool, true, false, ◌||◌, List, Option, Some, None}
 use Rattle.delta_kind.specs.Deltas.{delta}
 use Rattle.delta_kind.specs.declared.node.DeltaNode.{DeltaNode}
 use Rattle.core_event.specs.declared.event.Event.{Event}
@@ -8,9 +7,11 @@ use Rattle.core_event.specs.declared.reply.Answer.{Answer}
 use Rattle.core_event.specs.declared.reply.Answer.TheVariants.{Refused}
 use Rattle.core_event.specs.declared.reply.Refusal.{Refusal}
 use Rattle.core_event.specs.declared.reply.Reply.{Reply}
-use Rattle.ws_core.specs.declared.state.State.{State}
 use Rattle.core_event.specs.Events.{is_checkpoint}
 use Rattle.core_event.specs.Replies.{some_nodes}
+use Rattle.pass_table.specs.Passes.{is_quiet}
+use Rattle.ws_core.specs.declared.state.State.{State}
+use Rattle.ws_core.specs.States.{with_told}
 use Rattle.ws_core.specs.Effects.{effect}
 use Rattle.ws_core.specs.Refusals.{refusal}
 
@@ -25,15 +26,15 @@ act s pass event = acted (refusal s pass event) s pass event
 
 -- whether the event is a telling place: each Checkpoint, and each other event that leaves no batch open
 abbrev pub tells : Event → State → Bool
-tells event after = is_checkpoint event || len after.batches == 0
+tells event after = is_checkpoint event || is_quiet after.manager.passes
 
 -- what changed since the last telling place
 abbrev pub notice : State → Option (List DeltaNode)
-notice s = some_nodes (delta s.told s.tree)
+notice s = some_nodes (delta s.remembered.told s.resources.tree)
 
 -- at a telling place the reply carries the notice, and the tree is told
 abbrev pub told : Bool → State → Answer → State × Reply
-told true s answer = (record s { told = s.tree }, record { answer = answer; notice = notice s })
+told true s answer = (record s { remembered = with_told s.remembered s.resources.tree }, record { answer = answer; notice = notice s })
 told false s answer = (s, record { answer = answer; notice = None })
 
 -- what an event did is told where the event is a telling place

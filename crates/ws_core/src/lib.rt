@@ -1,31 +1,20 @@
 //! The workspace's core: what an event of a pass does, and the history of what was done.
 //!
-//! What events are, and what they are answered, stands in core_event, and the rules of operations in op_rule.
+//! What events are, and what they are answered, stands in core_event, the rules of operations in op_rule, and the events of
+//! passes, jobs, rules and batches in job_manager.
 //!
 //! - `history`: a `History`, entries in order.
-//! - `state`: a `State`, what there is at one moment.
-//! - `stepping`: one step of a state: an event is done or refused, and what changed is told.
-//! - `admitting`: what the rules of the passes admit, and how rules begin and end.
-//! - `arranging`: the events that concern passes, jobs and batches.
-//! - `operating`: the operations, and what they change.
-//! - `telling`: what changed from one tree to another.
-//! - `session`: a `Core`, an open workspace: its state, with all that was done since it was opened.
+//! - `replied`: a `Replied`, a reply with a copy where one is wanted.
+//! - `operating`: operations, and what is told of them.
+//! - `contents`: a `Content`, what is there, and what it was.
 #![tactic(auto)]
 
-mod admitting;
-mod arranging;
-mod history;
+mod contents;
 mod operating;
-mod session;
-mod state;
-mod stepping;
-mod telling;
+mod replied;
 
-pub use core_event::{
-    Answer, Apart, Batches, Entry, Event, Notice, Numbers, Refusal, Reply, Waiting, WsRule,
-};
-pub use history::History;
+pub use core_event::{Answer, Apart, Entry, Event, Notice, Refusal, Reply, WsRule};
 pub use op_rule::operation_rule;
+pub use contents::Content;
+pub use replied::Replied;
 pub use res_path::NoMemory;
-pub use session::Core;
-pub use state::State;

@@ -1,211 +1,220 @@
-//! Operations on the tree and what stands beside it.
-ghost use Rattle.std.specs.Prelude.{◌≡◌, IfOk, OnOk, OnErr};
+//! Operations on a tree that remembers and on what stands beside it, and what is told of them.
+ghost use Rattle.std.specs.Prelude.{◌≡◌, Some, None as nothing, IfOk, IfErr, IfSome, IsSome, OnOk, OnErr};
 ghost use Rattle.delta_kind.specs.Deltas.{delta};
 ghost use Rattle.op_plan.specs.Backs.{taken_back};
 ghost use Rattle.op_plan.specs.Edits.{HasRooms};
+ghost use Rattle.op_kind.specs.Effects.{effect};
+ghost use Rattle.op_kind.specs.Judging.{IfRefused};
 ghost use Rattle.op_kind.specs.Refusals.{refusal};
 ghost use Rattle.op_kind.specs.Resources.{resources};
-ghost use Rattle.op_kind.specs.Sound.{IsConsistent};
-ghost use Rattle.ws_core.specs.Inside.Acts.{operated};
+ghost use Rattle.tree_memory.specs.Spared.{left};
 ghost use Rattle.core_event.specs.Replies.{answered, some_nodes};
+ghost use Rattle.ws_core.specs.Inside.Parts.{Renewed, replied};
 
-use crate::telling::notice_between;
-use crate::{Answer, NoMemory, Refusal, Reply};
-use op_kind::{Op, OpAnswer, OpError, OpRefusal, Side};
-use std::alloc::{AllocError, Global};
-use tree_flat::FlatTree;
-use ws_elem::{ElemMap, TreeRep};
+use crate::replied::Replied;
+use crate::{Answer, NoMemory, Notice, Reply};
+use op_kind::{Op, OpAnswer, OpError, Side};
+use std::alloc::Global;
+use std::mem;
+use tree_memory::{Remembers, Sparing};
+use ws_elem::TreeRep;
 use ws_ops::{Applied, apply, take_back};
 
-/// Why the operation is refused, if it is. It is tried, and taken back: nothing has changed.
-pub fn refusal_of(
+/// Does the operation, and tells nothing. Where it is refused, and where memory wants, nothing has changed.
+pub fn apply_untold<T: Remembers>(
     alloc: Global,
-    tree: &mut FlatTree,
+    tree: &mut Sparing<T>,
     side: &mut Side,
     op: &Op,
-) -> Result<Option<OpRefusal>, NoMemory>
-    requires { IsConsistent (resources tree.old.map side.old) }
-    ensures refusal { IfOk result (λ r. r ≡ refusal (resources tree.old.map side.old) op.now) }
-    ensures same { resources tree.new.map side.new ≡ resources tree.old.map side.old }
+    wants_copy: bool,
+) -> Result<Replied, OpError>
+    ensures allowed { OnOk result (refusal (resources (T.tree tree.old.tree) side.old) op.now ≡ nothing) }
+    ensures resources { OnOk result (resources (T.tree tree.new.tree) side.new ≡ (effect (resources (T.tree tree.old.tree) side.old) op.now).0) }
+    ensures reply { IfOk result (λ r. r ≡ replied wants_copy
+        (record { answer = answered (effect (resources (T.tree tree.old.tree) side.old) op.now).1; notice = nothing })) }
+    ensures refused { IfErr result (IfRefused (λ r. refusal (resources (T.tree tree.old.tree) side.old) op.now ≡ Some r)) }
+    ensures same { OnErr result (resources (T.tree tree.new.tree) side.new ≡ resources (T.tree tree.old.tree) side.old) }
+    ensures remembered { left T.remembered tree.new ≡ left T.remembered tree.old }
 {
     match apply(alloc, tree, side, op) {
-        Ok(done) => {
-            undo(tree, side, done);
-            Ok(None)
-        }
-        Err(OpError::Refused(refusal)) => {
+        Ok(done) => Ok(answer_done(alloc, tree, side, done, wants_copy)?),
+        Err(error) => {
             drop_room(tree, side);
-            Ok(Some(refusal))
-        }
-        Err(OpError::Memory) => {
-            drop_room(tree, side);
-            Err(AllocError)
-        }
-    }
-}
-
-/// Takes back what was done, and lets its answer go.
-fn undo(tree: &mut FlatTree, side: &mut Side, done: Applied)
-    requires tree { HasRooms tree.old.room done.back.tree }
-    requires shelf { HasRooms side.old.shelf.room done.back.shelf }
-    ensures { resources tree.new.map side.new ≡ taken_back (resources tree.old.map side.old) done.back }
-{
-    let Applied { answer, back } = done;
-    drop(answer);
-    take_back(tree, side, back);
-    drop_room(tree, side);
-}
-
-/// Does the operation, or refuses it. Where memory wants, nothing has changed.
-pub fn operate(
-    alloc: Global,
-    tree: &mut FlatTree,
-    side: &mut Side,
-    op: &Op,
-) -> Result<Answer, NoMemory>
-    requires { IsConsistent (resources tree.old.map side.old) }
-    ensures resources { OnOk result (resources tree.new.map side.new ≡ (operated (resources tree.old.map side.old) op.now).0) }
-    ensures answer { IfOk result (λ answer. answer ≡ (operated (resources tree.old.map side.old) op.now).1) }
-    ensures err { OnErr result (resources tree.new.map side.new ≡ resources tree.old.map side.old) }
-{
-    let outcome = apply(alloc, tree, side, op);
-    match outcome {
-        Ok(done) => answer_done(alloc, tree, side, done),
-        Err(OpError::Refused(refusal)) => {
-            drop_room(tree, side);
-            Answer::refused(alloc, Refusal::Operation(refusal))
-        }
-        Err(OpError::Memory) => {
-            drop_room(tree, side);
-            Err(AllocError)
+            Err(error)
         }
     }
 }
 
 /// Answers what was done. Where memory wants, that is taken back.
-fn answer_done(
+fn answer_done<T: Remembers>(
     alloc: Global,
-    tree: &mut FlatTree,
+    tree: &mut Sparing<T>,
     side: &mut Side,
     done: Applied,
-) -> Result<Answer, NoMemory>
-    requires tree { HasRooms tree.old.room done.back.tree }
+    wants_copy: bool,
+) -> Result<Replied, NoMemory>
+    requires tree { HasRooms (T.room tree.old.tree) done.back.tree }
     requires shelf { HasRooms side.old.shelf.room done.back.shelf }
-    ensures resources { OnOk result (resources tree.new.map side.new ≡ resources tree.old.map side.old) }
-    ensures answer { IfOk result (λ answer. answer ≡ answered done.answer) }
-    ensures err { OnErr result (resources tree.new.map side.new ≡ taken_back (resources tree.old.map side.old) done.back) }
-{
-    let Applied {
-        answer,
-        back: way_back,
-    } = done;
-    match Answer::of(alloc, answer) {
-        Ok(answer) => {
-            drop(way_back);
-            drop_room(tree, side);
-            Ok(answer)
-        }
-        Err(error) => {
-            take_back(tree, side, way_back);
-            drop_room(tree, side);
-            Err(error)
-        }
-    }
-}
-
-/// Does the operation, or refuses it, and tells what changed in the tree since `told`. Where memory wants, nothing has
-/// changed: what was done is taken back.
-pub fn operate_and_tell(
-    alloc: Global,
-    tree: &mut FlatTree,
-    side: &mut Side,
-    told: &ElemMap,
-    op: &Op,
-) -> Result<Reply, NoMemory>
-    requires { IsConsistent (resources tree.old.map side.old) }
-    ensures resources { OnOk result (resources tree.new.map side.new ≡ (operated (resources tree.old.map side.old) op.now).0) }
-    ensures answer { IfOk result (λ reply. reply.answer ≡ (operated (resources tree.old.map side.old) op.now).1) }
-    ensures notice { IfOk result (λ reply. reply.notice
-        ≡ some_nodes (delta told.now.map (operated (resources tree.old.map side.old) op.now).0.tree)) }
-    ensures err { OnErr result (resources tree.new.map side.new ≡ resources tree.old.map side.old) }
-{
-    match apply(alloc, tree, side, op) {
-        Ok(done) => tell_done(alloc, tree, side, told, done),
-        Err(OpError::Refused(refusal)) => {
-            drop_room(tree, side);
-            refusal_told(alloc, told, tree.map(), refusal)
-        }
-        Err(OpError::Memory) => {
-            drop_room(tree, side);
-            Err(AllocError)
-        }
-    }
-}
-
-/// Tells what changed in the tree since `told`, with the answer to what was done. Where memory wants, that is taken
-/// back.
-fn tell_done(
-    alloc: Global,
-    tree: &mut FlatTree,
-    side: &mut Side,
-    told: &ElemMap,
-    done: Applied,
-) -> Result<Reply, NoMemory>
-    requires tree { HasRooms tree.old.room done.back.tree }
-    requires shelf { HasRooms side.old.shelf.room done.back.shelf }
-    ensures resources { OnOk result (resources tree.new.map side.new ≡ resources tree.old.map side.old) }
-    ensures answer { IfOk result (λ reply. reply.answer ≡ answered done.answer) }
-    ensures notice { IfOk result (λ reply. reply.notice ≡ some_nodes (delta told.now.map tree.old.map)) }
-    ensures err { OnErr result (resources tree.new.map side.new ≡ taken_back (resources tree.old.map side.old) done.back) }
+    ensures resources { OnOk result (resources (T.tree tree.new.tree) side.new ≡ resources (T.tree tree.old.tree) side.old) }
+    ensures reply { IfOk result (λ r. r ≡ replied wants_copy (record { answer = answered done.answer; notice = nothing })) }
+    ensures err { OnErr result (resources (T.tree tree.new.tree) side.new ≡ taken_back (resources (T.tree tree.old.tree) side.old) done.back) }
+    ensures remembered { left T.remembered tree.new ≡ left T.remembered tree.old }
 {
     let Applied { answer, back } = done;
-    match answer_told(alloc, told, tree.map(), answer) {
-        Ok(reply) => {
+    match answer_of(alloc, answer, wants_copy) {
+        Ok(replied) => {
             drop(back);
             drop_room(tree, side);
-            Ok(reply)
+            Ok(replied)
         }
-        Err(error) => {
+        Err(wanted) => {
             take_back(tree, side, back);
+            drop_room(tree, side);
+            Err(wanted)
+        }
+    }
+}
+
+fn answer_of(alloc: Global, answer: OpAnswer, wants_copy: bool) -> Result<Replied, NoMemory>
+    ensures { IfOk result (λ r. r ≡ replied wants_copy (record { answer = answered answer; notice = nothing })) }
+{
+    let answer = Answer::of(alloc, answer)?;
+    Replied::untold(answer, wants_copy)
+}
+
+/// Does the operation, and tells what changed since the tree was told: it is the tree that is told then. Where it is
+/// refused, and where memory wants, nothing has changed.
+pub fn apply_told<T: Remembers>(
+    alloc: Global,
+    tree: &mut Sparing<T>,
+    side: &mut Side,
+    told: &mut T::Memory,
+    op: &Op,
+    wants_copy: bool,
+) -> Result<Replied, OpError>
+    requires { IsSome (left T.remembered tree.old (T.number told.old)) }
+    ensures allowed { OnOk result (refusal (resources (T.tree tree.old.tree) side.old) op.now ≡ nothing) }
+    ensures resources { OnOk result (resources (T.tree tree.new.tree) side.new ≡ (effect (resources (T.tree tree.old.tree) side.old) op.now).0) }
+    ensures renewed { OnOk result (Renewed (left T.remembered tree.old) (left T.remembered tree.new) (T.number told.old) (T.number told.new) (T.tree tree.new.tree)) }
+    ensures reply { IfOk result (λ r. IfSome (left T.remembered tree.old (T.number told.old)) (λ t. r ≡ replied wants_copy
+        (record { answer = answered (effect (resources (T.tree tree.old.tree) side.old) op.now).1; notice = some_nodes (delta t (T.tree tree.new.tree)) }))) }
+    ensures refused { IfErr result (IfRefused (λ r. refusal (resources (T.tree tree.old.tree) side.old) op.now ≡ Some r)) }
+    ensures same { OnErr result (resources (T.tree tree.new.tree) side.new ≡ resources (T.tree tree.old.tree) side.old) }
+    ensures remembered { OnErr result (left T.remembered tree.new ≡ left T.remembered tree.old) }
+    ensures told { OnErr result (T.number told.new ≡ T.number told.old) }
+{
+    match apply(alloc, tree, side, op) {
+        Ok(done) => Ok(tell_done(alloc, tree, side, told, done, wants_copy)?),
+        Err(error) => {
             drop_room(tree, side);
             Err(error)
         }
     }
 }
 
-/// What an operation that is done is answered, and what changed from one tree to another.
-fn answer_told(
+/// Answers and tells what was done. Where memory wants, that is taken back.
+fn tell_done<T: Remembers>(
     alloc: Global,
-    before: &ElemMap,
-    after: &ElemMap,
-    answer: OpAnswer,
-) -> Result<Reply, NoMemory>
-    ensures answer { IfOk result (λ reply. reply.answer ≡ answered answer) }
-    ensures notice { IfOk result (λ reply. reply.notice ≡ some_nodes (delta before.now.map after.now.map)) }
+    tree: &mut Sparing<T>,
+    side: &mut Side,
+    told: &mut T::Memory,
+    done: Applied,
+    wants_copy: bool,
+) -> Result<Replied, NoMemory>
+    requires known { IsSome (left T.remembered tree.old (T.number told.old)) }
+    requires tree { HasRooms (T.room tree.old.tree) done.back.tree }
+    requires shelf { HasRooms side.old.shelf.room done.back.shelf }
+    ensures resources { OnOk result (resources (T.tree tree.new.tree) side.new ≡ resources (T.tree tree.old.tree) side.old) }
+    ensures renewed { OnOk result (Renewed (left T.remembered tree.old) (left T.remembered tree.new) (T.number told.old) (T.number told.new) (T.tree tree.old.tree)) }
+    ensures reply { IfOk result (λ r. IfSome (left T.remembered tree.old (T.number told.old)) (λ t. r ≡ replied wants_copy
+        (record { answer = answered done.answer; notice = some_nodes (delta t (T.tree tree.old.tree)) }))) }
+    ensures err { OnErr result (resources (T.tree tree.new.tree) side.new ≡ taken_back (resources (T.tree tree.old.tree) side.old) done.back) }
+    ensures remembered { OnErr result (left T.remembered tree.new ≡ left T.remembered tree.old) }
+    ensures told { OnErr result (T.number told.new ≡ T.number told.old) }
 {
-    let answer = Answer::of(alloc, answer)?;
-    let notice = notice_between(alloc, before, after)?;
-    Ok(Reply { answer, notice })
+    let Applied { answer, back } = done;
+    match tell_answer(alloc, tree, told, answer, wants_copy) {
+        Ok(replied) => {
+            drop(back);
+            drop_room(tree, side);
+            Ok(replied)
+        }
+        Err(wanted) => {
+            take_back(tree, side, back);
+            drop_room(tree, side);
+            Err(wanted)
+        }
+    }
 }
 
-/// What an operation that is refused is answered, and what changed from one tree to another.
-fn refusal_told(
+fn tell_answer<T: Remembers>(
     alloc: Global,
-    before: &ElemMap,
-    after: &ElemMap,
-    refusal: OpRefusal,
-) -> Result<Reply, NoMemory>
-    ensures answer { IfOk result (λ reply. reply.answer ≡ Answer.Refused (Refusal.Operation refusal)) }
-    ensures notice { IfOk result (λ reply. reply.notice ≡ some_nodes (delta before.now.map after.now.map)) }
+    tree: &mut Sparing<T>,
+    told: &mut T::Memory,
+    answer: OpAnswer,
+    wants_copy: bool,
+) -> Result<Replied, NoMemory>
+    requires known { IsSome (left T.remembered tree.old (T.number told.old)) }
+    ensures renewed { OnOk result (Renewed (left T.remembered tree.old) (left T.remembered tree.new) (T.number told.old) (T.number told.new) (T.tree tree.old.tree)) }
+    ensures reply { IfOk result (λ r. IfSome (left T.remembered tree.old (T.number told.old)) (λ t. r ≡ replied wants_copy
+        (record { answer = answered answer; notice = some_nodes (delta t (T.tree tree.old.tree)) }))) }
+    ensures tree { T.tree tree.new.tree ≡ T.tree tree.old.tree }
+    ensures room { T.room tree.new.tree ≡ T.room tree.old.tree }
+    ensures remembered { OnErr result (left T.remembered tree.new ≡ left T.remembered tree.old) }
+    ensures told { OnErr result (T.number told.new ≡ T.number told.old) }
 {
-    let answer = Answer::refused(alloc, Refusal::Operation(refusal))?;
-    let notice = notice_between(alloc, before, after)?;
-    Ok(Reply { answer, notice })
+    let answer = Answer::of(alloc, answer)?;
+    tell(alloc, tree, told, answer, wants_copy)
+}
+
+/// Tells what changed since the tree was told, with the answer: it is the tree that is told then. Where memory wants,
+/// nothing has changed. Costs what was recorded since the tree was told.
+pub fn tell<T: Remembers>(
+    alloc: Global,
+    tree: &mut Sparing<T>,
+    told: &mut T::Memory,
+    answer: Answer,
+    wants_copy: bool,
+) -> Result<Replied, NoMemory>
+    requires known { IsSome (left T.remembered tree.old (T.number told.old)) }
+    ensures renewed { OnOk result (Renewed (left T.remembered tree.old) (left T.remembered tree.new) (T.number told.old) (T.number told.new) (T.tree tree.old.tree)) }
+    ensures reply { IfOk result (λ r. IfSome (left T.remembered tree.old (T.number told.old)) (λ t. r ≡ replied wants_copy
+        (record { answer = answer; notice = some_nodes (delta t (T.tree tree.old.tree)) }))) }
+    ensures tree { T.tree tree.new.tree ≡ T.tree tree.old.tree }
+    ensures room { T.room tree.new.tree ≡ T.room tree.old.tree }
+    ensures remembered { OnErr result (left T.remembered tree.new ≡ left T.remembered tree.old) }
+    ensures told { OnErr result (T.number told.new ≡ T.number told.old) }
+{
+    let delta = tree.since(alloc, told)?;
+    let notice = Notice::of(alloc, delta)?;
+    let replied = Replied::of(Reply { answer, notice }, wants_copy)?;
+    renew(alloc, tree, told)?;
+    Ok(replied)
+}
+
+/// The tree as it is is remembered in the place of the one that was told.
+fn renew<T: Remembers>(
+    alloc: Global,
+    tree: &mut Sparing<T>,
+    told: &mut T::Memory,
+) -> Result<(), NoMemory>
+    requires known { IsSome (left T.remembered tree.old (T.number told.old)) }
+    ensures renewed { OnOk result (Renewed (left T.remembered tree.old) (left T.remembered tree.new) (T.number told.old) (T.number told.new) (T.tree tree.old.tree)) }
+    ensures tree { T.tree tree.new.tree ≡ T.tree tree.old.tree }
+    ensures room { T.room tree.new.tree ≡ T.room tree.old.tree }
+    ensures remembered { OnErr result (left T.remembered tree.new ≡ left T.remembered tree.old) }
+    ensures told { OnErr result (T.number told.new ≡ T.number told.old) }
+{
+    let next = tree.remember(alloc)?;
+    let before = mem::replace(told, next);
+    tree.give_up(alloc, before);
+    Ok(())
 }
 
 /// Takes all room away, of which only the last operation has made any. Costs what that operation changed.
-fn drop_room(tree: &mut FlatTree, side: &mut Side)
-    ensures { resources tree.new.map side.new ≡ resources tree.old.map side.old }
+fn drop_room<T: Remembers>(tree: &mut Sparing<T>, side: &mut Side)
+    ensures resources { resources (T.tree tree.new.tree) side.new ≡ resources (T.tree tree.old.tree) side.old }
+    ensures remembered { left T.remembered tree.new ≡ left T.remembered tree.old }
 {
     tree.drop_room();
     side.shelf.drop_room();

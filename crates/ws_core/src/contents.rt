@@ -1,0 +1,135 @@
+//! What is there, and what it was.
+ghost use Rattle.std.specs.Prelude.{◌≡◌, IfOk, OnErr};
+ghost use Rattle.op_kind.specs.Resources.{resources};
+ghost use Rattle.delta_kind.specs.Deltas.{delta};
+ghost use Rattle.ws_core.specs.Inside.Parts.{giving, operated_on, told_on, told_with};
+
+use crate::operating::{apply_told, apply_untold, tell};
+use crate::replied::Replied;
+use crate::{Answer, NoMemory, Refusal};
+use delta_kind::Delta;
+use op_kind::{Op, OpError, Side};
+use std::alloc::{AllocError, Global};
+use std::marker::Model;
+use tree_memory::{Remembers, Sparing};
+
+/// The tree, what stands beside it, and what the tree was: as the workspace was opened, and as it was last told. A
+/// contract sees the resources and the trees that are remembered.
+#[derive(Drop)]
+pub struct Content<T: Remembers> {
+    tree: Sparing<T>,
+    side: Side,
+    start: T::Memory,
+    told: T::Memory,
+}
+
+impl<T: Remembers> Model for Content<T> {
+    ghost use Rattle.ws_elem.specs.contracts.element.Element as element;
+    ghost use Rattle.op_kind.specs.Resources.{resources};
+    ghost use Rattle.tree_memory.specs.Spared.{left};
+    ghost use Rattle.ws_core.specs.States.{Contents};
+    ghost use Rattle.ws_core.specs.Inside.Codes.{contents_code};
+    ghost use Rattle.ws_core.specs.Inside.Parts.{contents, AreHeld};
+
+    ghost Value = { Contents };
+
+    ghost coded = { contents_code element.the_row.coded };
+
+    ghost view = { λ c. contents (resources (T.tree c.tree.tree) c.side) (left T.remembered c.tree (T.number c.start)) (left T.remembered c.tree (T.number c.told)) };
+
+    ghost invariant = { λ c. AreHeld (left T.remembered c.tree) (T.number c.start) (T.number c.told) };
+}
+
+impl<T: Remembers> Content<T> {
+    /// The tree with what stands beside it, which is remembered as it is.
+    pub fn of(alloc: Global, tree: T, side: Side) -> Result<Content<T>, NoMemory>
+    where
+        T: Drop,
+        ensures { IfOk result (λ c. c ≡ record { resources = resources (T.tree tree) side; remembered = record { start = T.tree tree; told = T.tree tree } }) }
+    {
+        let mut tree = Sparing::of(alloc, tree);
+        let start = tree.remember(alloc)?;
+        let told = tree.remember(alloc)?;
+        Ok(Content {
+            tree,
+            side,
+            start,
+            told,
+        })
+    }
+
+    /// Does the operation, or refuses it, and tells nothing.
+    pub fn operate(&mut self, alloc: Global, op: &Op, wants_copy: bool) -> Result<Replied, NoMemory>
+        ensures ok { IfOk result (λ r. (self.new, r) ≡ giving wants_copy (operated_on self.old op.now)) }
+        ensures err { OnErr result (self.new ≡ self.old) }
+    {
+        match apply_untold(alloc, &mut self.tree, &mut self.side, op, wants_copy) {
+            Ok(replied) => Ok(replied),
+            Err(OpError::Refused(refusal)) => {
+                Replied::refused(alloc, Refusal::Operation(refusal), wants_copy)
+            }
+            Err(OpError::Memory) => Err(AllocError),
+        }
+    }
+
+    /// Does the operation and tells it, or refuses it, where the tree is as it was told.
+    pub fn operate_and_tell(
+        &mut self,
+        alloc: Global,
+        op: &Op,
+        wants_copy: bool,
+    ) -> Result<Replied, NoMemory>
+        requires { self.old.remembered.told ≡ self.old.resources.tree }
+        ensures ok { IfOk result (λ r. (self.new, r) ≡ giving wants_copy (told_on self.old op.now)) }
+        ensures err { OnErr result (self.new ≡ self.old) }
+    {
+        match apply_told(
+            alloc,
+            &mut self.tree,
+            &mut self.side,
+            &mut self.told,
+            op,
+            wants_copy,
+        ) {
+            Ok(replied) => Ok(replied),
+            Err(OpError::Refused(refusal)) => {
+                Replied::refused(alloc, Refusal::Operation(refusal), wants_copy)
+            }
+            Err(OpError::Memory) => Err(AllocError),
+        }
+    }
+
+    /// Tells what changed since the tree was told, with the answer.
+    pub fn tell(
+        &mut self,
+        alloc: Global,
+        answer: Answer,
+        wants_copy: bool,
+    ) -> Result<Replied, NoMemory>
+        ensures ok { IfOk result (λ r. (self.new, r) ≡ giving wants_copy (told_with self.old answer)) }
+        ensures err { OnErr result (self.new ≡ self.old) }
+    {
+        tell(alloc, &mut self.tree, &mut self.told, answer, wants_copy)
+    }
+
+    /// What changed since the workspace was opened.
+    pub fn since_start(&self, alloc: Global) -> Result<Delta, NoMemory>
+        ensures { IfOk result (λ d. d ≡ delta self.now.remembered.start self.now.resources.tree) }
+    {
+        self.tree.since(alloc, &self.start)
+    }
+
+    /// The tree.
+    pub fn tree(&self) -> &T
+        ensures { T.tree result.now ≡ self.now.resources.tree }
+    {
+        self.tree.tree()
+    }
+
+    /// What stands beside the tree.
+    pub fn side(&self) -> &Side
+        ensures { resources self.now.resources.tree result.now ≡ self.now.resources }
+    {
+        &self.side
+    }
+}
