@@ -1,7 +1,8 @@
 -- The definitions at worked scripts.
-use Rattle.std.proofs.Common.{◌≡◌, true, false, [], ◌∷◌, refl, arith, lit≤}
+use Rattle.std.proofs.Common.{◌≡◌, ℕ, true, false, List, [], ◌∷◌, get_or, refl, ap, arith, lit≤}
 use Rattle.std.specs.Prelude.{codes, pos}
 use Rattle.std.specs.Fmt.{digits}
+use Rattle.std.specs.List.{AllByRecursion}
 use Rattle.sched_rules.specs.declared.ws_atom.WsAtom.TheVariants.{Path, Mutex, Lines}
 use Rattle.mark_set.specs.declared.value.RawValue.TheVariants.{Int}
 use Rattle.op_kind.specs.declared.op.Op.TheVariants.{CreateFile, CreateProject, Derived, Move, Describe, Mark, Read}
@@ -12,7 +13,8 @@ use Rattle.script_lang.specs.declared.script.Priority.TheVariants.{Long, Decorat
 use Rattle.script_lang.specs.declared.line.Line.TheVariants.{BeginPhase}
 use Rattle.script_parts.specs.Parts.{a_path, a_number, FitsPart, FitsParts, rule_read}
 use Rattle.script_lang.specs.Commands.{line_parts}
-use Rattle.script_lang.specs.Scripts.{script_text, IsScript}
+use Rattle.script_lang.specs.Names.{HaveOwnNames}
+use Rattle.script_lang.specs.Scripts.{script_text, IsScript, HasOwnNames}
 use Rattle.script_words.specs.declared.words.Token.{Token}
 
 -- ---- scripts
@@ -39,6 +41,15 @@ its_text = refl
 -- an empty text is the script without phases, and nothing else
 no_phases : IsScript [] (record { phases = [] })
 no_phases = record { names = tt; tokens = []; spelled = tt; fitting = tt }
+
+-- a name may come again in a later phase
+again : AllByRecursion HasOwnNames (record { jobs = one_job ∷ other_job ∷ [] } ∷ record { jobs = one_job ∷ [] } ∷ [])
+unfolding one_job other_job
+again = (((λ e. let first : 106 ≡ 107 = ap (λ (name : List ℕ). get_or name 0 0) e in omega (arith, first), tt), (tt, tt)), ((tt, tt), tt))
+
+-- but not in the same
+not_twice : HaveOwnNames (one_job ∷ one_job ∷ []) → ⊥
+not_twice h = h.0.0 refl
 
 -- a keyword doesn't stand between quotes
 not_quoted : FitsParts (record { bare = false; word = codes "phase" } ∷ []) (line_parts BeginPhase) → ⊥

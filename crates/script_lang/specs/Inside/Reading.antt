@@ -40,7 +40,7 @@ IsSleepFound tokens false rest = (tokens ≡ rest) × ((more : List Token) → F
 abbrev pub with_job : List Job → Job → Option (List Job)
 with_job jobs job = if has_job jobs job.name then None else Some (jobs ++ job ∷ [])
 
--- a phase that is open, in which a job begins whose name no other has
+-- in the phase of these jobs, where the job begins, unless one of them has its name
 abbrev pub job_begun : List Job → Job → Option Place
 job_begun jobs job = if has_job jobs job.name then None else Some (WithinJob jobs job)
 
