@@ -188,7 +188,7 @@ fn after_command(
     }
 }
 
-/// The job ends.
+/// The job ends, unless one of the jobs before it has its name; none has where `begin_job` let it begin.
 fn end_job(phases: Phases, jobs: OpenPhase, job: Job) -> Result<Option<Progress>, NoMemory>
     ensures { IfOk result (λ next. next ≡ option_map (λ more. record { phases = phases; place = WithinPhase more }) (with_job jobs job)) }
 {
