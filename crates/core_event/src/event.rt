@@ -1,7 +1,7 @@
 //! What a pass may ask.
 ghost use Rattle.std.specs.Prelude.{◌≡◌, IfOk};
 ghost use Rattle.std.specs.Option.{option_copied};
-ghost use Rattle.core_event.specs.Events.{change_of, is_read, operation_of, waits};
+ghost use Rattle.core_event.specs.Events.{change_of, is_checkpoint, is_read, operation_of, waits};
 
 use crate::WsRule;
 use op_kind::Op;
@@ -94,6 +94,13 @@ impl Event {
             | Event::EndBatch
             | Event::Checkpoint => None,
         }
+    }
+
+    /// Whether the event is a checkpoint.
+    pub fn is_checkpoint(&self) -> bool
+        ensures { result ≡ is_checkpoint self.now }
+    {
+        matches!(self, Event::Checkpoint)
     }
 
     /// Whether the event is tried again, without an entry, where another pass's rule is in the way.
@@ -194,7 +201,7 @@ fn change(op: &Op) -> Option<&Op>
 }
 
 /// Whether the operation only reads.
-fn is_read(op: &Op) -> bool
+pub fn is_read(op: &Op) -> bool
     ensures { result ≡ is_read op.now }
 {
     match op {

@@ -4,10 +4,11 @@ ghost use Rattle.core_event.specs.declared.event.Event.TheVariants.{EndBatch, Fi
 ghost use Rattle.pass_table.specs.Passes.{has_pass, is_quiet};
 ghost use Rattle.job_manager.specs.Batches.{closes, IsRun};
 ghost use Rattle.job_manager.specs.Refusals.{refusal};
+ghost use Rattle.core_event.specs.Twice.{twice, doubled};
 ghost use Rattle.job_manager.specs.Effects.{effect, outcome};
 
 use crate::{JobManager, NoMemory};
-use core_event::{Answer, Event, Refusal};
+use core_event::{Answer, Event, Refusal, Twice, done_twice};
 use job_queue::JobState;
 use std::alloc::{AllocError, Global};
 
@@ -17,29 +18,35 @@ impl JobManager {
     /// wants, all is as before.
     ///
     /// Costs a look at the held rules, and for `Take` one at the jobs that wait, in turn.
-    pub fn act(&mut self, alloc: Global, pass: u64, event: &Event) -> Result<Answer, NoMemory>
+    pub fn act(
+        &mut self,
+        alloc: Global,
+        pass: u64,
+        event: &Event,
+        wants_copy: bool,
+    ) -> Result<Twice<Answer>, NoMemory>
         requires { has_pass self.old.passes pass ≡ true }
-        ensures ok { IfOk result (λ answer. (self.new, answer) ≡ outcome self.old pass event.now) }
+        ensures ok { IfOk result (λ answer. (self.new, answer) ≡ doubled wants_copy (outcome self.old pass event.now)) }
         ensures err { OnErr result (self.new ≡ self.old) }
         ensures open { OnOk result (closes event.now ≡ false → is_quiet self.old.passes ≡ false → is_quiet self.new.passes ≡ false) }
     {
         match event {
-            Event::Enter => self.enter(),
-            Event::Leave => self.leave(alloc, pass),
+            Event::Enter => self.enter(wants_copy),
+            Event::Leave => self.leave(alloc, pass, wants_copy),
             Event::Schedule(name, priority, rule, asleep) => {
-                self.schedule(alloc, pass, name, *priority, rule, *asleep)
+                self.schedule(alloc, pass, name, *priority, rule, *asleep, wants_copy)
             }
-            Event::Sleep(name) => self.sleep(alloc, pass, name),
-            Event::Wake(name) => self.wake(alloc, pass, name),
-            Event::Cancel(name) => self.cancel(alloc, pass, name),
-            Event::Take => self.take(alloc, pass),
-            Event::Finish => self.finish(alloc, pass),
-            Event::Begin(rule) | Event::TryBegin(rule) => self.begin(alloc, pass, rule),
-            Event::End(rule) => self.end(alloc, pass, rule),
-            Event::Transfer(to) => self.transfer(alloc, pass, *to),
-            Event::Batch => self.begin_batch(pass),
-            Event::EndBatch => self.end_batch(alloc, pass),
-            Event::Checkpoint | Event::Operation(_) => Ok(Answer::Done),
+            Event::Sleep(name) => self.sleep(alloc, pass, name, wants_copy),
+            Event::Wake(name) => self.wake(alloc, pass, name, wants_copy),
+            Event::Cancel(name) => self.cancel(alloc, pass, name, wants_copy),
+            Event::Take => self.take(alloc, pass, wants_copy),
+            Event::Finish => self.finish(alloc, pass, wants_copy),
+            Event::Begin(rule) | Event::TryBegin(rule) => self.begin(alloc, pass, rule, wants_copy),
+            Event::End(rule) => self.end(alloc, pass, rule, wants_copy),
+            Event::Transfer(to) => self.transfer(alloc, pass, *to, wants_copy),
+            Event::Batch => self.begin_batch(pass, wants_copy),
+            Event::EndBatch => self.end_batch(alloc, pass, wants_copy),
+            Event::Checkpoint | Event::Operation(_) => Ok(done_twice(wants_copy)),
         }
     }
 
@@ -169,4 +176,11 @@ impl JobManager {
         }
         self.passes.is_quiet_beside(pass)
     }
+}
+
+/// Whether the event closes batches of its pass, where it isn't refused.
+pub fn closes(event: &Event) -> bool
+    ensures { result ≡ closes event.now }
+{
+    matches!(event, Event::Finish | Event::EndBatch)
 }

@@ -12,5 +12,6 @@ mod jobs;
 mod manager;
 mod passes;
 
+pub use acting::closes;
 pub use manager::JobManager;
 pub use res_path::NoMemory;

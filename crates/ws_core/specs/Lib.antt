@@ -1,2 +1,7 @@
 pub mod States
+pub mod Refusals
+pub mod Effects
+pub mod Steps
+pub mod Histories
+pub mod Sessions
 pub mod Inside

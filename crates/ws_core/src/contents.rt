@@ -1,14 +1,17 @@
 //! What is there, and what it was.
-ghost use Rattle.std.specs.Prelude.{◌≡◌, IfOk, OnErr};
+ghost use Rattle.std.specs.Prelude.{◌≡◌, IfOk, OnErr, None as nothing};
 ghost use Rattle.op_kind.specs.Resources.{resources};
 ghost use Rattle.delta_kind.specs.Deltas.{delta};
-ghost use Rattle.ws_core.specs.Inside.Parts.{giving, operated_on, told_on, told_with};
+ghost use Rattle.ws_core.specs.Inside.Parts.{operated_on, told_on, told_with};
+ghost use Rattle.core_event.specs.declared.reply.Answer.TheVariants.{Refused};
+ghost use Rattle.core_event.specs.declared.reply.Refusal.TheVariants.{Operation};
+ghost use Rattle.core_event.specs.Twice.{doubled, twice};
 
 use crate::operating::{apply_told, apply_untold, tell};
-use crate::replied::Replied;
-use crate::{Answer, NoMemory, Refusal};
+use crate::{Answer, NoMemory, Refusal, Reply, Twice};
+use core_event::{refused_twice, untold};
 use delta_kind::Delta;
-use op_kind::{Op, OpError, Side};
+use op_kind::{Op, OpError, OpRefusal, Side};
 use std::alloc::{AllocError, Global};
 use std::marker::Model;
 use tree_memory::{Remembers, Sparing};
@@ -16,14 +19,14 @@ use tree_memory::{Remembers, Sparing};
 /// The tree, what stands beside it, and what the tree was: as the workspace was opened, and as it was last told. A
 /// contract sees the resources and the trees that are remembered.
 #[derive(Drop)]
-pub struct Content<T: Remembers> {
+pub struct Content<T: Remembers + Drop> {
     tree: Sparing<T>,
     side: Side,
     start: T::Memory,
     told: T::Memory,
 }
 
-impl<T: Remembers> Model for Content<T> {
+impl<T: Remembers + Drop> Model for Content<T> {
     ghost use Rattle.ws_elem.specs.contracts.element.Element as element;
     ghost use Rattle.op_kind.specs.Resources.{resources};
     ghost use Rattle.tree_memory.specs.Spared.{left};
@@ -40,11 +43,9 @@ impl<T: Remembers> Model for Content<T> {
     ghost invariant = { λ c. AreHeld (left T.remembered c.tree) (T.number c.start) (T.number c.told) };
 }
 
-impl<T: Remembers> Content<T> {
+impl<T: Remembers + Drop> Content<T> {
     /// The tree with what stands beside it, which is remembered as it is.
     pub fn of(alloc: Global, tree: T, side: Side) -> Result<Content<T>, NoMemory>
-    where
-        T: Drop,
         ensures { IfOk result (λ c. c ≡ record { resources = resources (T.tree tree) side; remembered = record { start = T.tree tree; told = T.tree tree } }) }
     {
         let mut tree = Sparing::of(alloc, tree);
@@ -59,14 +60,14 @@ impl<T: Remembers> Content<T> {
     }
 
     /// Does the operation, or refuses it, and tells nothing.
-    pub fn operate(&mut self, alloc: Global, op: &Op, wants_copy: bool) -> Result<Replied, NoMemory>
-        ensures ok { IfOk result (λ r. (self.new, r) ≡ giving wants_copy (operated_on self.old op.now)) }
+    pub fn operate(&mut self, alloc: Global, op: &Op, wants_copy: bool) -> Result<Twice<Reply>, NoMemory>
+        ensures ok { IfOk result (λ r. (self.new, r) ≡ doubled wants_copy (operated_on self.old op.now)) }
         ensures err { OnErr result (self.new ≡ self.old) }
     {
         match apply_untold(alloc, &mut self.tree, &mut self.side, op, wants_copy) {
             Ok(replied) => Ok(replied),
             Err(OpError::Refused(refusal)) => {
-                Replied::refused(alloc, Refusal::Operation(refusal), wants_copy)
+                refuse(alloc, refusal, wants_copy)
             }
             Err(OpError::Memory) => Err(AllocError),
         }
@@ -78,9 +79,9 @@ impl<T: Remembers> Content<T> {
         alloc: Global,
         op: &Op,
         wants_copy: bool,
-    ) -> Result<Replied, NoMemory>
+    ) -> Result<Twice<Reply>, NoMemory>
         requires { self.old.remembered.told ≡ self.old.resources.tree }
-        ensures ok { IfOk result (λ r. (self.new, r) ≡ giving wants_copy (told_on self.old op.now)) }
+        ensures ok { IfOk result (λ r. (self.new, r) ≡ doubled wants_copy (told_on self.old op.now)) }
         ensures err { OnErr result (self.new ≡ self.old) }
     {
         match apply_told(
@@ -93,7 +94,7 @@ impl<T: Remembers> Content<T> {
         ) {
             Ok(replied) => Ok(replied),
             Err(OpError::Refused(refusal)) => {
-                Replied::refused(alloc, Refusal::Operation(refusal), wants_copy)
+                refuse(alloc, refusal, wants_copy)
             }
             Err(OpError::Memory) => Err(AllocError),
         }
@@ -105,8 +106,8 @@ impl<T: Remembers> Content<T> {
         alloc: Global,
         answer: Answer,
         wants_copy: bool,
-    ) -> Result<Replied, NoMemory>
-        ensures ok { IfOk result (λ r. (self.new, r) ≡ giving wants_copy (told_with self.old answer)) }
+    ) -> Result<Twice<Reply>, NoMemory>
+        ensures ok { IfOk result (λ r. (self.new, r) ≡ doubled wants_copy (told_with self.old answer)) }
         ensures err { OnErr result (self.new ≡ self.old) }
     {
         tell(alloc, &mut self.tree, &mut self.told, answer, wants_copy)
@@ -132,4 +133,12 @@ impl<T: Remembers> Content<T> {
     {
         &self.side
     }
+}
+
+/// The reply to an operation that is refused, which tells nothing.
+fn refuse(alloc: Global, refusal: OpRefusal, wants_copy: bool) -> Result<Twice<Reply>, NoMemory>
+    ensures { IfOk result (λ r. r ≡ twice wants_copy (record { answer = Refused (Operation refusal); notice = nothing })) }
+{
+    let answer = refused_twice(alloc, Refusal::Operation(refusal), wants_copy)?;
+    Ok(untold(answer))
 }

@@ -1,19 +1,14 @@
 //! What was done.
 ghost use Rattle.std.specs.Prelude.{◌≡◌, ◌↔◌, [], length, IsTrue, IfOk};
 
-use crate::{Entry, NoMemory, State};
+use crate::{Entry, NoMemory};
 use std::alloc::Global;
 use std::marker::Model;
 
 /// What was done, in order. A contract sees the list of entries.
-///
-/// The history of a workspace keeps the state that it led to until it is let go itself, so that nothing is let go where
-/// the program ends with it.
 #[derive(Drop)]
 pub struct History {
     entries: Vec<Entry>,
-    // the state that the entries led to, where a workspace gave them
-    state: Option<State>,
 }
 
 impl Model for History {
@@ -36,7 +31,6 @@ impl History {
     {
         History {
             entries: Vec::new(alloc),
-            state: None,
         }
     }
 
@@ -44,20 +38,7 @@ impl History {
     pub fn of(entries: Vec<Entry>) -> History
         ensures { result ≡ entries.items }
     {
-        History {
-            entries,
-            state: None,
-        }
-    }
-
-    /// The history with these entries, which led to this state.
-    pub(crate) fn to_state(entries: Vec<Entry>, state: State) -> History
-        ensures { result ≡ entries.items }
-    {
-        History {
-            entries,
-            state: Some(state),
-        }
+        History { entries }
     }
 
     /// The entries, in order.

@@ -9,10 +9,11 @@ ghost use Rattle.op_kind.specs.Refusals.{refusal};
 ghost use Rattle.op_kind.specs.Resources.{resources};
 ghost use Rattle.tree_memory.specs.Spared.{left};
 ghost use Rattle.core_event.specs.Replies.{answered, some_nodes};
-ghost use Rattle.ws_core.specs.Inside.Parts.{Renewed, replied};
+ghost use Rattle.ws_core.specs.Inside.Parts.{Renewed};
+ghost use Rattle.core_event.specs.Twice.{twice};
 
-use crate::replied::Replied;
-use crate::{Answer, NoMemory, Notice, Reply};
+use crate::{Answer, NoMemory, Notice, Reply, Twice};
+use core_event::{answer_twice, reply_twice, untold};
 use op_kind::{Op, OpAnswer, OpError, Side};
 use std::alloc::Global;
 use std::mem;
@@ -21,16 +22,16 @@ use ws_elem::TreeRep;
 use ws_ops::{Applied, apply, take_back};
 
 /// Does the operation, and tells nothing. Where it is refused, and where memory wants, nothing has changed.
-pub fn apply_untold<T: Remembers>(
+pub fn apply_untold<T: Remembers + Drop>(
     alloc: Global,
     tree: &mut Sparing<T>,
     side: &mut Side,
     op: &Op,
     wants_copy: bool,
-) -> Result<Replied, OpError>
+) -> Result<Twice<Reply>, OpError>
     ensures allowed { OnOk result (refusal (resources (T.tree tree.old.tree) side.old) op.now ≡ nothing) }
     ensures resources { OnOk result (resources (T.tree tree.new.tree) side.new ≡ (effect (resources (T.tree tree.old.tree) side.old) op.now).0) }
-    ensures reply { IfOk result (λ r. r ≡ replied wants_copy
+    ensures reply { IfOk result (λ r. r ≡ twice wants_copy
         (record { answer = answered (effect (resources (T.tree tree.old.tree) side.old) op.now).1; notice = nothing })) }
     ensures refused { IfErr result (IfRefused (λ r. refusal (resources (T.tree tree.old.tree) side.old) op.now ≡ Some r)) }
     ensures same { OnErr result (resources (T.tree tree.new.tree) side.new ≡ resources (T.tree tree.old.tree) side.old) }
@@ -46,17 +47,17 @@ pub fn apply_untold<T: Remembers>(
 }
 
 /// Answers what was done. Where memory wants, that is taken back.
-fn answer_done<T: Remembers>(
+fn answer_done<T: Remembers + Drop>(
     alloc: Global,
     tree: &mut Sparing<T>,
     side: &mut Side,
     done: Applied,
     wants_copy: bool,
-) -> Result<Replied, NoMemory>
+) -> Result<Twice<Reply>, NoMemory>
     requires tree { HasRooms (T.room tree.old.tree) done.back.tree }
     requires shelf { HasRooms side.old.shelf.room done.back.shelf }
     ensures resources { OnOk result (resources (T.tree tree.new.tree) side.new ≡ resources (T.tree tree.old.tree) side.old) }
-    ensures reply { IfOk result (λ r. r ≡ replied wants_copy (record { answer = answered done.answer; notice = nothing })) }
+    ensures reply { IfOk result (λ r. r ≡ twice wants_copy (record { answer = answered done.answer; notice = nothing })) }
     ensures err { OnErr result (resources (T.tree tree.new.tree) side.new ≡ taken_back (resources (T.tree tree.old.tree) side.old) done.back) }
     ensures remembered { left T.remembered tree.new ≡ left T.remembered tree.old }
 {
@@ -75,28 +76,28 @@ fn answer_done<T: Remembers>(
     }
 }
 
-fn answer_of(alloc: Global, answer: OpAnswer, wants_copy: bool) -> Result<Replied, NoMemory>
-    ensures { IfOk result (λ r. r ≡ replied wants_copy (record { answer = answered answer; notice = nothing })) }
+fn answer_of(alloc: Global, answer: OpAnswer, wants_copy: bool) -> Result<Twice<Reply>, NoMemory>
+    ensures { IfOk result (λ r. r ≡ twice wants_copy (record { answer = answered answer; notice = nothing })) }
 {
     let answer = Answer::of(alloc, answer)?;
-    Replied::untold(answer, wants_copy)
+    Ok(untold(answer_twice(answer, wants_copy)?))
 }
 
 /// Does the operation, and tells what changed since the tree was told: it is the tree that is told then. Where it is
 /// refused, and where memory wants, nothing has changed.
-pub fn apply_told<T: Remembers>(
+pub fn apply_told<T: Remembers + Drop>(
     alloc: Global,
     tree: &mut Sparing<T>,
     side: &mut Side,
     told: &mut T::Memory,
     op: &Op,
     wants_copy: bool,
-) -> Result<Replied, OpError>
+) -> Result<Twice<Reply>, OpError>
     requires { IsSome (left T.remembered tree.old (T.number told.old)) }
     ensures allowed { OnOk result (refusal (resources (T.tree tree.old.tree) side.old) op.now ≡ nothing) }
     ensures resources { OnOk result (resources (T.tree tree.new.tree) side.new ≡ (effect (resources (T.tree tree.old.tree) side.old) op.now).0) }
     ensures renewed { OnOk result (Renewed (left T.remembered tree.old) (left T.remembered tree.new) (T.number told.old) (T.number told.new) (T.tree tree.new.tree)) }
-    ensures reply { IfOk result (λ r. IfSome (left T.remembered tree.old (T.number told.old)) (λ t. r ≡ replied wants_copy
+    ensures reply { IfOk result (λ r. IfSome (left T.remembered tree.old (T.number told.old)) (λ t. r ≡ twice wants_copy
         (record { answer = answered (effect (resources (T.tree tree.old.tree) side.old) op.now).1; notice = some_nodes (delta t (T.tree tree.new.tree)) }))) }
     ensures refused { IfErr result (IfRefused (λ r. refusal (resources (T.tree tree.old.tree) side.old) op.now ≡ Some r)) }
     ensures same { OnErr result (resources (T.tree tree.new.tree) side.new ≡ resources (T.tree tree.old.tree) side.old) }
@@ -113,20 +114,20 @@ pub fn apply_told<T: Remembers>(
 }
 
 /// Answers and tells what was done. Where memory wants, that is taken back.
-fn tell_done<T: Remembers>(
+fn tell_done<T: Remembers + Drop>(
     alloc: Global,
     tree: &mut Sparing<T>,
     side: &mut Side,
     told: &mut T::Memory,
     done: Applied,
     wants_copy: bool,
-) -> Result<Replied, NoMemory>
+) -> Result<Twice<Reply>, NoMemory>
     requires known { IsSome (left T.remembered tree.old (T.number told.old)) }
     requires tree { HasRooms (T.room tree.old.tree) done.back.tree }
     requires shelf { HasRooms side.old.shelf.room done.back.shelf }
     ensures resources { OnOk result (resources (T.tree tree.new.tree) side.new ≡ resources (T.tree tree.old.tree) side.old) }
     ensures renewed { OnOk result (Renewed (left T.remembered tree.old) (left T.remembered tree.new) (T.number told.old) (T.number told.new) (T.tree tree.old.tree)) }
-    ensures reply { IfOk result (λ r. IfSome (left T.remembered tree.old (T.number told.old)) (λ t. r ≡ replied wants_copy
+    ensures reply { IfOk result (λ r. IfSome (left T.remembered tree.old (T.number told.old)) (λ t. r ≡ twice wants_copy
         (record { answer = answered done.answer; notice = some_nodes (delta t (T.tree tree.old.tree)) }))) }
     ensures err { OnErr result (resources (T.tree tree.new.tree) side.new ≡ taken_back (resources (T.tree tree.old.tree) side.old) done.back) }
     ensures remembered { OnErr result (left T.remembered tree.new ≡ left T.remembered tree.old) }
@@ -147,16 +148,16 @@ fn tell_done<T: Remembers>(
     }
 }
 
-fn tell_answer<T: Remembers>(
+fn tell_answer<T: Remembers + Drop>(
     alloc: Global,
     tree: &mut Sparing<T>,
     told: &mut T::Memory,
     answer: OpAnswer,
     wants_copy: bool,
-) -> Result<Replied, NoMemory>
+) -> Result<Twice<Reply>, NoMemory>
     requires known { IsSome (left T.remembered tree.old (T.number told.old)) }
     ensures renewed { OnOk result (Renewed (left T.remembered tree.old) (left T.remembered tree.new) (T.number told.old) (T.number told.new) (T.tree tree.old.tree)) }
-    ensures reply { IfOk result (λ r. IfSome (left T.remembered tree.old (T.number told.old)) (λ t. r ≡ replied wants_copy
+    ensures reply { IfOk result (λ r. IfSome (left T.remembered tree.old (T.number told.old)) (λ t. r ≡ twice wants_copy
         (record { answer = answered answer; notice = some_nodes (delta t (T.tree tree.old.tree)) }))) }
     ensures tree { T.tree tree.new.tree ≡ T.tree tree.old.tree }
     ensures room { T.room tree.new.tree ≡ T.room tree.old.tree }
@@ -169,16 +170,16 @@ fn tell_answer<T: Remembers>(
 
 /// Tells what changed since the tree was told, with the answer: it is the tree that is told then. Where memory wants,
 /// nothing has changed. Costs what was recorded since the tree was told.
-pub fn tell<T: Remembers>(
+pub fn tell<T: Remembers + Drop>(
     alloc: Global,
     tree: &mut Sparing<T>,
     told: &mut T::Memory,
     answer: Answer,
     wants_copy: bool,
-) -> Result<Replied, NoMemory>
+) -> Result<Twice<Reply>, NoMemory>
     requires known { IsSome (left T.remembered tree.old (T.number told.old)) }
     ensures renewed { OnOk result (Renewed (left T.remembered tree.old) (left T.remembered tree.new) (T.number told.old) (T.number told.new) (T.tree tree.old.tree)) }
-    ensures reply { IfOk result (λ r. IfSome (left T.remembered tree.old (T.number told.old)) (λ t. r ≡ replied wants_copy
+    ensures reply { IfOk result (λ r. IfSome (left T.remembered tree.old (T.number told.old)) (λ t. r ≡ twice wants_copy
         (record { answer = answer; notice = some_nodes (delta t (T.tree tree.old.tree)) }))) }
     ensures tree { T.tree tree.new.tree ≡ T.tree tree.old.tree }
     ensures room { T.room tree.new.tree ≡ T.room tree.old.tree }
@@ -187,13 +188,13 @@ pub fn tell<T: Remembers>(
 {
     let delta = tree.since(alloc, told)?;
     let notice = Notice::of(alloc, delta)?;
-    let replied = Replied::of(Reply { answer, notice }, wants_copy)?;
+    let replied = reply_twice(Reply { answer, notice }, wants_copy)?;
     renew(alloc, tree, told)?;
     Ok(replied)
 }
 
 /// The tree as it is is remembered in the place of the one that was told.
-fn renew<T: Remembers>(
+fn renew<T: Remembers + Drop>(
     alloc: Global,
     tree: &mut Sparing<T>,
     told: &mut T::Memory,
@@ -212,7 +213,7 @@ fn renew<T: Remembers>(
 }
 
 /// Takes all room away, of which only the last operation has made any. Costs what that operation changed.
-fn drop_room<T: Remembers>(tree: &mut Sparing<T>, side: &mut Side)
+fn drop_room<T: Remembers + Drop>(tree: &mut Sparing<T>, side: &mut Side)
     ensures resources { resources (T.tree tree.new.tree) side.new ≡ resources (T.tree tree.old.tree) side.old }
     ensures remembered { left T.remembered tree.new ≡ left T.remembered tree.old }
 {

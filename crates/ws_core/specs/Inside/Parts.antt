@@ -1,5 +1,5 @@
 -- A state by its parts.
-use Rattle.std.specs.Prelude.{◌≡◌, ◌≢◌, ℕ, Bool, if◌then◌else◌, Option, Some, None, IsSome, List}
+use Rattle.std.specs.Prelude.{◌≡◌, ◌≢◌, ℕ, Option, Some, None, IsSome}
 use Rattle.std.specs.Option.{unwrap_or}
 use Rattle.std.specs.FinMap.{empty}
 use Rattle.ws_elem.specs.Trees.{Tree}
@@ -15,7 +15,6 @@ use Rattle.core_event.specs.declared.reply.Refusal.TheVariants.{Operation}
 use Rattle.core_event.specs.declared.reply.Reply.{Reply}
 use Rattle.core_event.specs.Replies.{answered, some_nodes}
 use Rattle.job_manager.specs.declared.manager.JobManager.{JobManager}
-use Rattle.ws_core.specs.declared.replied.Replied.{Replied}
 use Rattle.ws_core.specs.States.{Contents, Moment, with_told}
 
 -- the tree that is remembered, where there is one
@@ -37,10 +36,6 @@ moment c m = record { resources = c.resources; remembered = c.remembered; manage
 
 abbrev pub contents_of : Moment → Contents
 contents_of s = record { resources = s.resources; remembered = s.remembered }
-
--- a reply, and a copy of it where one is wanted
-abbrev pub replied : Bool → Reply → Replied
-replied wanted reply = record { reply = reply; copy = if wanted then Some reply else None }
 
 -- ---- operations
 
@@ -64,10 +59,6 @@ told_with c answer = (record c { remembered = with_told c.remembered c.resources
 -- an operation that is told
 abbrev pub told_on : Contents → Op → Contents × Reply
 told_on c op = let done = operated c.resources op in told_with (record c { resources = done.0 }) done.1
-
--- contents and a reply, with a copy where one is wanted
-abbrev pub giving : {X : Type 0} → Bool → X × Reply → X × Replied
-giving wanted done = (done.0, replied wanted done.1)
 
 -- another tree is remembered in the place of one, and every other one stays
 pub record Renewed (before after : ℕ → Option Tree) (old new : ℕ) (tree : Tree) : Type 0 where

@@ -1,0 +1,78 @@
+//! The state of a workspace.
+ghost use Rattle.std.specs.Prelude.{◌≡◌, IfOk};
+ghost use Rattle.delta_kind.specs.Deltas.{delta};
+ghost use Rattle.op_kind.specs.Resources.{resources};
+ghost use Rattle.ws_elem.specs.Trees.{fresh_tree};
+ghost use Rattle.ws_core.specs.Histories.{fresh};
+
+use crate::contents::Content;
+use crate::{JobManager, NoMemory};
+use delta_kind::Delta;
+use op_kind::Side;
+use std::alloc::Global;
+use std::marker::Model;
+use tree_memory::Remembers;
+
+/// The state of a workspace over a tree that remembers. A contract sees the record of its resources, the trees that are
+/// remembered, and the jobs and passes.
+#[derive(Drop)]
+pub struct State<T: Remembers + Drop> {
+    pub(crate) content: Content<T>,
+    pub(crate) manager: JobManager,
+}
+
+impl<T: Remembers + Drop> Model for State<T> {
+    ghost use Rattle.ws_elem.specs.contracts.element.Element as element;
+    ghost use Rattle.job_manager.specs.contracts.manager.JobManager as job_manager;
+    ghost use Rattle.ws_core.specs.States.{Moment};
+    ghost use Rattle.ws_core.specs.Inside.Codes.{moment_code};
+    ghost use Rattle.ws_core.specs.Inside.Parts.{moment};
+
+    ghost Value = { Moment };
+
+    ghost coded = { moment_code element.the_row.coded job_manager.the_row.coded };
+
+    ghost view = { λ s. moment s.content s.manager };
+}
+
+impl<T: Remembers + Drop> State<T> {
+    /// The fresh workspace over this tree, which has the root alone, as node 1: pass 0 is there, and no job.
+    pub fn fresh(alloc: Global, tree: T) -> Result<State<T>, NoMemory>
+        requires { T.tree tree ≡ fresh_tree }
+        ensures { IfOk result (λ state. state ≡ fresh) }
+    {
+        let manager = JobManager::first(alloc)?;
+        Ok(State {
+            content: Content::of(alloc, tree, Side::fresh(alloc))?,
+            manager,
+        })
+    }
+
+    /// The tree.
+    pub fn tree(&self) -> &T
+        ensures { T.tree result.now ≡ self.now.resources.tree }
+    {
+        self.content.tree()
+    }
+
+    /// What stands beside the tree: the members of closed projects, the counters and the partners.
+    pub fn side(&self) -> &Side
+        ensures { resources self.now.resources.tree result.now ≡ self.now.resources }
+    {
+        self.content.side()
+    }
+
+    /// The jobs, and the passes with what each has.
+    pub fn manager(&self) -> &JobManager
+        ensures { result.now ≡ self.now.manager }
+    {
+        &self.manager
+    }
+
+    /// What changed since the workspace was opened. Costs what was recorded since then, and no walk of a tree.
+    pub fn since_start(&self, alloc: Global) -> Result<Delta, NoMemory>
+        ensures { IfOk result (λ d. d ≡ delta self.now.remembered.start self.now.resources.tree) }
+    {
+        self.content.since_start(alloc)
+    }
+}

@@ -1,0 +1,232 @@
+//! One step of a state.
+ghost use Rattle.std.specs.Prelude.{◌≡◌, true, false, IfOk, OnErr, None as nothing};
+ghost use Rattle.op_rule.specs.Rules.{operation_rule};
+ghost use Rattle.core_event.specs.declared.event.Event.TheVariants.{Operation};
+ghost use Rattle.core_event.specs.declared.reply.Answer.TheVariants.{Refused};
+ghost use Rattle.core_event.specs.Events.{is_checkpoint, operation_of};
+ghost use Rattle.core_event.specs.Twice.{doubled, twice};
+ghost use Rattle.job_manager.specs.Admission.{admission};
+ghost use Rattle.job_manager.specs.Batches.{closes, IsRun};
+ghost use Rattle.job_manager.specs.Refusals.{refusal};
+ghost use Rattle.pass_table.specs.Passes.{is_quiet};
+ghost use Rattle.ws_core.specs.Histories.{has_entered};
+ghost use Rattle.ws_core.specs.Sessions.{IsConsistent};
+ghost use Rattle.ws_core.specs.Steps.{step};
+
+use crate::{Answer, Event, NoMemory, Refusal, Reply, State, Twice};
+use core_event::{done_twice, is_read, refused_twice, untold};
+use job_manager::closes;
+use op_kind::Op;
+use std::alloc::Global;
+use tree_memory::Remembers;
+
+impl<T: Remembers + Drop> State<T> {
+    /// Does the event of the pass, or refuses it with the first cause in the order of its list, and tells what changed
+    /// where it is a telling place: each checkpoint, and each other event that leaves no batch open. A refused event
+    /// changes nothing. Gives the reply, with a copy where one is wanted. Where memory wants, the state stays as it was.
+    ///
+    /// An operation costs what `ws_ops::apply` does, and a telling place what was recorded since the one before.
+    pub fn step(
+        &mut self,
+        alloc: Global,
+        pass: u64,
+        event: &Event,
+        wants_copy: bool,
+    ) -> Result<Twice<Reply>, NoMemory>
+        requires sound { IsConsistent self.old }
+        requires entered { has_entered pass self.old ≡ true }
+        ensures ok { IfOk result (λ r. (self.new, r) ≡ doubled wants_copy (step self.old pass event.now)) }
+        ensures sound { IsConsistent self.new }
+        ensures err { OnErr result (self.new ≡ self.old) }
+    {
+        self.advance(alloc, pass, event, wants_copy)
+    }
+
+    fn advance(
+        &mut self,
+        alloc: Global,
+        pass: u64,
+        event: &Event,
+        wants_copy: bool,
+    ) -> Result<Twice<Reply>, NoMemory>
+        requires quiet { is_quiet self.old.manager.passes ≡ true → self.old.remembered.told ≡ self.old.resources.tree }
+        requires entered { has_entered pass self.old ≡ true }
+        ensures ok { IfOk result (λ r. (self.new, r) ≡ doubled wants_copy (step self.old pass event.now)) }
+        ensures err { OnErr result (self.new ≡ self.old) }
+    {
+        match event.operation() {
+            Some(op) => self.operate(alloc, pass, op, wants_copy),
+            None => self.manage(alloc, pass, event, wants_copy),
+        }
+    }
+
+    /// Does an operation, or refuses it.
+    fn operate(
+        &mut self,
+        alloc: Global,
+        pass: u64,
+        op: &Op,
+        wants_copy: bool,
+    ) -> Result<Twice<Reply>, NoMemory>
+        requires quiet { is_quiet self.old.manager.passes ≡ true → self.old.remembered.told ≡ self.old.resources.tree }
+        ensures ok { IfOk result (λ r. (self.new, r) ≡ doubled wants_copy (step self.old pass (Operation op.now))) }
+        ensures err { OnErr result (self.new ≡ self.old) }
+    {
+        match self.manager.operation_admission(alloc, pass, op)? {
+            Some(refusal) => refuse(alloc, refusal, wants_copy),
+            None => self.operate_admitted(alloc, pass, op, wants_copy),
+        }
+    }
+
+    /// Does an operation that is admitted, or refuses it for a cause of its own.
+    fn operate_admitted(
+        &mut self,
+        alloc: Global,
+        pass: u64,
+        op: &Op,
+        wants_copy: bool,
+    ) -> Result<Twice<Reply>, NoMemory>
+        requires quiet { is_quiet self.old.manager.passes ≡ true → self.old.remembered.told ≡ self.old.resources.tree }
+        requires admitted { admission self.old.manager.passes.rules pass (operation_rule op.now) ≡ nothing }
+        ensures ok { IfOk result (λ r. (self.new, r) ≡ doubled wants_copy (step self.old pass (Operation op.now))) }
+        ensures err { OnErr result (self.new ≡ self.old) }
+    {
+        if !self.manager.passes.is_quiet() {
+            return self.content.operate(alloc, op, wants_copy);
+        }
+        if is_read(op) {
+            return self.content.operate(alloc, op, wants_copy);
+        }
+        self.content.operate_and_tell(alloc, op, wants_copy)
+    }
+
+    /// Does an event of passes, jobs, rules or batches, or refuses it.
+    fn manage(
+        &mut self,
+        alloc: Global,
+        pass: u64,
+        event: &Event,
+        wants_copy: bool,
+    ) -> Result<Twice<Reply>, NoMemory>
+        requires quiet { is_quiet self.old.manager.passes ≡ true → self.old.remembered.told ≡ self.old.resources.tree }
+        requires entered { has_entered pass self.old ≡ true }
+        requires managed { operation_of event.now ≡ nothing }
+        ensures ok { IfOk result (λ r. (self.new, r) ≡ doubled wants_copy (step self.old pass event.now)) }
+        ensures err { OnErr result (self.new ≡ self.old) }
+    {
+        if self.manager.passes.is_quiet() {
+            return self.manage_quiet(alloc, pass, event, wants_copy);
+        }
+        if event.is_checkpoint() {
+            return self.check(alloc, pass, event, wants_copy);
+        }
+        if closes(event) {
+            return self.close(alloc, pass, event, wants_copy);
+        }
+        self.manage_open(alloc, pass, event, wants_copy)
+    }
+
+    /// The same, where no batch is open.
+    fn manage_quiet(
+        &mut self,
+        alloc: Global,
+        pass: u64,
+        event: &Event,
+        wants_copy: bool,
+    ) -> Result<Twice<Reply>, NoMemory>
+        requires told { self.old.remembered.told ≡ self.old.resources.tree }
+        requires entered { has_entered pass self.old ≡ true }
+        requires managed { operation_of event.now ≡ nothing }
+        ensures ok { IfOk result (λ r. (self.new, r) ≡ doubled wants_copy (step self.old pass event.now)) }
+        ensures err { OnErr result (self.new ≡ self.old) }
+    {
+        let answer = self.manager.act(alloc, pass, event, wants_copy)?;
+        Ok(untold(answer))
+    }
+
+    /// The same, where a batch is open, of an event that closes none and is no checkpoint.
+    fn manage_open(
+        &mut self,
+        alloc: Global,
+        pass: u64,
+        event: &Event,
+        wants_copy: bool,
+    ) -> Result<Twice<Reply>, NoMemory>
+        requires open { is_quiet self.old.manager.passes ≡ false }
+        requires other { is_checkpoint event.now ≡ false }
+        requires closes { closes event.now ≡ false }
+        requires entered { has_entered pass self.old ≡ true }
+        requires managed { operation_of event.now ≡ nothing }
+        ensures ok { IfOk result (λ r. (self.new, r) ≡ doubled wants_copy (step self.old pass event.now)) }
+        ensures err { OnErr result (self.new ≡ self.old) }
+    {
+        let answer = self.manager.act(alloc, pass, event, wants_copy)?;
+        Ok(untold(answer))
+    }
+
+    /// Tells what changed, at a checkpoint.
+    fn check(
+        &mut self,
+        alloc: Global,
+        pass: u64,
+        event: &Event,
+        wants_copy: bool,
+    ) -> Result<Twice<Reply>, NoMemory>
+        requires { is_checkpoint event.now ≡ true }
+        ensures ok { IfOk result (λ r. (self.new, r) ≡ doubled wants_copy (step self.old pass event.now)) }
+        ensures err { OnErr result (self.new ≡ self.old) }
+    {
+        let _ = pass;
+        self.content.tell(alloc, Answer::Done, wants_copy)
+    }
+
+    /// Does an event that closes batches, or refuses it, where a batch is open.
+    fn close(
+        &mut self,
+        alloc: Global,
+        pass: u64,
+        event: &Event,
+        wants_copy: bool,
+    ) -> Result<Twice<Reply>, NoMemory>
+        requires open { is_quiet self.old.manager.passes ≡ false }
+        requires closes { closes event.now ≡ true }
+        ensures ok { IfOk result (λ r. (self.new, r) ≡ doubled wants_copy (step self.old pass event.now)) }
+        ensures err { OnErr result (self.new ≡ self.old) }
+    {
+        match self.manager.closing_refusal(pass, event)? {
+            Some(refusal) => refuse(alloc, refusal, wants_copy),
+            None => self.close_allowed(alloc, pass, event, wants_copy),
+        }
+    }
+
+    /// Does an event that closes batches, and tells where none is open any more.
+    fn close_allowed(
+        &mut self,
+        alloc: Global,
+        pass: u64,
+        event: &Event,
+        wants_copy: bool,
+    ) -> Result<Twice<Reply>, NoMemory>
+        requires closes { closes event.now ≡ true }
+        requires allowed { refusal self.old.manager pass event.now ≡ nothing }
+        requires runs { IsRun self.old.manager pass }
+        ensures ok { IfOk result (λ r. (self.new, r) ≡ doubled wants_copy (step self.old pass event.now)) }
+        ensures err { OnErr result (self.new ≡ self.old) }
+    {
+        if !self.manager.will_be_quiet(pass, event) {
+            self.manager.close(pass, event);
+            return Ok(untold(done_twice(wants_copy)));
+        }
+        let replied = self.content.tell(alloc, Answer::Done, wants_copy)?;
+        self.manager.close(pass, event);
+        Ok(replied)
+    }
+}
+
+/// The reply to an event that is refused, which tells nothing.
+fn refuse(alloc: Global, refusal: Refusal, wants_copy: bool) -> Result<Twice<Reply>, NoMemory>
+    ensures { IfOk result (λ r. r ≡ twice wants_copy (record { answer = Refused refusal; notice = nothing })) }
+{
+    let answer = refused_twice(alloc, refusal, wants_copy)?;
+    Ok(untold(answer))
+}
