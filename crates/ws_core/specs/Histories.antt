@@ -77,3 +77,7 @@ notices s h = notices_from s.resources.tree s h
 abbrev pub told_of : List Entry → List (List DeltaNode)
 told_of [] = []
 told_of (x ∷ h) = option_to_list x.reply.notice ++ told_of h
+
+-- the history after an event that is answered so: an attempt leaves no entry
+abbrev pub written : List Entry → Entry → List Entry
+written h x = if only_tried x then h else h ++ x ∷ []
