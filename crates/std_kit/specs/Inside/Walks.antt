@@ -1,7 +1,9 @@
 -- A walk over the files that are there, with those that are left to be put.
-use Rattle.std.specs.Prelude.{ℕ, if◌then◌else◌, List, [], ◌∷◌, ◌++◌, map, length, drop, Option, Some, None}
+use Rattle.std.specs.Prelude.{ℕ, Bool, true, false, not, ◌&&◌, if◌then◌else◌, List, [], ◌∷◌, ◌++◌, map, length, drop, Option, Some, None}
 use Rattle.std.specs.FinMap.{get, remove, entries}
-use Rattle.res_path.specs.Paths.{Names}
+use Rattle.std.specs.List.{flat_map}
+use Rattle.res_path.specs.Paths.{Names, is_prefix}
+use Rattle.delta_kind.specs.declared.node.DeltaNode.{DeltaNode}
 use Rattle.builder_api.specs.Places.{is_below}
 use Rattle.builder_api.specs.Files.{Files}
 use Rattle.builder_api.specs.Edits.{Edit}
@@ -27,3 +29,20 @@ puts left = map (λ e. (e.0, Some e.1)) (entries left)
 abbrev pub edits_along : Names → List (Names × List ℕ) → Files → List Edit
 edits_along o [] left = puts left
 edits_along o (e ∷ es) left = edits_at o e left ++ edits_along o es (left_after o e left)
+
+-- the edits for the file of the root at a path, where one is to be made
+abbrev pub edits_from : Names → Names → Files → Names → List Edit
+edits_from o root view q = let r = drop (length root) q in if is_below root q then edit_if r (change_of (get view (o ++ r)) (get view q)) else []
+
+-- the edits at nodes, in their order
+abbrev pub edits_at_nodes : Names → Names → Files → List DeltaNode → List Edit
+edits_at_nodes o root view nodes = flat_map (λ node. edits_from o root view node.path) nodes
+
+-- a file lies below the one before it, of files in path order
+abbrev pub is_over_first : Names → List (Names × List ℕ) → Bool
+is_over_first p [] = false
+is_over_first p (e ∷ es) = is_prefix p e.0
+
+abbrev pub are_apart : List (Names × List ℕ) → Bool
+are_apart [] = true
+are_apart (e ∷ es) = not (is_over_first e.0 es) && are_apart es

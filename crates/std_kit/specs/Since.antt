@@ -1,0 +1,29 @@
+-- What may be taken from a delta.
+use Rattle.std.specs.Prelude.{◌≡◌, Bool, not, ◌&&◌, ◌||◌, ◌==◌, List, ◌∷◌, [], Option, Some, None}
+use Rattle.std.specs.List.{list_any}
+use Rattle.res_path.specs.Paths.{Names, is_prefix}
+use Rattle.ws_elem.specs.Trees.{Tree}
+use Rattle.delta_kind.specs.declared.node.DeltaNode.{DeltaNode}
+use Rattle.delta_kind.specs.Flags.{is_set}
+use Rattle.builder_api.specs.Places.{is_within, is_below}
+use Rattle.builder_api.specs.Files.{Files, files_of}
+use Rattle.builder_api.specs.Tasks.{Task, view_of}
+use Rattle.builder_api.specs.Meanings.{Meaning}
+use Rattle.builder_api.specs.Lawful.{IsSince}
+
+-- no delta is handed, or it leads from a tree in which lay what the task made to one of which the view is
+abbrev pub IsAsPromised : Meaning → Task → Option (List DeltaNode) → Files → Type 0
+IsAsPromised m c None view = Unit {0}
+IsAsPromised m c (Some nodes) view = (last : Tree) × (now : Tree) × (view ≡ view_of c (files_of now)) × IsSince m c nodes last now
+
+-- something changed at or below one of the inputs, or below the output
+abbrev pub touches : List Names → Names → List DeltaNode → Bool
+touches inputs o nodes = list_any (λ node. is_within inputs node.path || is_below o node.path) nodes
+
+-- at the node's path stands what stood there: a file both times, or neither time
+abbrev pub stays : DeltaNode → Bool
+stays node = node.kind == 4 && not (is_set 0x8000 node.flags)
+
+-- something changed below the output, or more than contents at or below the root
+abbrev pub disturbs : Names → Names → List DeltaNode → Bool
+disturbs root o nodes = list_any (λ node. is_below o node.path || (is_prefix root node.path && not (stays node))) nodes
