@@ -1,6 +1,6 @@
 -- Edits that a delta tells are the changes to what is made.
 use Rattle.std.proofs.Common.{◌≡◌, ℕ, Bool, true, false, cond, not, ◌&&◌, ◌||◌, List, [], ◌∷◌, ◌++◌, refl, sym, ap, ◌∙◌, subst, arith}
-use Rattle.std.specs.Prelude.{Option, Some, None, is_some, IsSome, IfSome}
+use Rattle.std.specs.Prelude.{Option, Some, None, is_some, IsSome, IfSome, IsSomeAnd}
 use Rattle.std.specs.FinMap.{get}
 use Rattle.std.specs.Cmp.Lexicographic.{bytes_decides}
 use Rattle.std.specs.Option.{option_eq}
@@ -128,3 +128,9 @@ module _ (m : Meaning) (c : Task) (nodes : List DeltaNode) (last now : Tree) (vi
         absent : (x y : Option (List ℕ)) → is_some x ≡ is_some y → y ≡ None → x ≡ None
         absent None y same h = refl
         absent (Some v) y same h = let never : true ≡ false = same ∙ ap is_some h in cc
+
+-- so no edits are the changes where nothing changed by a delta that is handed
+pub no_edits : (m : Meaning) (c : Task) (nodes : Option (List DeltaNode)) (view : Files) → IsSomeAnd nodes (λ nodes. touches c.inputs c.output nodes ≡ false)
+    → IsAsPromised m c nodes view → AreChanges c.output view (m c (inputs_of c view)).files []
+no_edits m c None view h promised = absurd h
+no_edits m c (Some nodes) view h promised = idle m c nodes promised.0 promised.1 view promised.2 promised.3 h

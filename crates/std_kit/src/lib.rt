@@ -26,4 +26,4 @@ pub use making::Making;
 pub use problem::problem_of;
 pub use res_path::NoMemory;
 pub use roots::{files_of_root, relative};
-pub use since::{changes_at, disturbs, touches};
+pub use since::{changes_at, disturbs, is_idle};

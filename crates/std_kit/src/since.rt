@@ -1,5 +1,5 @@
 //! What may be taken from a delta.
-ghost use Rattle.std.specs.Prelude.{◌≡◌, ◌++◌, true, length, drop, IfOk, IfSome};
+ghost use Rattle.std.specs.Prelude.{◌≡◌, ◌++◌, true, false, length, drop, IfOk, IfSome, IsSomeAnd};
 ghost use Rattle.std.specs.Option.{option_copied, option_eq};
 ghost use Rattle.std.specs.Str.{bytes_eq};
 ghost use Rattle.res_path.specs.Paths.{is_prefix};
@@ -9,17 +9,28 @@ ghost use Rattle.std_kit.specs.Since.{touches, stays, disturbs};
 ghost use Rattle.std_kit.specs.Inside.Walks.{edits_from, edits_at_nodes};
 
 use crate::roots::below;
-use builder_api::{FileEdits, View, is_below, is_within};
+use builder_api::{FileEdits, Handed, View, is_below, is_within};
 use bytes::Bytes;
 use delta_kind::{CHANGED, Delta, DeltaNode, TYPE};
 use res_path::{NoMemory, Path, PathError};
 use std::alloc::{AllocError, Global};
 
-/// Whether something changed at or below one of the inputs, or below the output. Costs a pass over the nodes.
-pub fn touches(delta: &Delta, inputs: &[Path], output: &Path) -> bool
+/// Whether something changed at or below one of the inputs, or below the output.
+fn touches(delta: &Delta, inputs: &[Path], output: &Path) -> bool
     ensures { result ≡ touches inputs.now output.now delta.now }
 {
     delta.nodes().iter().any(|node| is_within(inputs, &node.path) || is_below(output, &node.path))
+}
+
+/// Whether a delta is handed by which nothing changed at or below the inputs, nor below the output. Costs a pass over the
+/// nodes.
+pub fn is_idle(handed: &Handed) -> bool
+    ensures { result ≡ true → IsSomeAnd handed.now.delta (λ nodes. touches handed.now.inputs handed.now.output nodes ≡ false) }
+{
+    match &handed.delta {
+        Some(delta) => !touches(delta, handed.inputs.as_slice(), &handed.output),
+        None => false,
+    }
 }
 
 /// Whether something changed below the output, or more than the contents of files at or below the root: a file came or
