@@ -1,6 +1,5 @@
 -- `concat` is a meaning, and its builder is lawful.
-use Rattle.std.proofs.Common.{◌≡◌, ℕ, false, List, [], ◌∷◌, refl, sym, ap, ◌∙◌, subst}
-use Rattle.std.specs.Prelude.{IsSomeAnd}
+use Rattle.std.proofs.Common.{◌≡◌, ℕ, List, [], ◌∷◌, refl, sym, ap, ◌∙◌, subst}
 use Rattle.std.specs.FinMap.{empty}
 use Rattle.res_path.specs.Paths.{Names}
 use Rattle.proj_desc.specs.declared.command.Command.{Command}
@@ -13,9 +12,8 @@ use Rattle.builder_api.specs.Meanings.{IsMeaning}
 use Rattle.builder_api.specs.Lawful.{Does}
 use Rattle.std_kit.specs.Changes.{AreChanges}
 use Rattle.std_kit.specs.Placed.{AreMade}
-use Rattle.std_kit.specs.Since.{IsAsPromised, touches}
-use Rattle.std_kit.proofs.Idle.{no_edits}
-use Rattle.std_kit.proofs.Lawful.{does_made, does_as_promised}
+use Rattle.std_kit.specs.Since.{IsAsPromised, AreDue}
+use Rattle.std_kit.proofs.Lawful.{due_changes, does_made}
 use Rattle.std_kit.proofs.Placing.{empty_made, placed_made, placed_first, meaning_of}
 use Rattle.std_kit.proofs.Rooted.{rooted_in}
 use Rattle.std.specs.List.{flat_map}
@@ -36,22 +34,10 @@ no_problems (e ∷ es) = refl
 seen : (c : Task) (view : Files) → all_of (files_of_roots c.inputs view) ≡ concat c (inputs_of c view)
 seen c view = ap (λ roots. all_of (flat_map (λ root. root.1) roots)) (sym (rooted_in c.inputs view))
 
-pub changes : (command : Command) (h : Handed) (edits : List Edit) → AreChanges h.output h.view (all_of (files_of_roots h.inputs h.view)).files edits
+pub changes : (command : Command) (h : Handed) (edits : List Edit) → AreDue h (all_of (files_of_roots h.inputs h.view)).files edits
     → IsAsPromised concat (task_of command h) h.delta h.view → AreChanges h.output h.view (concat (task_of command h) (inputs_of (task_of command h) h.view)).files edits
-changes command h edits are promised = subst (λ m. AreChanges h.output h.view m.files edits) (seen (task_of command h) h.view) are
+changes command h edits are = due_changes concat command h edits (subst (λ m. AreDue h m.files edits) (seen (task_of command h) h.view) are)
 
-pub does : (command : Command) (h : Handed) (e : Edits) → AreChanges h.output h.view (all_of (files_of_roots h.inputs h.view)).files e.files → e.problems ≡ [] → Does concat command h e
+pub does : (command : Command) (h : Handed) (e : Edits) → AreDue h (all_of (files_of_roots h.inputs h.view)).files e.files → e.problems ≡ [] → Does concat command h e
 does command h e are none = does_made concat command h e (all_of (files_of_roots h.inputs h.view)) (seen (task_of command h) h.view) are
     (none ∙ sym (no_problems (files_of_roots h.inputs h.view)))
-
--- ---- where nothing changed
-
-pub changes_idle : (command : Command) (h : Handed) (edits : List Edit) → IsSomeAnd h.delta (λ nodes. touches h.inputs h.output nodes ≡ false) → edits ≡ []
-    → IsAsPromised concat (task_of command h) h.delta h.view → AreChanges h.output h.view (concat (task_of command h) (inputs_of (task_of command h) h.view)).files edits
-changes_idle command h edits idle none promised =
-    subst (AreChanges h.output h.view (concat (task_of command h) (inputs_of (task_of command h) h.view)).files) (sym none)
-    (no_edits concat (task_of command h) h.delta h.view idle promised)
-
-pub does_idle : (command : Command) (h : Handed) (e : Edits) → IsSomeAnd h.delta (λ nodes. touches h.inputs h.output nodes ≡ false) → e.files ≡ [] → e.problems ≡ [] → Does concat command h e
-does_idle command h e idle files problems = does_as_promised concat command h e (changes_idle command h e.files idle files)
-    (λ promised. problems ∙ sym (no_problems (files_of_roots h.inputs (inputs_of (task_of command h) h.view))))

@@ -18,9 +18,9 @@ use Rattle.std_kit.specs.Changes.{AreChanges}
 use Rattle.std_kit.specs.Making.{nothing_made}
 use Rattle.std_kit.specs.Placed.{AreMade}
 use Rattle.std_kit.specs.Roots.{files_of_root, rooted, relative}
-use Rattle.std_kit.specs.Since.{IsAsPromised}
+use Rattle.std_kit.specs.Since.{IsAsPromised, AreDue}
 use Rattle.std_kit.proofs.Idle.{at_nodes, was_clear}
-use Rattle.std_kit.proofs.Lawful.{does_made, does_as_promised}
+use Rattle.std_kit.proofs.Lawful.{does_made, does_as_promised, due_changes}
 use Rattle.std_kit.proofs.Makings.{with_file_made}
 use Rattle.std_kit.proofs.Placing.{empty_made, meaning_of}
 use Rattle.std_kit.proofs.Rooted.{rooted_in}
@@ -40,15 +40,15 @@ all_made m (root ∷ roots) made = all_made (with_root m root) roots (root_made 
 pub copy_means : IsMeaning copy
 copy_means = meaning_of copy (λ c f. all_made nothing_made (rooted c.inputs f) empty_made)
 
--- edits that are the changes to the copies of the roots' files are lawful
-pub does_copy : (command : Command) (h : Handed) (e : Edits) → AreChanges h.output h.view (copied (rooted h.inputs h.view)).files e.files
+-- edits that are due for the copies of the roots' files are lawful
+pub does_copy : (command : Command) (h : Handed) (e : Edits) → AreDue h (copied (rooted h.inputs h.view)).files e.files
     → e.problems ≡ (copied (rooted h.inputs h.view)).problems → Does copy command h e
 does_copy command h e = does_made copy command h e (copied (rooted h.inputs h.view)) (ap copied (sym (rooted_in h.inputs h.view)))
 
--- the same changes, to what it tells that it makes of the inputs
-pub changes_copy : (command : Command) (h : Handed) (e : Edits) → AreChanges h.output h.view (copied (rooted h.inputs h.view)).files e.files
+-- and the changes to what it tells that it makes of the inputs
+pub changes_copy : (command : Command) (h : Handed) (e : Edits) → AreDue h (copied (rooted h.inputs h.view)).files e.files
     → IsAsPromised copy (task_of command h) h.delta h.view → AreChanges h.output h.view (copy (task_of command h) (inputs_of (task_of command h) h.view)).files e.files
-changes_copy command h e are promised = subst (λ roots. AreChanges h.output h.view (copied roots).files e.files) (sym (rooted_in h.inputs h.view)) are
+changes_copy command h e are = due_changes copy command h e.files (subst (λ roots. AreDue h (copied roots).files e.files) (sym (rooted_in h.inputs h.view)) are)
 
 -- ---- edits that a delta tells
 

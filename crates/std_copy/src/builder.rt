@@ -6,7 +6,7 @@ ghost use Rattle.builder_api.specs.Lawful.{Does};
 ghost use Rattle.builder_api.specs.Told.{Built, WasCalled};
 ghost use Rattle.std_kit.specs.Changes.{AreChanges};
 ghost use Rattle.std_kit.specs.Roots.{rooted};
-ghost use Rattle.std_kit.specs.Since.{IsAsPromised};
+ghost use Rattle.std_kit.specs.Since.{IsAsPromised, AreDue};
 ghost use Rattle.std_copy.specs.Copied.{copy, copied, copy_told};
 ghost use Rattle.std_copy.specs.Inside.Shortcuts.{AreTold};
 
@@ -16,6 +16,7 @@ use builder_api::{BuildFault, Builder, Edits, Handed};
 use proj_desc::Command;
 use res_path::NoMemory;
 use std::alloc::Global;
+use std_kit::is_idle;
 
 /// The builder `copy`. It takes the files of all inputs, input by input, each in path order, and puts each with its
 /// bytes at its path from its input, or at its last name where the input is the file itself. Where that path overlaps
@@ -69,11 +70,14 @@ fn told(alloc: Global, handed: &Handed) -> Result<Option<Edits>, NoMemory>
     }
 }
 
-/// What it answers by all files.
+/// What it answers by all files, of which none is compared where nothing changed.
 fn all_edits(alloc: Global, handed: &Handed) -> Result<Edits, NoMemory>
-    ensures files { IfOk result (λ edits. AreChanges handed.now.output handed.now.view (copied (rooted handed.now.inputs handed.now.view)).files edits.files) }
+    ensures files { IfOk result (λ edits. AreDue handed.now (copied (rooted handed.now.inputs handed.now.view)).files edits.files) }
     ensures problems { IfOk result (λ edits. edits.problems ≡ (copied (rooted handed.now.inputs handed.now.view)).problems) }
 {
     let made = made_of(alloc, handed.inputs.as_slice(), &handed.view)?;
+    if is_idle(handed) {
+        return Ok(made.into_problems(alloc));
+    }
     made.into_edits(alloc, &handed.output, &handed.view)
 }

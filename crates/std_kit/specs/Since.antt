@@ -1,15 +1,18 @@
 -- What may be taken from a delta.
-use Rattle.std.specs.Prelude.{◌≡◌, Bool, not, ◌&&◌, ◌||◌, ◌==◌, List, ◌∷◌, [], Option, Some, None}
+use Rattle.std.specs.Prelude.{◌≡◌, ◌⊎◌, Bool, false, not, ◌&&◌, ◌||◌, ◌==◌, List, ◌∷◌, [], Option, Some, None, IsSomeAnd}
 use Rattle.std.specs.List.{list_any}
 use Rattle.res_path.specs.Paths.{Names, is_prefix}
 use Rattle.ws_elem.specs.Trees.{Tree}
 use Rattle.delta_kind.specs.declared.node.DeltaNode.{DeltaNode}
 use Rattle.delta_kind.specs.Flags.{is_set}
+use Rattle.builder_api.specs.declared.handed.Handed.{Handed}
+use Rattle.builder_api.specs.Edits.{Edit}
 use Rattle.builder_api.specs.Places.{is_within, is_below}
 use Rattle.builder_api.specs.Files.{Files, files_of}
 use Rattle.builder_api.specs.Tasks.{Task, view_of}
 use Rattle.builder_api.specs.Meanings.{Meaning}
 use Rattle.builder_api.specs.Lawful.{IsSince}
+use Rattle.std_kit.specs.Changes.{AreChanges}
 
 -- no delta is handed, or it leads from a tree in which lay what the task made to one of which the view is
 abbrev pub IsAsPromised : Meaning → Task → Option (List DeltaNode) → Files → Type 0
@@ -27,3 +30,11 @@ stays node = node.kind == 4 && not (is_set 0x8000 node.flags)
 -- something changed below the output, or more than contents at or below the root
 abbrev pub disturbs : Names → Names → List DeltaNode → Bool
 disturbs root o nodes = list_any (λ node. is_below o node.path || (is_prefix root node.path && not (stays node))) nodes
+
+-- a delta is handed by which nothing changed at or below the inputs, nor below the output
+abbrev pub IsIdle : Handed → Type 0
+IsIdle h = IsSomeAnd h.delta (λ nodes. touches h.inputs h.output nodes ≡ false)
+
+-- the changes to the files that are made, or none where by a delta nothing changed
+abbrev pub AreDue : Handed → Files → List Edit → Type 0
+AreDue h made edits = AreChanges h.output h.view made edits ⊎ (IsIdle h × (edits ≡ []))

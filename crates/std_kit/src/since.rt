@@ -1,11 +1,11 @@
 //! What may be taken from a delta.
-ghost use Rattle.std.specs.Prelude.{◌≡◌, ◌++◌, true, false, length, drop, IfOk, IfSome, IsSomeAnd};
+ghost use Rattle.std.specs.Prelude.{◌≡◌, ◌++◌, true, length, drop, IfOk, IfSome};
 ghost use Rattle.std.specs.Option.{option_copied, option_eq};
 ghost use Rattle.std.specs.Str.{bytes_eq};
 ghost use Rattle.res_path.specs.Paths.{is_prefix};
 ghost use Rattle.delta_kind.specs.Flags.{is_set};
 ghost use Rattle.std_kit.specs.Changes.{AreChangesAt};
-ghost use Rattle.std_kit.specs.Since.{touches, stays, disturbs};
+ghost use Rattle.std_kit.specs.Since.{IsIdle, touches, stays, disturbs};
 ghost use Rattle.std_kit.specs.Inside.Walks.{edits_from, edits_at_nodes};
 
 use crate::roots::below;
@@ -25,7 +25,7 @@ fn touches(delta: &Delta, inputs: &[Path], output: &Path) -> bool
 /// Whether a delta is handed by which nothing changed at or below the inputs, nor below the output. Costs a pass over the
 /// nodes.
 pub fn is_idle(handed: &Handed) -> bool
-    ensures { result ≡ true → IsSomeAnd handed.now.delta (λ nodes. touches handed.now.inputs handed.now.output nodes ≡ false) }
+    ensures { result ≡ true → IsIdle handed.now }
 {
     match &handed.delta {
         Some(delta) => !touches(delta, handed.inputs.as_slice(), &handed.output),

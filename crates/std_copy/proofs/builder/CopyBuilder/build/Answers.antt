@@ -14,7 +14,7 @@ returns-in-Some-clause-changes c = changes_told c.args.command.now c.args.handed
 
 pub returns-in_ok-all_edits-in-None-clause-lawful : goal.returns-in_ok-all_edits-in-None-clause-lawful
 returns-in_ok-all_edits-in-None-clause-lawful c =
-    does_copy c.args.command.now c.args.handed.now _ c.in_ok-all_edits-in-None.ensures.files c.in_ok-all_edits-in-None.ensures.problems
+    does_copy c.args.command.now c.args.handed.now c.in_ok-all_edits-in-None.field-0 c.in_ok-all_edits-in-None.ensures.files c.in_ok-all_edits-in-None.ensures.problems
 
 pub returns-in_ok-all_edits-in-None-clause-changes : goal.returns-in_ok-all_edits-in-None-clause-changes
 returns-in_ok-all_edits-in-None-clause-changes c = changes_copy c.args.command.now c.args.handed.now c.in_ok-all_edits-in-None.field-0 c.in_ok-all_edits-in-None.ensures.files
