@@ -8,8 +8,8 @@ use res_path::NoMemory;
 use std::alloc::Global;
 use std_kit::{changes_at, disturbs, is_clear};
 
-/// What it answers, where the delta tells it: there is one input, of whose files none lies below another, and no more
-/// than contents of them changed.
+/// What it answers, where the delta tells it: there is one input, of whose files none went and none lies below another,
+/// and the outputs are as they were made.
 pub(crate) fn told_edits(
     alloc: Global,
     delta: &Delta,

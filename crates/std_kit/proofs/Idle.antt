@@ -21,7 +21,7 @@ use Rattle.builder_api.proofs.Views.{view_within, view_below, view_inputs}
 use Rattle.std.specs.List.{AllByRecursion, AllPairs}
 use Rattle.std_kit.specs.Changes.{change_of, AreChanges, AreChangesAt}
 use Rattle.std_kit.specs.Roots.{IsClear}
-use Rattle.std_kit.specs.Since.{IsAsPromised, touches, stays, disturbs}
+use Rattle.std_kit.specs.Since.{IsAsPromised, touches, loses, disturbs}
 use Rattle.std_kit.proofs.Told.{Found, found, none_pass, kept, stayed}
 
 -- nothing is to be done where there is what is made
@@ -75,30 +75,28 @@ module _ (m : Meaning) (c : Task) (nodes : List DeltaNode) (last now : Tree) (vi
 
   module _ (root : Names) (reads : (r : Names) → is_within c.inputs (root ++ r) ≡ true) (calm : disturbs root c.output nodes ≡ false) where
     abbrev disturbing : DeltaNode → Bool
-    disturbing node = is_below c.output node.path || (is_prefix root node.path && not (stays node))
+    disturbing node = is_below c.output node.path || (is_prefix root node.path && loses node)
 
     read : (r : Names) → (is_within c.inputs (root ++ r) || is_below c.output (root ++ r)) ≡ true
     read r = ap (λ b. b || is_below c.output (root ++ r)) (reads r)
 
     output_silent : (n : List ℕ) (r : Names) → node_with (c.output ++ n ∷ r) nodes ≡ None
     output_silent n r = not_found disturbing (c.output ++ n ∷ r) nodes (none_pass disturbing nodes calm)
-        (λ node is. ap (λ b. b || (is_prefix root node.path && not (stays node))) (ap (is_below c.output) is ∙ below_append c.output n r))
+        (λ node is. ap (λ b. b || (is_prefix root node.path && loses node)) (ap (is_below c.output) is ∙ below_append c.output n r))
 
-    -- a root's file was there if it is
-    pub was_there : (r : Names) → is_some (get (files_of last) (root ++ r)) ≡ is_some (get view (root ++ r))
-    was_there r = by (node_with (root ++ r) nodes) refl (found (λ node. disturbing node ≡ false) (root ++ r) nodes (none_pass disturbing nodes calm))
-        ∙ sym (ap is_some (ap (λ v. get v (root ++ r)) sees ∙ view_within c (files_of now) (root ++ r) (reads r)))
+    -- a root's file that was there is there
+    pub was_there : (r : Names) → IsSome (get (files_of last) (root ++ r)) → IsSome (get view (root ++ r))
+    was_there r was = subst IsSome (sym (ap (λ v. get v (root ++ r)) sees ∙ view_within c (files_of now) (root ++ r) (reads r)))
+        (by (node_with (root ++ r) nodes) refl (found (λ node. disturbing node ≡ false) (root ++ r) nodes (none_pass disturbing nodes calm)))
       where
-        stable : (a b : Bool) → (a && not b) ≡ false → a ≡ true → b ≡ true
-        stable true true h g = refl
-        stable true false h g = cc
-        stable false b h g = cc
+        second : (a b : Bool) → (a && b) ≡ false → a ≡ true → b ≡ false
+        second true b h g = h
+        second false b h g = cc
 
-        by : (o : Option DeltaNode) → node_with (root ++ r) nodes ≡ o → IfSome o (Found (root ++ r) (λ node. disturbing node ≡ false))
-            → is_some (get (files_of last) (root ++ r)) ≡ is_some (get (files_of now) (root ++ r))
-        by None none it = ap is_some (kept m c nodes last now since (root ++ r) (read r) none)
+        by : (o : Option DeltaNode) → node_with (root ++ r) nodes ≡ o → IfSome o (Found (root ++ r) (λ node. disturbing node ≡ false)) → IsSome (get (files_of now) (root ++ r))
+        by None none it = subst IsSome (kept m c nodes last now since (root ++ r) (read r) none) was
         by (Some node) is it = stayed m c nodes last now since (root ++ r) node (read r) is
-            (stable (is_prefix root node.path) (stays node) (neither (is_below c.output node.path) (is_prefix root node.path && not (stays node)) it.told).1 (ap (is_prefix root) it.path ∙ prefix_append root r))
+            (second (is_prefix root node.path) (loses node) (neither (is_below c.output node.path) (is_prefix root node.path && loses node) it.told).1 (ap (is_prefix root) it.path ∙ prefix_append root r)) was
 
     -- edits at nodes are the changes, where each file of the root is made at its path from there
     pub at_nodes : (edits : List Edit) → AreChangesAt c.output root view nodes edits
@@ -117,17 +115,17 @@ module _ (m : Meaning) (c : Task) (nodes : List DeltaNode) (last now : Tree) (vi
     -- files that are clear of each other were so
     pub was_clear : IsClear root view → IsClear root (files_of last)
     was_clear clear = record {
-      none = absent (get (files_of last) root) (get view root) (subst (λ q. is_some (get (files_of last) q) ≡ is_some (get view q)) (nothing_more root) (was_there [])) clear.none;
-      apart = λ p q h g. clear.apart p q (sym (was_there p) ∙ h) (sym (was_there q) ∙ g);
+      none = absent (get (files_of last) root) (get view root) (subst (λ q. IsSome (get (files_of last) q) → IsSome (get view q)) (nothing_more root) (was_there [])) clear.none;
+      apart = λ p q h g. clear.apart p q (was_there p h) (was_there q g);
     }
       where
         nothing_more : (p : Names) → p ++ [] ≡ p
         nothing_more [] = refl
         nothing_more (n ∷ p) = ap (λ p. n ∷ p) (nothing_more p)
 
-        absent : (x y : Option (List ℕ)) → is_some x ≡ is_some y → y ≡ None → x ≡ None
-        absent None y same h = refl
-        absent (Some v) y same h = let never : true ≡ false = same ∙ ap is_some h in cc
+        absent : (x y : Option (List ℕ)) → (IsSome x → IsSome y) → y ≡ None → x ≡ None
+        absent None y still h = refl
+        absent (Some v) y still h = let never : true ≡ false = sym (still refl) ∙ ap is_some h in cc
 
 -- so no edits are the changes where nothing changed by a delta that is handed
 pub no_edits : (m : Meaning) (c : Task) (nodes : Option (List DeltaNode)) (view : Files) → IsSomeAnd nodes (λ nodes. touches c.inputs c.output nodes ≡ false)

@@ -1,6 +1,6 @@
 -- What a delta tells of files.
 use Rattle.std.proofs.Common.{◌≡◌, ℕ, Bool, true, false, cond, not, ◌&&◌, ◌||◌, ◌==◌, List, [], ◌∷◌, ◌++◌, refl, sym, ap, ◌∙◌, subst, rules, arith}
-use Rattle.std.specs.Prelude.{Option, Some, None, is_some, IfSome}
+use Rattle.std.specs.Prelude.{Option, Some, None, is_some, IsSome, IfSome}
 use Rattle.std.specs.FinMap.{get}
 use Rattle.std.specs.Cmp.Lexicographic.{bytes_decides}
 use Rattle.std.specs.List.{AllByRecursion, list_any}
@@ -26,7 +26,7 @@ use Rattle.builder_api.specs.Lawful.{scope, IsSince}
 use Rattle.builder_api.proofs.Maps.{same_path}
 use Rattle.builder_api.proofs.Places.{both, neither, or_true, prefix_of_below}
 use Rattle.builder_api.proofs.Trees.{get-files_of}
-use Rattle.std_kit.specs.Since.{stays}
+use Rattle.std_kit.specs.Since.{loses}
 
 -- ---- nodes that are found
 
@@ -100,7 +100,7 @@ task_within roots c q h g = by (is_within c.inputs q) refl g
 
 -- ---- files before and after
 
-same_kinds : (k l : Kind) → not (not (kind_number k == kind_number l)) ≡ true → is_file k ≡ is_file l
+same_kinds : (k l : Kind) → not (kind_number k == kind_number l) ≡ false → is_file k ≡ is_file l
 same_kinds File File h = refl
 same_kinds File Folder h = cc
 same_kinds File Project h = cc
@@ -122,11 +122,10 @@ is_there : (b : Bool) (bytes : List ℕ) → is_some (cond b (Some bytes) None) 
 is_there true bytes = refl
 is_there false bytes = refl
 
-still_there : (x y : Option Element) → (kind_of x y == 4 && not (has_type x y)) ≡ true → is_some (file_bytes x) ≡ is_some (file_bytes y)
-still_there None None h = refl
-still_there None (Some b) h = cc
-still_there (Some a) None h = cc
-still_there (Some a) (Some b) h = is_there (is_file a.kind) a.bytes ∙ same_kinds a.kind b.kind h ∙ sym (is_there (is_file b.kind) b.bytes)
+still_there : (x y : Option Element) → (kind_of x y == 2 || has_type x y) ≡ false → IsSome (file_bytes x) → IsSome (file_bytes y)
+still_there None y h g = cc
+still_there (Some a) None h g = cc
+still_there (Some a) (Some b) h g = is_there (is_file b.kind) b.bytes ∙ sym (same_kinds a.kind b.kind h) ∙ sym (is_there (is_file a.kind) a.bytes) ∙ g
 
 module _ (m : Meaning) (c : Task) (nodes : List DeltaNode) (last now : Tree) (since : IsSince m c nodes last now) where
   as_whole : (q : Names) → (is_within c.inputs q || is_below c.output q) ≡ true → node_with q nodes ≡ node_with q (delta last now)
@@ -137,12 +136,12 @@ module _ (m : Meaning) (c : Task) (nodes : List DeltaNode) (last now : Tree) (si
   pub kept : (q : Names) → (is_within c.inputs q || is_below c.output q) ≡ true → node_with q nodes ≡ None → get (files_of last) q ≡ get (files_of now) q
   kept q h none = get-files_of last q ∙ tells_contents last now (since.stamps 0 last (omega arith) 1 last (omega arith)) q (sym (as_whole q h) ∙ none) ∙ sym (get-files_of now q)
 
-  -- where the node of a path stays a file was if one is
-  pub stayed : (q : Names) (node : DeltaNode) → (is_within c.inputs q || is_below c.output q) ≡ true → node_with q nodes ≡ Some node → stays node ≡ true
-      → is_some (get (files_of last) q) ≡ is_some (get (files_of now) q)
-  stayed q node h is stays_so =
+  -- where the node of a path loses nothing a file is there if one was
+  pub stayed : (q : Names) (node : DeltaNode) → (is_within c.inputs q || is_below c.output q) ≡ true → node_with q nodes ≡ Some node → loses node ≡ false
+      → IsSome (get (files_of last) q) → IsSome (get (files_of now) q)
+  stayed q node h is loses_not was =
       let it : Found q (TellsPath last now) node = subst (λ o. IfSome o (Found q (TellsPath last now))) (sym (as_whole q h) ∙ is) (found (TellsPath last now) q (delta last now) (tells_paths last now)) in
-      let here : (kind_of (get last q) (get now q) == 4 && not (has_type (get last q) (get now q))) ≡ true
-      = subst (λ p. (kind_of (get last p) (get now p) == 4 && not (has_type (get last p) (get now p))) ≡ true) it.path
-      ((λ i. sym it.told.kind i == 4 && not (sym it.told.other_kind i)) ∙ stays_so) in
-      ap is_some (get-files_of last q) ∙ still_there (get last q) (get now q) here ∙ sym (ap is_some (get-files_of now q))
+      let here : (kind_of (get last q) (get now q) == 2 || has_type (get last q) (get now q)) ≡ false
+      = subst (λ p. (kind_of (get last p) (get now p) == 2 || has_type (get last p) (get now p)) ≡ false) it.path
+      ((λ i. sym it.told.kind i == 2 || sym it.told.other_kind i) ∙ loses_not) in
+      subst IsSome (sym (get-files_of now q)) (still_there (get last q) (get now q) here (subst IsSome (get-files_of last q) was))

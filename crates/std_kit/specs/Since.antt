@@ -1,5 +1,5 @@
 -- What may be taken from a delta.
-use Rattle.std.specs.Prelude.{◌≡◌, ◌⊎◌, Bool, false, not, ◌&&◌, ◌||◌, ◌==◌, List, ◌∷◌, [], Option, Some, None, IsSomeAnd}
+use Rattle.std.specs.Prelude.{◌≡◌, ◌⊎◌, Bool, false, ◌&&◌, ◌||◌, ◌==◌, List, ◌∷◌, [], Option, Some, None, IsSomeAnd}
 use Rattle.std.specs.List.{list_any}
 use Rattle.res_path.specs.Paths.{Names, is_prefix}
 use Rattle.ws_elem.specs.Trees.{Tree}
@@ -23,13 +23,13 @@ IsAsPromised m c (Some nodes) view = (last : Tree) × (now : Tree) × (view ≡ 
 abbrev pub touches : List Names → Names → List DeltaNode → Bool
 touches inputs o nodes = list_any (λ node. is_within inputs node.path || is_below o node.path) nodes
 
--- at the node's path stands what stood there: a file both times, or neither time
-abbrev pub stays : DeltaNode → Bool
-stays node = node.kind == 4 && not (is_set 0x8000 node.flags)
+-- a file may have gone from the node's path, as what was there went or is of another kind
+abbrev pub loses : DeltaNode → Bool
+loses node = node.kind == 2 || is_set 0x8000 node.flags
 
--- something changed below the output, or more than contents at or below the root
+-- something changed below the output, or a file may have gone at or below the root
 abbrev pub disturbs : Names → Names → List DeltaNode → Bool
-disturbs root o nodes = list_any (λ node. is_below o node.path || (is_prefix root node.path && not (stays node))) nodes
+disturbs root o nodes = list_any (λ node. is_below o node.path || (is_prefix root node.path && loses node)) nodes
 
 -- a delta is handed by which nothing changed at or below the inputs, nor below the output
 abbrev pub IsIdle : Handed → Type 0

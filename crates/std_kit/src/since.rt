@@ -5,13 +5,13 @@ ghost use Rattle.std.specs.Str.{bytes_eq};
 ghost use Rattle.res_path.specs.Paths.{is_prefix};
 ghost use Rattle.delta_kind.specs.Flags.{is_set};
 ghost use Rattle.std_kit.specs.Changes.{AreChangesAt};
-ghost use Rattle.std_kit.specs.Since.{IsIdle, touches, stays, disturbs};
+ghost use Rattle.std_kit.specs.Since.{IsIdle, touches, loses, disturbs};
 ghost use Rattle.std_kit.specs.Inside.Walks.{edits_from, edits_at_nodes};
 
 use crate::roots::below;
 use builder_api::{FileEdits, Handed, View, is_below, is_within};
 use bytes::Bytes;
-use delta_kind::{CHANGED, Delta, DeltaNode, TYPE};
+use delta_kind::{Delta, DeltaNode, REMOVED, TYPE};
 use res_path::{NoMemory, Path, PathError};
 use std::alloc::{AllocError, Global};
 
@@ -33,20 +33,19 @@ pub fn is_idle(handed: &Handed) -> bool
     }
 }
 
-/// Whether something changed below the output, or more than the contents of files at or below the root: a file came or
-/// went there. Costs a pass over the nodes.
+/// Whether something changed below the output, or a file may have gone at or below the root. Costs a pass over the nodes.
 pub fn disturbs(delta: &Delta, root: &Path, output: &Path) -> bool
     ensures { result ≡ disturbs root.now output.now delta.now }
 {
     delta.nodes().iter().any(|node| is_below(output, &node.path)
-        || (root.is_prefix_of(&node.path) && !stays(node)))
+        || (root.is_prefix_of(&node.path) && loses(node)))
 }
 
-/// Whether at the node's path stands what stood there: a file both times, or neither time.
-fn stays(node: &DeltaNode) -> bool
-    ensures { result ≡ stays node.now }
+/// Whether a file may have gone from the node's path: what was there went, or is of another kind.
+fn loses(node: &DeltaNode) -> bool
+    ensures { result ≡ loses node.now }
 {
-    node.kind == CHANGED && !is_of_other_kind(node.flags)
+    node.kind == REMOVED || is_of_other_kind(node.flags)
 }
 
 fn is_of_other_kind(flags: u32) -> bool

@@ -8,8 +8,8 @@ use Rattle.std_kit.specs.Changes.{AreChangesAt}
 use Rattle.std_kit.specs.Roots.{IsClear}
 use Rattle.std_kit.specs.Since.{disturbs}
 
--- there is one root, whose files are clear of each other, and no more than contents of them changed: the edits are
--- those at the nodes, and there is no problem
+-- there is one root, whose files are clear of each other, and none of which went: the edits are those at the nodes, and there
+-- is no problem
 pub record AreTold (nodes : List DeltaNode) (h : Handed) (e : Edits) : Type 0 where
   pub root : Names
   pub alone : h.inputs ≡ root ∷ []
