@@ -3,9 +3,9 @@ use Rattle.std.proofs.Common.{◌≡◌, ℕ, Bool, true, false, cond, not, ◌&
 use Rattle.std.specs.Prelude.{Option, Some, None, is_some, IsSome, filter}
 use Rattle.std.specs.declared.cmp.Ordering.{Ordering}
 use Rattle.std.specs.declared.cmp.Ordering.TheVariants.{Less, Equal, Greater}
-use Rattle.std.specs.FinMap.{get, insert, keys, entries, find, empty, get-insert, get-empty}
+use Rattle.std.specs.FinMap.{get, insert, entries, find, empty, get-insert, get-empty}
 use Rattle.std.specs.FinMap.Entries.{below_all, is_sorted}
-use Rattle.std.specs.List.{AllByRecursion, fold, list_any}
+use Rattle.std.specs.List.{AllByRecursion, fold}
 use Rattle.std.specs.Ordering.{eq_by_cmp, is_lt, is_eq}
 use Rattle.res_path.specs.Paths.{Names, path_cmp, path_eq, is_prefix, overlap, parent}
 use Rattle.res_path.specs.PathLaws.{path_cmp_total}
@@ -16,7 +16,6 @@ use Rattle.builder_api.proofs.Maps.{same_path, path_is, other_path}
 use Rattle.std.specs.Str.{bytes_eq}
 use Rattle.builder_api.proofs.Places.{split, both, cancel, itself, same_name, below_append}
 use Rattle.std_kit.specs.Making.{nothing_made, with_problem, with_file, shadowed}
-use Rattle.std_kit.specs.Placed.{is_free}
 use Rattle.std_kit.specs.Roots.{IsClear, files_of_root, relative}
 use Rattle.std_kit.proofs.Keys.{none_passes}
 use Rattle.std_kit.proofs.Walks.{from_o, seen, root_sorted}

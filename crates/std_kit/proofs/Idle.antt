@@ -1,5 +1,5 @@
 -- Edits that a delta tells are the changes to what is made.
-use Rattle.std.proofs.Common.{◌≡◌, ℕ, Bool, true, false, cond, not, ◌&&◌, ◌||◌, List, [], ◌∷◌, ◌++◌, refl, sym, ap, ◌∙◌, subst, arith}
+use Rattle.std.proofs.Common.{◌≡◌, ℕ, Bool, true, false, cond, ◌&&◌, ◌||◌, List, [], ◌∷◌, ◌++◌, refl, sym, ap, ◌∙◌, subst, arith}
 use Rattle.std.specs.Prelude.{Option, Some, None, is_some, IsSome, IfSome, IsSomeAnd}
 use Rattle.std.specs.FinMap.{get}
 use Rattle.std.specs.Cmp.Lexicographic.{bytes_decides}
@@ -16,9 +16,9 @@ use Rattle.builder_api.specs.Edits.{Edit}
 use Rattle.builder_api.specs.Meanings.{Meaning}
 use Rattle.builder_api.specs.Lawful.{IsSince}
 use Rattle.builder_api.proofs.Maps.{same_inputs}
-use Rattle.builder_api.proofs.Places.{both, neither, or_true, below_append, prefix_append}
+use Rattle.builder_api.proofs.Places.{neither, or_true, below_append, prefix_append}
 use Rattle.builder_api.proofs.Views.{view_within, view_below, view_inputs}
-use Rattle.std.specs.List.{AllByRecursion, AllPairs}
+use Rattle.std.specs.List.{AllByRecursion}
 use Rattle.std_kit.specs.Changes.{change_of, AreChanges, AreChangesAt}
 use Rattle.std_kit.specs.Roots.{IsClear}
 use Rattle.std_kit.specs.Since.{IsAsPromised, touches, loses, disturbs}

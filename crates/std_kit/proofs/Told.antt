@@ -1,5 +1,5 @@
 -- What a delta tells of files.
-use Rattle.std.proofs.Common.{◌≡◌, ℕ, Bool, true, false, cond, not, ◌&&◌, ◌||◌, ◌==◌, List, [], ◌∷◌, ◌++◌, refl, sym, ap, ◌∙◌, subst, rules, arith}
+use Rattle.std.proofs.Common.{◌≡◌, ℕ, Bool, true, false, cond, not, ◌&&◌, ◌||◌, ◌==◌, List, [], ◌∷◌, refl, sym, ap, ◌∙◌, subst, arith}
 use Rattle.std.specs.Prelude.{Option, Some, None, is_some, IsSome, IfSome}
 use Rattle.std.specs.FinMap.{get}
 use Rattle.std.specs.Cmp.Lexicographic.{bytes_decides}
@@ -14,7 +14,7 @@ use Rattle.ws_elem.specs.Elements.{file_bytes}
 use Rattle.ws_elem.specs.Kinds.{kind_number, is_file}
 use Rattle.ws_elem.specs.Trees.{Tree}
 use Rattle.delta_kind.specs.declared.node.DeltaNode.{DeltaNode}
-use Rattle.delta_kind.specs.Flags.{kind_of, has_type, is_set}
+use Rattle.delta_kind.specs.Flags.{kind_of, has_type}
 use Rattle.delta_kind.specs.Deltas.{delta, cut, node_with, TellsPath}
 use Rattle.delta_kind.proofs.Contents.{tells_contents}
 use Rattle.delta_kind.proofs.Flagged.{tells_paths}

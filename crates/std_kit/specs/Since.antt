@@ -1,5 +1,5 @@
 -- What may be taken from a delta.
-use Rattle.std.specs.Prelude.{◌≡◌, ◌⊎◌, Bool, false, ◌&&◌, ◌||◌, ◌==◌, List, ◌∷◌, [], Option, Some, None, IsSomeAnd}
+use Rattle.std.specs.Prelude.{◌≡◌, ◌⊎◌, Bool, false, ◌&&◌, ◌||◌, ◌==◌, List, [], Option, Some, None, IsSomeAnd}
 use Rattle.std.specs.List.{list_any}
 use Rattle.res_path.specs.Paths.{Names, is_prefix}
 use Rattle.ws_elem.specs.Trees.{Tree}
