@@ -24,9 +24,9 @@ use std_kit::is_idle;
 /// Its edits touch only the files that differ. It keeps nothing between calls. Bytes are shared, never copied. Costs a
 /// few searches for each file that is handed, and a comparison of its bytes with those that are there.
 ///
-/// A delta that is handed is taken at its word. Where nothing changed, no bytes are compared. Where there is one input, none
-/// of its files went and none lies below another, and no output changed, it costs a look at each path, and a comparison of
-/// the bytes of each file that has a node.
+/// A delta that is handed is taken at its word. Where nothing changed, no bytes are compared. Where there is one input, of
+/// whose files none lies below another, and no output changed, it costs a look at each path, and a comparison of the bytes
+/// of each file that has a node; but where a folder with files went, or became a file, all is compared.
 #[derive(Drop)]
 pub struct Copy {
     alloc: Global,

@@ -6,9 +6,9 @@ use builder_api::{Edits, Handed, Problems};
 use delta_kind::Delta;
 use res_path::NoMemory;
 use std::alloc::Global;
-use std_kit::{changes_at, disturbs, is_clear};
+use std_kit::{changes_at, is_calm, is_clear};
 
-/// What it answers, where the delta tells it: there is one input, of whose files none went and none lies below another,
+/// What it answers, where the delta tells it: there is one input, of whose files none lies below another, nor did one that went,
 /// and the outputs are as they were made.
 pub(crate) fn told_edits(
     alloc: Global,
@@ -20,7 +20,10 @@ pub(crate) fn told_edits(
     let [root] = handed.inputs.as_slice() else {
         return Ok(None);
     };
-    if disturbs(delta, root, &handed.output) || !is_clear(&handed.view, root) {
+    if !is_clear(&handed.view, root) {
+        return Ok(None);
+    }
+    if !is_calm(delta, root, &handed.output, &handed.view)? {
         return Ok(None);
     }
     match changes_at(alloc, root, &handed.output, &handed.view, delta)? {

@@ -80,7 +80,7 @@ apart_found (e ∷ es) sorted apart p q h g f =
     by parts false i true j h g next = absurd (under e.0 es (first _ _ sorted) p h (ap (is_prefix p) (sym (same_path q e.0 j)) ∙ f))
     by parts false i false j h g next = next h g
 
-prefix_both : (root p q : Names) → is_prefix p q ≡ true → is_prefix (root ++ p) (root ++ q) ≡ true
+pub prefix_both : (root p q : Names) → is_prefix p q ≡ true → is_prefix (root ++ p) (root ++ q) ≡ true
 prefix_both [] p q h = h
 prefix_both (n ∷ root) p q h = ap (λ b. b && is_prefix (root ++ p) (root ++ q)) (itself n) ∙ prefix_both root p q h
 

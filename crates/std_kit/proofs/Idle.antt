@@ -1,11 +1,11 @@
 -- Edits that a delta tells are the changes to what is made.
-use Rattle.std.proofs.Common.{◌≡◌, ℕ, Bool, true, false, cond, ◌&&◌, ◌||◌, List, [], ◌∷◌, ◌++◌, refl, sym, ap, ◌∙◌, subst, arith}
+use Rattle.std.proofs.Common.{◌≡◌, ◌⊎◌, inl, inr, ℕ, Bool, true, false, cond, not, ◌&&◌, ◌||◌, List, [], ◌∷◌, ◌++◌, refl, sym, ap, ◌∙◌, subst, arith}
 use Rattle.std.specs.Prelude.{Option, Some, None, is_some, IsSome, IfSome, IsSomeAnd}
 use Rattle.std.specs.FinMap.{get}
 use Rattle.std.specs.Cmp.Lexicographic.{bytes_decides}
 use Rattle.std.specs.Option.{option_eq}
 use Rattle.std.specs.Str.{bytes_eq}
-use Rattle.res_path.specs.Paths.{Names, is_prefix}
+use Rattle.res_path.specs.Paths.{Names, path_cmp, is_prefix}
 use Rattle.ws_elem.specs.Trees.{Tree}
 use Rattle.delta_kind.specs.declared.node.DeltaNode.{DeltaNode}
 use Rattle.delta_kind.specs.Deltas.{node_with}
@@ -15,13 +15,17 @@ use Rattle.builder_api.specs.Tasks.{Task, inputs_of, view_of}
 use Rattle.builder_api.specs.Edits.{Edit}
 use Rattle.builder_api.specs.Meanings.{Meaning}
 use Rattle.builder_api.specs.Lawful.{IsSince}
-use Rattle.builder_api.proofs.Maps.{same_inputs}
-use Rattle.builder_api.proofs.Places.{neither, or_true, below_append, prefix_append}
+use Rattle.builder_api.proofs.Maps.{same_inputs, same_path, path_is, other_path}
+use Rattle.res_path.specs.PathLaws.{path_ties}
+use Rattle.std.specs.Ordering.{eq_by_cmp}
+use Rattle.std_kit.proofs.Apart.{prefix_both}
+use Rattle.std_kit.proofs.Losses.{below_other}
+use Rattle.builder_api.proofs.Places.{or_true, below_append, prefix_append, below_then, cancel}
 use Rattle.builder_api.proofs.Views.{view_within, view_below, view_inputs}
 use Rattle.std.specs.List.{AllByRecursion}
 use Rattle.std_kit.specs.Changes.{change_of, AreChanges, AreChangesAt}
 use Rattle.std_kit.specs.Roots.{IsClear}
-use Rattle.std_kit.specs.Since.{IsAsPromised, touches, loses, disturbs}
+use Rattle.std_kit.specs.Since.{IsAsPromised, touches, loses, IsAlone, IsCalm}
 use Rattle.std_kit.proofs.Told.{Found, found, none_pass, kept, stayed}
 
 -- nothing is to be done where there is what is made
@@ -73,30 +77,39 @@ module _ (m : Meaning) (c : Task) (nodes : List DeltaNode) (last now : Tree) (vi
           let here : (is_within c.inputs q || is_below c.output q) ≡ true = ap (λ b. b || is_below c.output q) at in
           kept m c nodes last now since q here (silent q here)) ∙ sym inputs_now
 
-  module _ (root : Names) (reads : (r : Names) → is_within c.inputs (root ++ r) ≡ true) (calm : disturbs root c.output nodes ≡ false) where
-    abbrev disturbing : DeltaNode → Bool
-    disturbing node = is_below c.output node.path || (is_prefix root node.path && loses node)
-
+  module _ (root : Names) (reads : (r : Names) → is_within c.inputs (root ++ r) ≡ true) (calm : IsCalm root c.output view nodes) where
     read : (r : Names) → (is_within c.inputs (root ++ r) || is_below c.output (root ++ r)) ≡ true
     read r = ap (λ b. b || is_below c.output (root ++ r)) (reads r)
 
     output_silent : (n : List ℕ) (r : Names) → node_with (c.output ++ n ∷ r) nodes ≡ None
-    output_silent n r = not_found disturbing (c.output ++ n ∷ r) nodes (none_pass disturbing nodes calm)
-        (λ node is. ap (λ b. b || (is_prefix root node.path && loses node)) (ap (is_below c.output) is ∙ below_append c.output n r))
+    output_silent n r = not_found (λ node. is_below c.output node.path) (c.output ++ n ∷ r) nodes calm.output (λ node is. ap (is_below c.output) is ∙ below_append c.output n r)
 
-    -- a root's file that was there is there
-    pub was_there : (r : Names) → IsSome (get (files_of last) (root ++ r)) → IsSome (get view (root ++ r))
-    was_there r was = subst IsSome (sym (ap (λ v. get v (root ++ r)) sees ∙ view_within c (files_of now) (root ++ r) (reads r)))
-        (by (node_with (root ++ r) nodes) refl (found (λ node. disturbing node ≡ false) (root ++ r) nodes (none_pass disturbing nodes calm)))
+    record Lost (r : Names) : Type 0 where
+      node : DeltaNode
+      is : node_with (root ++ r) nodes ≡ Some node
+      alone : IsAlone root view nodes (root ++ r)
+
+    -- a root's file that was there is there, or stood alone
+    here_or_lost : (r : Names) → IsSome (get (files_of last) (root ++ r)) → IsSome (get view (root ++ r)) ⊎ Lost r
+    here_or_lost r was = by (node_with (root ++ r) nodes) refl
+        (found (λ node. (is_prefix root node.path && loses node) ≡ true → IsAlone root view nodes node.path) (root ++ r) nodes calm.losses)
       where
-        second : (a b : Bool) → (a && b) ≡ false → a ≡ true → b ≡ false
-        second true b h g = h
-        second false b h g = cc
+        in_view : IsSome (get (files_of now) (root ++ r)) → IsSome (get view (root ++ r))
+        in_view h = subst IsSome (sym (ap (λ v. get v (root ++ r)) sees ∙ view_within c (files_of now) (root ++ r) (reads r))) h
 
-        by : (o : Option DeltaNode) → node_with (root ++ r) nodes ≡ o → IfSome o (Found (root ++ r) (λ node. disturbing node ≡ false)) → IsSome (get (files_of now) (root ++ r))
-        by None none it = subst IsSome (kept m c nodes last now since (root ++ r) (read r) none) was
-        by (Some node) is it = stayed m c nodes last now since (root ++ r) node (read r) is
-            (second (is_prefix root node.path) (loses node) (neither (is_below c.output node.path) (is_prefix root node.path && loses node) it.told).1 (ap (is_prefix root) it.path ∙ prefix_append root r)) was
+        lost : (node : DeltaNode) → node_with (root ++ r) nodes ≡ Some node → Found (root ++ r) (λ node. (is_prefix root node.path && loses node) ≡ true → IsAlone root view nodes node.path) node
+            → (b : Bool) → loses node ≡ b → IsSome (get view (root ++ r)) ⊎ Lost r
+        lost node is it true l = inr (record {
+          node = node;
+          is = is;
+          alone = subst (IsAlone root view nodes) it.path (it.told (ap (λ b. b && loses node) (ap (is_prefix root) it.path ∙ prefix_append root r) ∙ l));
+        })
+        lost node is it false l = inl (in_view (stayed m c nodes last now since (root ++ r) node (read r) is l was))
+
+        by : (o : Option DeltaNode) → node_with (root ++ r) nodes ≡ o
+            → IfSome o (Found (root ++ r) (λ node. (is_prefix root node.path && loses node) ≡ true → IsAlone root view nodes node.path)) → IsSome (get view (root ++ r)) ⊎ Lost r
+        by None none it = inl (in_view (subst IsSome (kept m c nodes last now since (root ++ r) (read r) none) was))
+        by (Some node) is it = lost node is it (loses node) refl
 
     -- edits at nodes are the changes, where each file of the root is made at its path from there
     pub at_nodes : (edits : List Edit) → AreChangesAt c.output root view nodes edits
@@ -114,18 +127,42 @@ module _ (m : Meaning) (c : Task) (nodes : List DeltaNode) (last now : Tree) (vi
 
     -- files that are clear of each other were so
     pub was_clear : IsClear root view → IsClear root (files_of last)
-    was_clear clear = record {
-      none = absent (get (files_of last) root) (get view root) (subst (λ q. IsSome (get (files_of last) q) → IsSome (get view q)) (nothing_more root) (was_there [])) clear.none;
-      apart = λ p q h g. clear.apart p q (was_there p h) (was_there q g);
-    }
+    was_clear clear = record { none = subst (λ q. get (files_of last) q ≡ None) (nothing_more root) (none (get (files_of last) (root ++ [])) refl); apart = apart }
       where
         nothing_more : (p : Names) → p ++ [] ≡ p
         nothing_more [] = refl
         nothing_more (n ∷ p) = ap (λ p. n ∷ p) (nothing_more p)
 
-        absent : (x y : Option (List ℕ)) → (IsSome x → IsSome y) → y ≡ None → x ≡ None
-        absent None y still h = refl
-        absent (Some v) y still h = let never : true ≡ false = sym (still refl) ∙ ap is_some h in cc
+        there_not : (q : Names) → IsSome (get view q) → get view q ≡ None → ⊥
+        there_not q h g = let never : true ≡ false = sym h ∙ ap is_some g in cc
+
+        not_root : IsSome (get view (root ++ [])) ⊎ Lost [] → ⊥
+        not_root (inl there) = there_not (root ++ []) there (ap (get view) (nothing_more root) ∙ clear.none)
+        not_root (inr lost) = below_other root (root ++ []) lost.alone.inside (sym (nothing_more root))
+
+        none : (o : Option (List ℕ)) → get (files_of last) (root ++ []) ≡ o → o ≡ None
+        none None is = refl
+        none (Some v) is = absurd (not_root (here_or_lost [] (ap is_some is)))
+
+        below : (p q : Names) → is_prefix p q ≡ true → (b : Bool) → eq_by_cmp path_cmp p q ≡ b → (p ≡ q) ⊎ (is_below (root ++ p) (root ++ q) ≡ true)
+        below p q f true i = inl (same_path p q i)
+        below p q f false i = inr (sym (below_then (root ++ p) (root ++ q) (is_prefix (root ++ p) (root ++ q)) true refl (prefix_both root p q f)
+            (sym (ap not (path_ties (root ++ p) (root ++ q) ∙ other_path (root ++ p) (root ++ q) (λ e.
+            let yes : eq_by_cmp path_cmp p q ≡ true = ap (λ x. eq_by_cmp path_cmp x q) (cancel root p q e) ∙ path_is q in
+            let never : true ≡ false = sym yes ∙ i in cc))))))
+
+        by : (p q : Names) → is_prefix p q ≡ true → is_below (root ++ p) (root ++ q) ≡ true → IsSome (get view (root ++ p)) ⊎ Lost p → IsSome (get view (root ++ q)) ⊎ Lost q → p ≡ q
+        by p q f b (inl h) (inl g) = clear.apart p q h g f
+        by p q f b (inl h) (inr lost) = absurd (there_not (root ++ p) h (lost.alone.above (root ++ p) (prefix_append root p) b))
+        by p q f b (inr lost) (inl g) = absurd (there_not (root ++ q) g (lost.alone.files (root ++ q) b))
+        by p q f b (inr lost) (inr other) = let twice : Some other.node ≡ None = sym other.is ∙ lost.alone.changes (root ++ q) b in cc
+
+        choose : (p q : Names) → is_prefix p q ≡ true → IsSome (get (files_of last) (root ++ p)) → IsSome (get (files_of last) (root ++ q)) → (p ≡ q) ⊎ (is_below (root ++ p) (root ++ q) ≡ true) → p ≡ q
+        choose p q f h g (inl same) = same
+        choose p q f h g (inr b) = by p q f b (here_or_lost p h) (here_or_lost q g)
+
+        apart : (p q : Names) → IsSome (get (files_of last) (root ++ p)) → IsSome (get (files_of last) (root ++ q)) → is_prefix p q ≡ true → p ≡ q
+        apart p q h g f = choose p q f h g (below p q f (eq_by_cmp path_cmp p q) refl)
 
 -- so no edits are the changes where nothing changed by a delta that is handed
 pub no_edits : (m : Meaning) (c : Task) (nodes : Option (List DeltaNode)) (view : Files) → IsSomeAnd nodes (λ nodes. touches c.inputs c.output nodes ≡ false)

@@ -1,4 +1,5 @@
 pub mod Apart
+pub mod Losses
 pub mod Idle
 pub mod Keys
 pub mod Makings

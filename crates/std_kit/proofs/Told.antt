@@ -30,7 +30,7 @@ use Rattle.std_kit.specs.Since.{loses}
 
 -- ---- nodes that are found
 
-same : (p q : Names) → path_eq p q ≡ true → p ≡ q
+pub same : (p q : Names) → path_eq p q ≡ true → p ≡ q
 same p q h = same_path p q (sym (path_ties p q) ∙ h)
 
 -- the node that is found at a path

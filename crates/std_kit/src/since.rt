@@ -3,15 +3,14 @@ ghost use Rattle.std.specs.Prelude.{◌≡◌, ◌++◌, true, length, drop, IfO
 ghost use Rattle.std.specs.Option.{option_copied, option_eq};
 ghost use Rattle.std.specs.Str.{bytes_eq};
 ghost use Rattle.res_path.specs.Paths.{is_prefix};
-ghost use Rattle.delta_kind.specs.Flags.{is_set};
 ghost use Rattle.std_kit.specs.Changes.{AreChangesAt};
-ghost use Rattle.std_kit.specs.Since.{IsIdle, touches, loses, disturbs};
+ghost use Rattle.std_kit.specs.Since.{IsIdle, touches};
 ghost use Rattle.std_kit.specs.Inside.Walks.{edits_from, edits_at_nodes};
 
 use crate::roots::below;
 use builder_api::{FileEdits, Handed, View, is_below, is_within};
 use bytes::Bytes;
-use delta_kind::{Delta, DeltaNode, REMOVED, TYPE};
+use delta_kind::{Delta, DeltaNode};
 use res_path::{NoMemory, Path, PathError};
 use std::alloc::{AllocError, Global};
 
@@ -31,27 +30,6 @@ pub fn is_idle(handed: &Handed) -> bool
         Some(delta) => !touches(delta, handed.inputs.as_slice(), &handed.output),
         None => false,
     }
-}
-
-/// Whether something changed below the output, or a file may have gone at or below the root. Costs a pass over the nodes.
-pub fn disturbs(delta: &Delta, root: &Path, output: &Path) -> bool
-    ensures { result ≡ disturbs root.now output.now delta.now }
-{
-    delta.nodes().iter().any(|node| is_below(output, &node.path)
-        || (root.is_prefix_of(&node.path) && loses(node)))
-}
-
-/// Whether a file may have gone from the node's path: what was there went, or is of another kind.
-fn loses(node: &DeltaNode) -> bool
-    ensures { result ≡ loses node.now }
-{
-    node.kind == REMOVED || is_of_other_kind(node.flags)
-}
-
-fn is_of_other_kind(flags: u32) -> bool
-    ensures { result ≡ is_set 0x8000 flags }
-{
-    flags & TYPE != 0
 }
 
 /// The edits by which, at each node below the root, what is at its path from the root becomes below the output what is
