@@ -12,7 +12,8 @@ use Rattle.builder_api.specs.Meanings.{IsMeaning}
 use Rattle.builder_api.specs.Lawful.{Does}
 use Rattle.std_kit.specs.Changes.{AreChanges}
 use Rattle.std_kit.specs.Placed.{AreMade}
-use Rattle.std_kit.proofs.Lawful.{does_made}
+use Rattle.std_kit.specs.Since.{IsAsPromised, AreDue}
+use Rattle.std_kit.proofs.Lawful.{due_changes, does_made}
 use Rattle.std_kit.proofs.Placing.{empty_made, placed_made, placed_first, meaning_of}
 use Rattle.std_kit.proofs.Rooted.{rooted_in}
 use Rattle.std.specs.List.{flat_map}
@@ -33,10 +34,10 @@ no_problems (e ∷ es) = refl
 seen : (c : Task) (view : Files) → all_of (files_of_roots c.inputs view) ≡ concat c (inputs_of c view)
 seen c view = ap (λ roots. all_of (flat_map (λ root. root.1) roots)) (sym (rooted_in c.inputs view))
 
-pub changes : (command : Command) (h : Handed) (edits : List Edit) → AreChanges h.output h.view (all_of (files_of_roots h.inputs h.view)).files edits
-    → AreChanges h.output h.view (concat (task_of command h) (inputs_of (task_of command h) h.view)).files edits
-changes command h edits are = subst (λ m. AreChanges h.output h.view m.files edits) (seen (task_of command h) h.view) are
+pub changes : (command : Command) (h : Handed) (edits : List Edit) → AreDue h (all_of (files_of_roots h.inputs h.view)).files edits
+    → IsAsPromised concat (task_of command h) h.delta h.view → AreChanges h.output h.view (concat (task_of command h) (inputs_of (task_of command h) h.view)).files edits
+changes command h edits are = due_changes concat command h edits (subst (λ m. AreDue h m.files edits) (seen (task_of command h) h.view) are)
 
-pub does : (command : Command) (h : Handed) (e : Edits) → AreChanges h.output h.view (all_of (files_of_roots h.inputs h.view)).files e.files → e.problems ≡ [] → Does concat command h e
+pub does : (command : Command) (h : Handed) (e : Edits) → AreDue h (all_of (files_of_roots h.inputs h.view)).files e.files → e.problems ≡ [] → Does concat command h e
 does command h e are none = does_made concat command h e (all_of (files_of_roots h.inputs h.view)) (seen (task_of command h) h.view) are
     (none ∙ sym (no_problems (files_of_roots h.inputs h.view)))

@@ -5,19 +5,21 @@ ghost use Rattle.builder_api.specs.Lawful.{Does};
 ghost use Rattle.builder_api.specs.Tasks.{task_of, inputs_of};
 ghost use Rattle.builder_api.specs.Told.{Built, WasCalled};
 ghost use Rattle.std_kit.specs.Changes.{AreChanges};
+ghost use Rattle.std_kit.specs.Since.{IsAsPromised};
 ghost use Rattle.std_concat.specs.Concat.{all_path, files_of_roots, all_of, concat, concat_told};
 
 use crate::joining::{add_roots, has_files};
-use builder_api::{BuildFault, Builder, Edits, Handed, Problems, View};
+use builder_api::{BuildFault, Builder, Edits, FileEdits, Handed, Problems, View};
 use bytes::Bytes;
 use proj_desc::Command;
 use res_path::{Name, NoMemory, Path};
 use std::alloc::{AllocError, Global};
-use std_kit::{MadeFiles, changes_to};
+use std_kit::{MadeFiles, changes_to, is_idle};
 
 /// The builder `concat`. It makes one file `all` of the bytes of the files of all inputs, input by input, each in path
 /// order, and none where there are no files. A file that lies in two inputs counts twice. It has no problems, and
-/// never fails. Its edits put `all` only where it isn't there with these bytes. Costs one pass over the inputs' bytes.
+/// never fails. Its edits put `all` only where it isn't there with these bytes. Costs one pass over the inputs' bytes, and
+/// one over the delta's nodes alone where a delta is handed by which no input changed.
 #[derive(Drop)]
 pub struct Concat {
     alloc: Global,
@@ -42,17 +44,31 @@ impl Builder for Concat {
     fn build(&mut self, command: &Command, handed: &Handed) -> Result<Edits, BuildFault>
         ensures lawful { IfOk result (λ edits. Does concat command.now handed.now edits) }
         ensures called { WasCalled (Built command.now handed.now) concat_told concat_told }
-        ensures changes { IfOk result (λ edits. let c = task_of command.now handed.now in AreChanges c.output handed.now.view (concat c (inputs_of c handed.now.view)).files edits.files) }
+        ensures changes { IfOk result (λ edits. let c = task_of command.now handed.now in
+            IsAsPromised concat c handed.now.delta handed.now.view → AreChanges c.output handed.now.view (concat c (inputs_of c handed.now.view)).files edits.files) }
         ensures problems { IfOk result (λ edits. edits.problems ≡ []) }
         ensures fails { result ≢ Err Failed }
     {
+        if is_idle(handed) {
+            return Ok(no_edits(self.alloc));
+        }
         Ok(edits_of(self.alloc, handed)?)
     }
 
     fn clean(&mut self) {}
 }
 
-/// What it answers.
+fn no_edits(alloc: Global) -> Edits
+    ensures files { result.files ≡ [] }
+    ensures problems { result.problems ≡ [] }
+{
+    Edits {
+        files: FileEdits::empty(alloc),
+        problems: Problems::empty(alloc),
+    }
+}
+
+/// What it answers by all files.
 fn edits_of(alloc: Global, handed: &Handed) -> Result<Edits, NoMemory>
     ensures files { IfOk result (λ edits. AreChanges handed.now.output handed.now.view (all_of (files_of_roots handed.now.inputs handed.now.view)).files edits.files) }
     ensures problems { IfOk result (λ edits. edits.problems ≡ []) }

@@ -1,1 +1,3 @@
+-- What only the crate's own code speaks of.
+pub mod Inside
 pub mod Copied

@@ -17,7 +17,8 @@ use Rattle.std_kit.specs.Changes.{AreChanges}
 use Rattle.std_kit.specs.Making.{nothing_made, shadowed, with_problem}
 use Rattle.std_kit.specs.Placed.{AreMade, is_free}
 use Rattle.std_kit.specs.Roots.{rooted}
-use Rattle.std_kit.proofs.Lawful.{does_made}
+use Rattle.std_kit.specs.Since.{IsAsPromised, AreDue}
+use Rattle.std_kit.proofs.Lawful.{does_made, due_changes}
 use Rattle.std_kit.proofs.Placing.{empty_made, inserted_made, meaning_of}
 use Rattle.std_kit.proofs.Rooted.{rooted_in}
 use Rattle.std_expand.specs.Sources.{source_stem}
@@ -52,13 +53,13 @@ expand_sound = meaning_of expand (λ c f. roots_made nothing_made (rooted c.inpu
 seen : (c : Task) (view : Files) → with_roots nothing_made (rooted c.inputs view) ≡ expand c (inputs_of c view)
 seen c view = ap (with_roots nothing_made) (sym (rooted_in c.inputs view))
 
-pub changes : (command : Command) (h : Handed) (edits : List Edit) → AreChanges h.output h.view (with_roots nothing_made (rooted h.inputs h.view)).files edits
-    → AreChanges h.output h.view (expand (task_of command h) (inputs_of (task_of command h) h.view)).files edits
-changes command h edits are = subst (λ m. AreChanges h.output h.view m.files edits) (seen (task_of command h) h.view) are
+pub changes : (command : Command) (h : Handed) (edits : List Edit) → AreDue h (with_roots nothing_made (rooted h.inputs h.view)).files edits
+    → IsAsPromised expand (task_of command h) h.delta h.view → AreChanges h.output h.view (expand (task_of command h) (inputs_of (task_of command h) h.view)).files edits
+changes command h edits are = due_changes expand command h edits (subst (λ m. AreDue h m.files edits) (seen (task_of command h) h.view) are)
 
 pub problems : (command : Command) (h : Handed) (told : List Problem) → told ≡ (with_roots nothing_made (rooted h.inputs h.view)).problems → told ≡ (expand (task_of command h) (inputs_of (task_of command h) h.view)).problems
 problems command h told same = same ∙ ap (λ m. m.problems) (seen (task_of command h) h.view)
 
-pub does : (command : Command) (h : Handed) (e : Edits) → AreChanges h.output h.view (with_roots nothing_made (rooted h.inputs h.view)).files e.files
+pub does : (command : Command) (h : Handed) (e : Edits) → AreDue h (with_roots nothing_made (rooted h.inputs h.view)).files e.files
     → e.problems ≡ (with_roots nothing_made (rooted h.inputs h.view)).problems → Does expand command h e
 does command h e are same = does_made expand command h e (with_roots nothing_made (rooted h.inputs h.view)) (seen (task_of command h) h.view) are same

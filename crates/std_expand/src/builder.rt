@@ -7,6 +7,7 @@ ghost use Rattle.builder_api.specs.Told.{Built, Cleaned, WasCalled};
 ghost use Rattle.std_kit.specs.Changes.{AreChanges};
 ghost use Rattle.std_kit.specs.Making.{nothing_made};
 ghost use Rattle.std_kit.specs.Roots.{rooted};
+ghost use Rattle.std_kit.specs.Since.{IsAsPromised, AreDue};
 ghost use Rattle.std_expand.specs.Expand.{with_roots, expand, expand_told};
 
 use crate::expanding::expand_roots;
@@ -16,6 +17,7 @@ use proj_desc::Command;
 use res_path::NoMemory;
 use std::alloc::Global;
 use std::marker::Model;
+use std_kit::is_idle;
 
 /// The builder `expand`. Of each input's files whose last name ends with `.in`, and is a name without it too, it makes
 /// one at the same path without `.in`, in which each line `@include NAME` is replaced by the bytes of the file of the
@@ -24,7 +26,7 @@ use std::marker::Model;
 /// file is, with the problem `shadowed`.
 ///
 /// It never fails. Its edits put and remove only files that differ. Costs one pass over the inputs, and a search for
-/// each line that includes a file. How a file is cut at such lines is kept by its contents until `clean`. A contract
+/// each line that includes a file; no outputs are compared where a delta is handed by which nothing changed. How a file is cut at such lines is kept by its contents until `clean`. A contract
 /// sees the list of these contents.
 #[derive(Drop)]
 pub struct Expand {
@@ -65,7 +67,8 @@ impl Builder for Expand {
     fn build(&mut self, command: &Command, handed: &Handed) -> Result<Edits, BuildFault>
         ensures lawful { IfOk result (λ edits. Does expand command.now handed.now edits) }
         ensures called { WasCalled (Built command.now handed.now) expand_told expand_told }
-        ensures changes { IfOk result (λ edits. let c = task_of command.now handed.now in AreChanges c.output handed.now.view (expand c (inputs_of c handed.now.view)).files edits.files) }
+        ensures changes { IfOk result (λ edits. let c = task_of command.now handed.now in
+            IsAsPromised expand c handed.now.delta handed.now.view → AreChanges c.output handed.now.view (expand c (inputs_of c handed.now.view)).files edits.files) }
         ensures problems { IfOk result (λ edits. let c = task_of command.now handed.now in edits.problems ≡ (expand c (inputs_of c handed.now.view)).problems) }
         ensures fails { result ≢ Err Failed }
     {
@@ -82,9 +85,12 @@ impl Builder for Expand {
 
 /// What it answers.
 fn edits_of(alloc: Global, kept: &mut Kept, handed: &Handed) -> Result<Edits, NoMemory>
-    ensures files { IfOk result (λ edits. AreChanges handed.now.output handed.now.view (with_roots nothing_made (rooted handed.now.inputs handed.now.view)).files edits.files) }
+    ensures files { IfOk result (λ edits. AreDue handed.now (with_roots nothing_made (rooted handed.now.inputs handed.now.view)).files edits.files) }
     ensures problems { IfOk result (λ edits. edits.problems ≡ (with_roots nothing_made (rooted handed.now.inputs handed.now.view)).problems) }
 {
     let made = expand_roots(alloc, kept, handed.inputs.as_slice(), &handed.view)?;
+    if is_idle(handed) {
+        return Ok(made.into_problems(alloc));
+    }
     made.into_edits(alloc, &handed.output, &handed.view)
 }

@@ -1,11 +1,11 @@
 //! What is made so far.
-ghost use Rattle.std.specs.Prelude.{◌≡◌, ◌++◌, map, IfOk, OnOk};
+ghost use Rattle.std.specs.Prelude.{◌≡◌, [], ◌++◌, map, IfOk, OnOk};
 ghost use Rattle.builder_api.specs.declared.edits.Edits.{Edits};
 ghost use Rattle.std_kit.specs.Changes.{AreChanges};
 ghost use Rattle.std_kit.specs.Making.{nothing_made, shadowed};
 ghost use Rattle.std_expand.specs.Expand.{problem_at, with_expanded};
 
-use builder_api::{Edits, Problem, Problems, View};
+use builder_api::{Edits, FileEdits, Problem, Problems, View};
 use bytes::Bytes;
 use include_lines::Missing;
 use res_path::{NoMemory, Path};
@@ -61,6 +61,18 @@ impl Outputs {
         self.problems
             .push(problem_of(alloc, location, 0, 1, "shadowed")?)?;
         Ok(())
+    }
+
+    /// What the builder answers where no file differs: the problems.
+    pub(crate) fn into_problems(self, alloc: Global) -> Edits
+        ensures files { result.files ≡ [] }
+        ensures problems { result.problems ≡ self.problems }
+    {
+        let Outputs { problems, .. } = self;
+        Edits {
+            files: FileEdits::empty(alloc),
+            problems: Problems::of(problems),
+        }
     }
 
     /// What the builder answers: the changes from what the view has below the output, and the problems.

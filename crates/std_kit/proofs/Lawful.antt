@@ -1,5 +1,5 @@
 -- Edits that are the changes to what is made are lawful.
-use Rattle.std.proofs.Common.{◌≡◌, ◌≢◌, ℕ, Bool, true, false, cond, List, [], ◌∷◌, ◌++◌, refl, sym, ap, ◌∙◌, subst}
+use Rattle.std.proofs.Common.{◌≡◌, ◌≢◌, inl, inr, ℕ, Bool, true, false, cond, List, [], ◌∷◌, ◌++◌, refl, sym, ap, ◌∙◌, subst}
 use Rattle.std.specs.Prelude.{Option, Some, None, unwrap_or}
 use Rattle.std.specs.FinMap.{get, find}
 use Rattle.std.specs.Cmp.Lexicographic.{bytes_decides}
@@ -11,16 +11,19 @@ use Rattle.proj_desc.specs.declared.command.Command.{Command}
 use Rattle.builder_api.specs.declared.handed.Handed.{Handed}
 use Rattle.builder_api.specs.declared.edits.Edits.{Edits}
 use Rattle.res_path.specs.Paths.{Names, path_cmp}
-use Rattle.builder_api.specs.Files.{Files}
+use Rattle.ws_elem.specs.Trees.{Tree}
+use Rattle.delta_kind.specs.declared.node.DeltaNode.{DeltaNode}
+use Rattle.builder_api.specs.Files.{Files, files_of}
 use Rattle.builder_api.specs.Tasks.{Task, task_of, inputs_of, view_of}
 use Rattle.builder_api.specs.Edits.{Edit, edit_paths}
 use Rattle.builder_api.specs.Meanings.{Made, Meaning}
-use Rattle.builder_api.specs.Lawful.{Fulfils, Does}
+use Rattle.builder_api.specs.Lawful.{IsPromised, Fulfils, Does}
 use Rattle.builder_api.proofs.Maps.{same_path}
 use Rattle.builder_api.proofs.Views.{view_below, view_inputs}
 use Rattle.builder_api.proofs.Commits.{after_edits, makes}
-use Rattle.builder_api.proofs.Laws.{does_always}
 use Rattle.std_kit.specs.Changes.{change_of, AreChanges}
+use Rattle.std_kit.specs.Since.{IsAsPromised, AreDue}
+use Rattle.std_kit.proofs.Idle.{no_edits}
 use Rattle.std_kit.proofs.Walks.{Once, once_of}
 
 -- edits of other paths
@@ -74,12 +77,33 @@ fulfils m c view f e sees are problems = record {
     before : (n : List ℕ) (r : Names) → get view (c.output ++ n ∷ r) ≡ get f (c.output ++ n ∷ r)
     before n r = ap (λ v. get v (c.output ++ n ∷ r)) sees ∙ view_below c f n r
 
--- a builder whose edits are the changes from its view to what its meaning makes of it, and whose problems are that meaning's, is lawful
-pub does : (m : Meaning) (command : Command) (h : Handed) (e : Edits) → AreChanges h.output h.view (m (task_of command h) (inputs_of (task_of command h) h.view)).files e.files
+as_promised : (m : Meaning) (c : Task) (nodes : Option (List DeltaNode)) (view : Files) (last now : Tree) → view ≡ view_of c (files_of now) → IsPromised m c nodes last now → IsAsPromised m c nodes view
+as_promised m c None view last now sees h = tt
+as_promised m c (Some nodes) view last now sees h = (last, now, sees, h)
+
+-- a builder whose edits are the changes from its view to what its meaning makes of it, where what is handed is as promised, and
+-- whose problems are that meaning's, is lawful
+pub does_as_promised : (m : Meaning) (command : Command) (h : Handed) (e : Edits)
+    → (IsAsPromised m (task_of command h) h.delta h.view → AreChanges h.output h.view (m (task_of command h) (inputs_of (task_of command h) h.view)).files e.files)
+    → (IsAsPromised m (task_of command h) h.delta h.view → e.problems ≡ (m (task_of command h) (inputs_of (task_of command h) h.view)).problems)
+    → Does m command h e
+does_as_promised m command h e are problems last now sees promised =
+    let all = as_promised m (task_of command h) h.delta h.view last now sees promised in
+    fulfils m (task_of command h) h.view (files_of now) e sees (are all) (problems all)
+
+-- what is due are the changes, where what is handed is as promised
+pub due_changes : (m : Meaning) (command : Command) (h : Handed) (edits : List Edit) → AreDue h (m (task_of command h) (inputs_of (task_of command h) h.view)).files edits
+    → IsAsPromised m (task_of command h) h.delta h.view → AreChanges h.output h.view (m (task_of command h) (inputs_of (task_of command h) h.view)).files edits
+due_changes m command h edits (inl are) promised = are
+due_changes m command h edits (inr idle) promised =
+    subst (AreChanges h.output h.view (m (task_of command h) (inputs_of (task_of command h) h.view)).files) (sym idle.1) (no_edits m (task_of command h) h.delta h.view idle.0 promised)
+
+-- and lawful
+pub does_due : (m : Meaning) (command : Command) (h : Handed) (e : Edits) → AreDue h (m (task_of command h) (inputs_of (task_of command h) h.view)).files e.files
     → e.problems ≡ (m (task_of command h) (inputs_of (task_of command h) h.view)).problems → Does m command h e
-does m command h e are problems = does_always m command h e (λ f sees. fulfils m (task_of command h) h.view f e sees are problems)
+does_due m command h e are problems = does_as_promised m command h e (due_changes m command h e.files are) (λ promised. problems)
 
 -- the same of what it made, which is that
 pub does_made : (m : Meaning) (command : Command) (h : Handed) (e : Edits) (made : Made) → made ≡ m (task_of command h) (inputs_of (task_of command h) h.view)
-    → AreChanges h.output h.view made.files e.files → e.problems ≡ made.problems → Does m command h e
-does_made m command h e made is are problems = does m command h e (subst (λ x. AreChanges h.output h.view x.files e.files) is are) (problems ∙ ap (λ x. x.problems) is)
+    → AreDue h made.files e.files → e.problems ≡ made.problems → Does m command h e
+does_made m command h e made is are problems = does_due m command h e (subst (λ x. AreDue h x.files e.files) is are) (problems ∙ ap (λ x. x.problems) is)

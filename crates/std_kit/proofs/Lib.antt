@@ -1,10 +1,15 @@
+pub mod Apart
+pub mod Losses
+pub mod Idle
 pub mod Keys
 pub mod Makings
 pub mod Neighbours
+pub mod Nodes
 pub mod Parents
 pub mod Placing
 pub mod Popped
 pub mod Rooted
 pub mod Runs
+pub mod Told
 pub mod Walks
 pub mod Lawful

@@ -44,7 +44,7 @@ once_of [] h = tt
 once_of (p ∷ ps) h = (everywhere (λ q. p ≢ q) ps (λ j d lt. h 0 (suc j) d (omega arith) (omega (arith, lt))), once_of ps (λ i j d lt within. h (suc i) (suc j) d (omega (arith, lt)) (omega (arith, within))))
 
 -- a path without an edit is none of theirs
-absent : (p : Names) (edits : List Edit) → find path_cmp p edits ≡ None → AllByRecursion (λ q. p ≢ q) (edit_paths edits)
+pub absent : (p : Names) (edits : List Edit) → find path_cmp p edits ≡ None → AllByRecursion (λ q. p ≢ q) (edit_paths edits)
 absent p [] h = tt
 absent p (e ∷ es) h = by (eq_by_cmp path_cmp p e.0) refl h (λ h. absent p es h)
   where
@@ -53,7 +53,7 @@ absent p (e ∷ es) h = by (eq_by_cmp path_cmp p e.0) refl h (λ h. absent p es 
     by true i h next = cc
     by false i h next = ((λ same. let yes : eq_by_cmp path_cmp p e.0 ≡ true = ap (eq_by_cmp path_cmp p) (sym same) ∙ path_is p in cc), next h)
 
-named : (ps : List Names) → AllByRecursion (λ q. [] ≢ q) ps → AllByRecursion (λ q. q ≢ []) ps
+pub named : (ps : List Names) → AllByRecursion (λ q. [] ≢ q) ps → AllByRecursion (λ q. q ≢ []) ps
 named [] h = tt
 named (p ∷ ps) h = ((λ e. h.0 (sym e)), named ps h.1)
 
@@ -105,7 +105,7 @@ record Walked (o : Names) (es : List (Names × List ℕ)) (left : Files) (edits 
   at : (q : Names) → find path_cmp q edits ≡ change_of (below_of o es q) (get left q)
   once : Once (edit_paths edits)
 
-from_o : (o r : Names) → drop (length o) (o ++ r) ≡ r
+pub from_o : (o r : Names) → drop (length o) (o ++ r) ≡ r
 from_o [] r = refl
 from_o (n ∷ o) r = from_o o r
 
@@ -115,6 +115,20 @@ passed o e es h [] = refl
 passed o e es h (n ∷ r) = ap (λ b. cond b (Some e.1) (find path_cmp (o ++ n ∷ r) es)) (other_path (o ++ n ∷ r) e.0 (λ same.
     let yes : is_below o e.0 ≡ true = ap (is_below o) (sym same) ∙ below_append o n r in
     let never : true ≡ false = sym yes ∙ h in cc))
+
+-- an edit at k before others
+pub one : (k : Names) (change : Option (Option (List ℕ))) (rest : List Edit) (q : Names) → (q ≡ k → find path_cmp q rest ≡ None)
+    → find path_cmp q (edit_if k change ++ rest) ≡ cond (eq_by_cmp path_cmp q k) change (find path_cmp q rest)
+one k (Some x) rest q h = refl
+one k None rest q h = by (eq_by_cmp path_cmp q k) refl
+  where
+    by : (b : Bool) → eq_by_cmp path_cmp q k ≡ b → find path_cmp q rest ≡ cond b None (find path_cmp q rest)
+    by true i = h (same_path q k i)
+    by false i = refl
+
+pub one_once : (k : Names) (change : Option (Option (List ℕ))) (rest : List Edit) → find path_cmp k rest ≡ None → Once (edit_paths rest) → Once (edit_paths (edit_if k change ++ rest))
+one_once k None rest h g = g
+one_once k (Some x) rest h g = (absent k rest h, g)
 
 -- one that is, at k from o
 module _ (o : Names) (n : List ℕ) (r : Names) (bytes : List ℕ) (es : List (Names × List ℕ)) (left : Files) where
@@ -128,27 +142,14 @@ module _ (o : Names) (n : List ℕ) (r : Names) (bytes : List ℕ) (es : List (N
   elsewhere [] h = refl
   elsewhere (m ∷ q) h = ap (λ b. cond b (Some bytes) (find path_cmp (o ++ m ∷ q) es)) (other_path (o ++ m ∷ q) (o ++ n ∷ r) (λ same. h (cancel o (m ∷ q) (n ∷ r) same)))
 
-  one : (change : Option (Option (List ℕ))) (rest : List Edit) (q : Names) → (q ≡ k → find path_cmp q rest ≡ None)
-      → find path_cmp q (edit_if k change ++ rest) ≡ cond (eq_by_cmp path_cmp q k) change (find path_cmp q rest)
-  one (Some x) rest q h = refl
-  one None rest q h = by (eq_by_cmp path_cmp q k) refl
-    where
-      by : (b : Bool) → eq_by_cmp path_cmp q k ≡ b → find path_cmp q rest ≡ cond b None (find path_cmp q rest)
-      by true i = h (same_path q k i)
-      by false i = refl
-
-  one_once : (change : Option (Option (List ℕ))) (rest : List Edit) → find path_cmp k rest ≡ None → Once (edit_paths rest) → Once (edit_paths (edit_if k change ++ rest))
-  one_once None rest h g = g
-  one_once (Some x) rest h g = (absent k rest h, g)
-
   taken : find path_cmp (o ++ n ∷ r) es ≡ None → (rest : List Edit) → Walked o es (remove left k) rest → Walked o ((o ++ n ∷ r, bytes) ∷ es) left (edit_if k (change_of (Some bytes) (get left k)) ++ rest)
-  taken new rest w = record { at = at; once = one_once (change_of (Some bytes) (get left k)) rest gone w.once }
+  taken new rest w = record { at = at; once = one_once k (change_of (Some bytes) (get left k)) rest gone w.once }
     where
       gone : find path_cmp k rest ≡ None
       gone = w.at k ∙ ap (λ x. change_of x (get (remove left k) k)) new ∙ ap (change_of None) (gone_here left k)
 
       at : (q : Names) → find path_cmp q (edit_if k (change_of (Some bytes) (get left k)) ++ rest) ≡ change_of (below_of o ((o ++ n ∷ r, bytes) ∷ es) q) (get left q)
-      at q = one (change_of (Some bytes) (get left k)) rest q (λ same. ap (λ q. find path_cmp q rest) same ∙ gone) ∙ by (eq_by_cmp path_cmp q k) refl
+      at q = one k (change_of (Some bytes) (get left k)) rest q (λ same. ap (λ q. find path_cmp q rest) same ∙ gone) ∙ by (eq_by_cmp path_cmp q k) refl
         where
           by : (b : Bool) → eq_by_cmp path_cmp q k ≡ b → cond b (change_of (Some bytes) (get left k)) (find path_cmp q rest) ≡ change_of (below_of o ((o ++ n ∷ r, bytes) ∷ es) q) (get left q)
           by true i = ap (λ q. change_of (Some bytes) (get left q)) (sym (same_path q k i)) ∙ ap (λ x. change_of x (get left q)) (sym (here q (same_path q k i)))
@@ -177,17 +178,21 @@ walked o (e ∷ es) left sorted h = by (is_below o e.0) refl (λ k. walked o es 
         (subst (λ k. Walked o ((o ++ s.name ∷ s.rest, e.1) ∷ es) left (edit_if k (change_of (Some e.1) (get left k)) ++ edits_along o es (remove left k))) (sym (from_o o (s.name ∷ s.rest)))
         (taken o s.name s.rest e.1 es left (missing (o ++ s.name ∷ s.rest) es (subst (λ p. T (below_all path_cmp p es)) s.is (first _ _ sorted))) _ (next (s.name ∷ s.rest))))
 
+-- the files of a root are those that lie there
+pub seen : (o : Names) (view : Files) (r : Names) → find path_cmp (o ++ r) (files_of_root o view) ≡ get view (o ++ r)
+seen o view r = find-where_key path_cmp (is_prefix o) (o ++ r) (λ x t. ap (is_prefix o) (sym (path_cmp_exact (o ++ r) x t))) (entries view)
+    ∙ ap (λ b. cond b (find path_cmp (o ++ r) (entries view)) None) (prefix_append o r) ∙ sym (get-entries view (o ++ r))
+
+pub root_sorted : (o : Names) (view : Files) → T (is_sorted path_cmp (files_of_root o view))
+root_sorted o view = is_sorted-where_key path_cmp (is_prefix o) (entries view) (entries_sorted view)
+
 -- along the files of the output the edits are exactly the changes
 pub along : (o : Names) (view made : Files) → get made [] ≡ None → AreChanges o view made (edits_along o (files_of_root o view) made)
 along o view made none = record {
-  at = λ n r. w.at (n ∷ r) ∙ ap (λ x. change_of x (get made (n ∷ r))) (seen n r);
+  at = λ n r. w.at (n ∷ r) ∙ ap (λ x. change_of x (get made (n ∷ r))) (seen o view (n ∷ r));
   named = named (edit_paths (edits_along o (files_of_root o view) made)) (absent [] (edits_along o (files_of_root o view) made) (w.at [] ∙ ap (change_of None) none));
   once = pairs (edit_paths (edits_along o (files_of_root o view) made)) w.once;
 }
   where
     w : Walked o (files_of_root o view) made (edits_along o (files_of_root o view) made)
-    w = walked o (files_of_root o view) made (is_sorted-where_key path_cmp (is_prefix o) (entries view) (entries_sorted view)) none
-
-    seen : (n : List ℕ) (r : Names) → find path_cmp (o ++ n ∷ r) (files_of_root o view) ≡ get view (o ++ n ∷ r)
-    seen n r = find-where_key path_cmp (is_prefix o) (o ++ n ∷ r) (λ x t. ap (is_prefix o) (sym (path_cmp_exact (o ++ n ∷ r) x t))) (entries view)
-        ∙ ap (λ b. cond b (find path_cmp (o ++ n ∷ r) (entries view)) None) (prefix_append o (n ∷ r)) ∙ sym (get-entries view (o ++ n ∷ r))
+    w = walked o (files_of_root o view) made (root_sorted o view) none

@@ -4,3 +4,4 @@ pub mod Placed
 pub mod Roots
 pub mod Changes
 pub mod Making
+pub mod Since

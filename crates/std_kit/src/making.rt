@@ -1,11 +1,11 @@
 //! What a builder makes, file by file.
-ghost use Rattle.std.specs.Prelude.{◌≡◌, IfOk, OnOk};
+ghost use Rattle.std.specs.Prelude.{◌≡◌, [], IfOk, OnOk};
 ghost use Rattle.builder_api.specs.declared.edits.Edits.{Edits};
 ghost use Rattle.std_kit.specs.Changes.{AreChanges};
 ghost use Rattle.std_kit.specs.Making.{nothing_made, with_problem, with_file};
 
 use crate::{MadeFiles, changes_to, problem_of};
-use builder_api::{Edits, Problem, Problems, View};
+use builder_api::{Edits, FileEdits, Problem, Problems, View};
 use bytes::Bytes;
 use res_path::{NoMemory, Path};
 use std::alloc::Global;
@@ -65,6 +65,18 @@ impl Making {
     {
         self.problems.push(problem)?;
         Ok(())
+    }
+
+    /// What a builder answers where no file differs: the problems.
+    pub fn into_problems(self, alloc: Global) -> Edits
+        ensures files { result.files ≡ [] }
+        ensures problems { result.problems ≡ self.problems }
+    {
+        let Making { problems, .. } = self;
+        Edits {
+            files: FileEdits::empty(alloc),
+            problems: Problems::of(problems),
+        }
     }
 
     /// What a builder answers of which these are the files and problems: the changes from what its view has below the

@@ -35,6 +35,22 @@ copy|; |/P/s|/P/sx/a=1
 copy|; |/P/src/none|/P/src/a=1
 copy|; ||/P/src/a=1
 copy|/a- ; ||/P/out/a=1
+copy|; |/P/src@/P/lib/a=*|/P/out/a=1 /P/src/a=1
+copy|/a=2 ; |/P/src@/P/src/a=*|/P/out/a=1 /P/out/b=1 /P/src/a=2 /P/src/b=1
+copy|/d/a=2 ; |/P/src@/=. /P=. /P/src=. /P/src/d=. /P/src/d/a=*|/P/out/d/a=1 /P/src/d/a=2
+copy|; |/P/src@/P/src/a=*|/P/out/a=1 /P/src/a=1
+copy|/c=3 ; |/P/src@/P/src/c=+|/P/out/a=1 /P/src/a=1 /P/src/c=3
+copy|/b- ; |/P/src@/P/src/b=-|/P/out/a=1 /P/out/b=2 /P/src/a=1
+copy|/b- /c=3 ; |/P/src@/P/src/b=- /P/src/c=+|/P/out/a=1 /P/out/b=2 /P/src/a=1 /P/src/c=3
+copy|/d/a- ; |/P/src@/P/src/d=- /P/src/d/a=-|/P/out/b=1 /P/out/d/a=1 /P/src/b=1
+copy|/a- /a/b=2 ; |/P/src@/P/src/a=-|/P/out/a=1 /P/src/a/b=2
+copy|; |/P/src@/P/src/a/b=-|/P/out/a=1 /P/src/a=1
+copy|/a- /a/b=1 ; |/P/src@/P/src/a=~ /P/src/a/b=+|/P/out/a=1 /P/src/a/b=1
+copy|/a=1 ; |/P/src@/P/out/a=*|/P/out/a=2 /P/src/a=1
+copy|/a=2 ; |/P/src/a@/P/src/a=*|/P/out/a=1 /P/src/a=2
+copy|/a=2 ; /P/src/a/b 0 1 shadowed, |/P/src@/P/src/a=*|/P/out/a=1 /P/src/a=2 /P/src/a/b=3
+copy|/a=2 ; /P/two/a 0 1 shadowed, |/P/one /P/two@/P/one/a=*|/P/out/a=1 /P/one/a=2 /P/two/a=3
+copy|; /P/two/a 0 1 shadowed, |/P/one /P/two@/P/two/a=*|/P/out/a=1 /P/one/a=1 /P/two/a=3
 again|; |/P/src|/P/out/a=1 /P/src/a/b=1
 again|; /P/one/a 0 1 shadowed, |/P/two /P/one|/P/out/a=1 /P/one/a=1 /P/two/a/b=2";
 

@@ -32,6 +32,9 @@ expand|/a=1 ; /P/two/a/b.in 0 1 shadowed, |/P/one /P/two|/P/one/a.in=1 /P/two/a/
 expand|/a=1 ; /P/src/a.in 0 1 shadowed, |/P/src /P/src|/P/src/a.in=1
 expand|/b- ; |/P/src|/P/out/a=1 /P/out/b=2 /P/src/a.in=1
 expand|/a=2 ; |/P/src|/P/out/a=1 /P/src/a.in=@include~b /P/src/b=2
+expand|; /P/src/a.in 2 2 missing c, |/P/src@/P/lib/a=*|/P/out/a=2 /P/src/a.in=@include~b+@include~c /P/src/b=2
+expand|/a=3 ; |/P/src@/P/src/b=*|/P/out/a=2 /P/src/a.in=@include~b /P/src/b=3
+expand|/a=2 ; |/P/src@/P/src/b=+|/P/out/a= /P/src/a.in=@include~b /P/src/b=2
 expanded again|; /P/src/a.in 2 2 missing c, |/P/src|/P/src/a.in=@include~b+@include~c /P/src/b=2";
 
 /// What a row's word tells.

@@ -24,6 +24,10 @@ concat|/all- ; |/P/src|/P/out/all=2
 concat|/all=1 /b- /d/c- ; |/P/src|/P/out/b=1 /P/out/d/c=2 /P/src/a=1
 concat|/all=1 /all/b- ; |/P/src|/P/out/all/b=2 /P/src/a=1
 concat|/all=1 ; |/P/src|/P/out=2 /P/src/a=1
+concat|; |/P/src@/P/lib/a=*|/P/out/all=1 /P/src/a=1
+concat|/all=21 ; |/P/src@/P/src/a=*|/P/out/all=11 /P/src/a=2 /P/src/b=1
+concat|/all=1 ; |/P/src@/P/src/b=-|/P/out/all=12 /P/src/a=1
+concat|/all=1 ; |/P/src@/P/out/all=-|/P/src/a=1
 joined again|; |/P/src /P/src|/P/out/all/b=2 /P/src/a=1";
 
 /// What a row's word tells.

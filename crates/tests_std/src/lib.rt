@@ -3,6 +3,7 @@
 //! - `asserting`: the assertions.
 //! - `rows`: a table of rows, and how a row is told.
 //! - `views`: files and what is handed, as they are written in rows.
+//! - `deltas`: deltas, as they are written in rows.
 //! - `edits`: edits and problems as they are told.
 //! - `building`: builders in order, called by name.
 //! - `copying`: `copy`, and what the builders share.
@@ -18,6 +19,8 @@ mod asserting;
 mod building;
 #[cfg(test)]
 mod copying;
+#[cfg(test)]
+mod deltas;
 #[cfg(test)]
 mod edits;
 #[cfg(test)]

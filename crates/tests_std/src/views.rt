@@ -4,6 +4,7 @@ ghost use Rattle.std.specs.List.Sorted.{IsStrictlySortedBy};
 ghost use Rattle.std.specs.Map.{keys_of};
 ghost use Rattle.res_path.specs.Paths.{path_cmp};
 
+use crate::deltas::delta_of;
 use crate::rows::cut;
 use builder_api::{BuildKind, Handed, Paths, View};
 use bytes::Bytes;
@@ -81,19 +82,21 @@ pub fn view_of(alloc: Global, files: BTreeMap<Path, Bytes>) -> Result<View, NoMe
     Ok(View::of(in_order(alloc, files)?))
 }
 
-/// What is handed of these files for a command that reads these roots.
+/// What is handed of these files for a command that reads these roots; after an `@` the words of a delta.
 pub fn handed_of(
     alloc: Global,
     roots: &str,
     files: BTreeMap<Path, Bytes>,
 ) -> Result<Handed, NoMemory> {
+    let (roots, words) = cut(roots, '@');
     let inputs = Paths::of(paths_of(alloc, roots)?);
+    let delta = delta_of(alloc, words)?;
     let output = path(alloc, OUTPUT)?;
     let view = view_of(alloc, files)?;
     Ok(Handed {
         kind: BuildKind::Incremental,
-        last: false,
-        delta: None,
+        last: delta.is_some(),
+        delta,
         view,
         inputs,
         output,
