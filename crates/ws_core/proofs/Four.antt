@@ -9,7 +9,7 @@ use Rattle.ws_elem.specs.Trees.{Tree}
 use Rattle.ws_elem.specs.declared.element.Element.{Element}
 use Rattle.ws_elem.specs.declared.kind.Kind.TheVariants.{File}
 
-same_back : (a b : Tree) → SameContents a b → SameContents b a
+pub same_back : (a b : Tree) → SameContents a b → SameContents b a
 same_back a b h p q = by (get b p) (get a q) (h q p)
   where
     by : (o u : Option Element)
@@ -34,6 +34,12 @@ agree a b c d aa ab bb ca cb c_c da db dc dd =
 
 -- the one at i and the one at j
 pub at : (a b c d : Tree) → AgreeByStamps (a ∷ b ∷ c ∷ d ∷ []) → SameContents c a × SameContents c b × SameContents c c × SameContents d a × SameContents d b × SameContents d c × SameContents d d
-at a b c d h =
-    (h 2 a (omega arith) 0 a (omega arith), h 2 a (omega arith) 1 a (omega arith), h 2 a (omega arith) 2 a (omega arith),
-    h 3 a (omega arith) 0 a (omega arith), h 3 a (omega arith) 1 a (omega arith), h 3 a (omega arith) 2 a (omega arith), h 3 a (omega arith) 3 a (omega arith))
+at a b c d h = (
+  h 2 a (omega arith) 0 a (omega arith),
+  h 2 a (omega arith) 1 a (omega arith),
+  h 2 a (omega arith) 2 a (omega arith),
+  h 3 a (omega arith) 0 a (omega arith),
+  h 3 a (omega arith) 1 a (omega arith),
+  h 3 a (omega arith) 2 a (omega arith),
+  h 3 a (omega arith) 3 a (omega arith),
+)

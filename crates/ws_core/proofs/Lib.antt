@@ -5,4 +5,3 @@ mod Told
 pub mod SoundKept
 mod SessionsKept
 mod Attempts
-mod Roomy

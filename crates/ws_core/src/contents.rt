@@ -60,15 +60,18 @@ impl<T: Remembers + Drop> Content<T> {
     }
 
     /// Does the operation, or refuses it, and tells nothing.
-    pub fn operate(&mut self, alloc: Global, op: &Op, wants_copy: bool) -> Result<Twice<Reply>, NoMemory>
+    pub fn operate(
+        &mut self,
+        alloc: Global,
+        op: &Op,
+        wants_copy: bool,
+    ) -> Result<Twice<Reply>, NoMemory>
         ensures ok { IfOk result (λ r. (self.new, r) ≡ doubled wants_copy (operated_on self.old op.now)) }
         ensures err { OnErr result (self.new ≡ self.old) }
     {
         match apply_untold(alloc, &mut self.tree, &mut self.side, op, wants_copy) {
             Ok(replied) => Ok(replied),
-            Err(OpError::Refused(refusal)) => {
-                refuse(alloc, refusal, wants_copy)
-            }
+            Err(OpError::Refused(refusal)) => { refuse(alloc, refusal, wants_copy) }
             Err(OpError::Memory) => Err(AllocError),
         }
     }
@@ -93,9 +96,7 @@ impl<T: Remembers + Drop> Content<T> {
             wants_copy,
         ) {
             Ok(replied) => Ok(replied),
-            Err(OpError::Refused(refusal)) => {
-                refuse(alloc, refusal, wants_copy)
-            }
+            Err(OpError::Refused(refusal)) => { refuse(alloc, refusal, wants_copy) }
             Err(OpError::Memory) => Err(AllocError),
         }
     }

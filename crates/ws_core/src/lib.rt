@@ -14,7 +14,6 @@
 mod contents;
 mod history;
 mod operating;
-mod session;
 mod state;
 mod stepping;
 
@@ -24,5 +23,4 @@ pub use history::History;
 pub use job_manager::JobManager;
 pub use op_rule::operation_rule;
 pub use res_path::NoMemory;
-pub use session::Core;
 pub use state::State;

@@ -1,0 +1,106 @@
+-- An attempt changes nothing.
+use Rattle.std.proofs.Common.{◌≡◌, ℕ, Bool, true, false, ◌||◌, refl, sym, ap, ◌∙◌, subst}
+use Rattle.std.specs.Prelude.{Option, Some, List}
+use Rattle.std.specs.Prelude.{None as nothing}
+use Rattle.op_kind.specs.declared.op.Op.{Op}
+use Rattle.op_kind.specs.declared.answer.OpAnswer.{OpAnswer}
+use Rattle.op_kind.specs.declared.answer.OpAnswer.TheVariants as op_answers
+use Rattle.op_kind.specs.Effects as ops
+use Rattle.pass_table.specs.Passes.{is_quiet}
+use Rattle.core_event.specs.declared.event.Event.{Event}
+use Rattle.core_event.specs.declared.event.Event.TheVariants.{Enter, Leave, Schedule, Sleep, Wake, Cancel, Take, Finish, Begin, TryBegin, End, Transfer, Batch, EndBatch, Checkpoint, Operation}
+use Rattle.core_event.specs.declared.reply.Answer.{Answer}
+use Rattle.core_event.specs.declared.reply.Answer.TheVariants.{None}
+use Rattle.core_event.specs.declared.reply.Refusal.{Refusal}
+use Rattle.core_event.specs.declared.reply.Reply.{Reply}
+use Rattle.core_event.specs.Events.{is_checkpoint, operation_of}
+use Rattle.core_event.specs.Replies.{answered, is_attempt}
+use Rattle.job_manager.specs.declared.manager.JobManager.{JobManager}
+use Rattle.job_manager.specs.Effects as managing
+use Rattle.ws_core.specs.declared.state.State.{State}
+use Rattle.ws_core.specs.Refusals.{refusal}
+use Rattle.ws_core.specs.Effects.{effect_by}
+use Rattle.ws_core.specs.Steps.{acted, act, told, tells, step}
+use Rattle.ws_core.specs.Sessions.{IsConsistent}
+use Rattle.ws_core.proofs.Stepped.{still}
+
+told_answer : (b : Bool) (s : State) (a : Answer) → (told b s a).1.answer ≡ a
+told_answer true s a = refl
+told_answer false s a = refl
+
+op_answer : (e : Event) (a : OpAnswer) → is_attempt e (answered a) ≡ true → ⊥
+op_answer e op_answers.Done h = cc
+op_answer e (op_answers.Id id) h = cc
+op_answer e (op_answers.Count count) h = cc
+op_answer e (op_answers.Seen entries partners) h = cc
+
+taken : (m : JobManager) (k : ℕ) (o : Option (List ℕ)) → is_attempt Take (managing.taken m k o).1 ≡ true → (managing.taken m k o).0 ≡ m
+taken m k nothing h = refl
+taken m k (Some name) h = cc
+
+-- what is done is no attempt, but for a Take that finds no job
+managed_same : (m : JobManager) (k : ℕ) (e : Event) → is_attempt e (managing.effect m k e).1 ≡ true → (managing.effect m k e).0 ≡ m
+managed_same m k Enter h = cc
+managed_same m k Leave h = cc
+managed_same m k (Schedule name priority rule asleep) h = cc
+managed_same m k (Sleep name) h = cc
+managed_same m k (Wake name) h = cc
+managed_same m k (Cancel name) h = cc
+managed_same m k Take h = taken m k (managing.next_job m) h
+managed_same m k Finish h = cc
+managed_same m k (Begin rule) h = cc
+managed_same m k (TryBegin rule) h = cc
+managed_same m k (End rule) h = cc
+managed_same m k (Transfer to) h = cc
+managed_same m k Batch h = cc
+managed_same m k EndBatch h = cc
+managed_same m k Checkpoint h = cc
+managed_same m k (Operation op) h = cc
+
+act_same : (s : State) (k : ℕ) (e : Event) → is_attempt e (act s k e).1 ≡ true → (act s k e).0 ≡ s
+act_same s k e h = by (refusal s k e) (operation_of e) refl h
+  where
+    by : (r : Option Refusal) (o : Option Op) → operation_of e ≡ o → is_attempt e (acted r s k e).1 ≡ true → (acted r s k e).0 ≡ s
+    by (Some r) o is g = refl
+    by nothing nothing is g =
+        let same = managed_same s.manager k e (sym (ap (λ x. is_attempt e (effect_by x s k e).1) is) ∙ g) in
+        ap (λ x. (effect_by x s k e).0) is ∙ ap (λ m. record s { manager = m }) same
+    by nothing (Some op) is g = absurd (op_answer e (ops.effect s.resources op).1 (sym (ap (λ x. is_attempt e (effect_by x s k e).1) is) ∙ g))
+
+-- the state after an attempt is the one before it
+pub attempt_same : (s : State) (k : ℕ) (e : Event) → IsConsistent s → is_attempt e (step s k e).1.answer ≡ true → (step s k e).0 ≡ s
+attempt_same s k e x h =
+    let answer : is_attempt e (act s k e).1 ≡ true = sym (ap (is_attempt e) (told_answer (tells e (act s k e).0) (act s k e).0 (act s k e).1)) ∙ h in
+    let same = act_same s k e answer in
+    ap (λ (d : State × Reply). d.0) (still (tells e (act s k e).0) (act s k e).0 (act s k e).1 (place same answer)) ∙ same
+  where
+    not_checked : is_attempt e (act s k e).1 ≡ true → is_checkpoint e ≡ false
+    not_checked g = by e g
+      where
+        by : (e : Event) → is_attempt e (act s k e).1 ≡ true → is_checkpoint e ≡ false
+        by Enter g = refl
+        by Leave g = refl
+        by (Schedule name priority rule asleep) g = refl
+        by (Sleep name) g = refl
+        by (Wake name) g = refl
+        by (Cancel name) g = refl
+        by Take g = refl
+        by Finish g = refl
+        by (Begin rule) g = refl
+        by (TryBegin rule) g = refl
+        by (End rule) g = refl
+        by (Transfer to) g = refl
+        by Batch g = refl
+        by EndBatch g = refl
+        by Checkpoint g = cc
+        by (Operation op) g = refl
+
+    place : (act s k e).0 ≡ s → is_attempt e (act s k e).1 ≡ true → tells e (act s k e).0 ≡ true → (act s k e).0.remembered.told ≡ (act s k e).0.resources.tree
+    place same g t =
+        let quiet : is_quiet s.manager.passes ≡ true =
+        sym (ap (λ (z : State). is_quiet z.manager.passes) same) ∙ later (is_checkpoint e) (is_quiet (act s k e).0.manager.passes) (not_checked g) t in
+        subst (λ (z : State). z.remembered.told ≡ z.resources.tree) (sym same) (x.quiet quiet)
+      where
+        later : (c q : Bool) → c ≡ false → (c || q) ≡ true → q ≡ true
+        later true q a b = cc
+        later false q a b = b

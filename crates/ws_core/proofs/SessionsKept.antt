@@ -1,0 +1,74 @@
+-- An open workspace stays one.
+use Rattle.std.proofs.Common.{◌≡◌, ℕ, Bool, true, false, List, [], ◌∷◌, ◌++◌, refl, sym, ap, ◌∙◌, subst}
+use Rattle.std.specs.Prelude.{if◌then◌else◌}
+use Rattle.ws_elem.specs.Stamps.{SameContents}
+use Rattle.delta_kind.specs.Deltas.{TellsContents}
+use Rattle.delta_kind.specs.declared.node.DeltaNode.{DeltaNode}
+use Rattle.core_event.specs.declared.event.Event.{Event}
+use Rattle.core_event.specs.declared.entry.Entry.{Entry}
+use Rattle.core_event.specs.Replies.{is_attempt}
+use Rattle.ws_core.specs.declared.state.State.{State}
+use Rattle.ws_core.specs.Steps.{step}
+use Rattle.ws_core.specs.Histories.{fresh, has_entered, notices, told_of, written}
+use Rattle.ws_core.specs.Sessions.{Session, IsSession}
+use Rattle.ws_core.proofs.Told.{told_notices}
+use Rattle.ws_core.proofs.Grown.{legal_more, replay_more}
+use Rattle.ws_core.proofs.SoundKept.{fresh_sound, steady, step_sound, step_start}
+use Rattle.ws_core.proofs.Attempts.{attempt_same}
+
+-- the replies tell the notices
+pub session_told : (x : Session) → IsSession x → told_of x.history ≡ notices x.opened x.history
+session_told x is = told_notices x.opened x.history is.opened_told is.legal
+
+-- a path without a node, of the opened tree to the tree, holds the same file bytes or no file
+pub told_between : (x : Session) (nodes : List DeltaNode) → IsSession x → (SameContents x.state.remembered.start x.state.resources.tree → TellsContents x.state.remembered.start x.state.resources.tree nodes)
+    → TellsContents x.opened.resources.tree x.state.resources.tree nodes
+told_between x nodes is tells =
+    subst (λ t. TellsContents t x.state.resources.tree nodes) is.start (tells (steady x.state is.sound).start_known.tree)
+
+fresh_session : IsSession (record { opened = fresh; history = []; state = fresh })
+fresh_session = record {
+  opened_start = refl;
+  opened_told = refl;
+  start = refl;
+  legal = record { replies = refl; entered = refl; events = refl };
+  state = refl;
+  sound = fresh_sound;
+}
+
+-- the fresh workspace is one
+pub opens : (o s : State) (h : List Entry) → o ≡ s → s ≡ fresh → h ≡ [] → IsSession (record { opened = o; history = h; state = s })
+opens o s h same is empty =
+    let back : fresh ≡ o = sym (same ∙ is) in
+    let back2 : fresh ≡ s = sym is in
+    let none : [] ≡ h = sym empty in
+    let path : ◌≡◌ {A = Session} (record { opened = fresh; history = []; state = fresh }) (record { opened = o; history = h; state = s }) = λ i. record { opened = back i; history = none i; state = back2 i } in
+    subst IsSession path fresh_session
+
+-- so is what an event leaves
+goes_on : (x : Session) (k : ℕ) (e : Event) → IsSession x → has_entered k x.state ≡ true → (b : Bool) → is_attempt e (step x.state k e).1.answer ≡ b
+    → IsSession (record { opened = x.opened; history = if b then x.history else x.history ++ record { pass = k; event = e; reply = (step x.state k e).1 } ∷ []; state = (step x.state k e).0 })
+goes_on x k e is there true tried =
+    let same : x.state ≡ (step x.state k e).0 = sym (attempt_same x.state k e is.sound tried) in
+    let path : ◌≡◌ {A = Session} x (record { opened = x.opened; history = x.history; state = (step x.state k e).0 }) = λ i. record { opened = x.opened; history = x.history; state = same i } in
+    subst IsSession path is
+goes_on x k e is there false tried =
+    let entry : Entry = record { pass = k; event = e; reply = (step x.state k e).1 } in
+    record {
+      opened_start = is.opened_start;
+      opened_told = is.opened_told;
+      start = step_start x.state k e ∙ is.start;
+      legal = legal_more x.opened x.history entry is.legal (subst (λ z. has_entered k z ≡ true) is.state there) (ap (λ z. (step z k e).1) is.state) tried;
+      state = ap (λ z. (step z k e).0) is.state ∙ sym (replay_more x.opened x.history entry);
+      sound = step_sound x.state k e is.sound;
+    }
+
+-- so is what a call leaves that makes a step and writes it down
+pub goes_on_so : (x : Session) (k : ℕ) (e : Event) (s : State) (h : List Entry) → IsSession x → has_entered k x.state ≡ true
+    → s ≡ (step x.state k e).0 → h ≡ written x.history (record { pass = k; event = e; reply = (step x.state k e).1 })
+    → IsSession (record { opened = x.opened; history = h; state = s })
+goes_on_so x k e s h is there after longer =
+    let p = sym longer in
+    let q = sym after in
+    let path : ◌≡◌ {A = Session} (record { opened = x.opened; history = written x.history (record { pass = k; event = e; reply = (step x.state k e).1 }); state = (step x.state k e).0 }) (record { opened = x.opened; history = h; state = s }) = λ i. record { opened = x.opened; history = p i; state = q i } in
+    subst IsSession path (goes_on x k e is there (is_attempt e (step x.state k e).1.answer) refl)
