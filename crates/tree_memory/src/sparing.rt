@@ -102,7 +102,7 @@ impl<T: Remembers> Sparing<T> {
     }
 }
 
-impl<T: Remembers + Drop> TreeRep for Sparing<T> {
+impl<T: Remembers> TreeRep for Sparing<T> {
     ghost tree = { λ s. T.tree s.tree };
 
     ghost room = { λ s. T.room s.tree };
