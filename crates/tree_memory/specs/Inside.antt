@@ -5,7 +5,8 @@ use Rattle.std.specs.List.{list_any}
 use Rattle.tree_memory.specs.Spared.{Remembered, SparedTree}
 
 abbrev pub spared_code : {T : Type 0} → Coded T → Coded (SparedTree T)
-spared_code {T} t = code_by (T × List ℕ) (coded× t (coded_list coded_ℕ)) (λ s. (s.tree, s.spent)) (λ p. record { tree = p.0; spent = p.1 }) (λ _. refl)
+spared_code {T} t =
+    code_by (T × (List ℕ × ℕ)) (coded× t (coded× (coded_list coded_ℕ) coded_ℕ)) (λ s. (s.tree, (s.spent, s.places))) (λ p. record { tree = p.0; spent = p.1.0; places = p.1.1 }) (λ _. refl)
 
 -- no number comes twice
 abbrev pub Apart : List ℕ → Type 0

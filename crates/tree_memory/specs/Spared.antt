@@ -7,10 +7,11 @@ use Rattle.ws_elem.specs.Trees.{Tree}
 abbrev pub Remembered : Type 0
 Remembered = ℕ → Option Tree
 
--- a tree, and the numbers that were given up and that it still remembers
+-- a tree, the numbers that were given up and that it still remembers, and how many more can be given up without memory
 pub record SparedTree (T : Type 0) : Type 0 where
   pub tree : T
   pub spent : List ℕ
+  pub places : ℕ
 
 -- what was given up isn't remembered any more
 abbrev pub without : Remembered → List ℕ → Remembered

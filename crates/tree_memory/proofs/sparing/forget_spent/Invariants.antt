@@ -1,4 +1,5 @@
-use Rattle.std.proofs.Common.{◌≡◌, length, map}
+use Rattle.std.proofs.Common.{◌≡◌, ◌≤◌, length, map}
+use Rattle.std.specs.Vec.{vec_len, vec_capacity}
 use Rattle.tree_memory.specs.Spared.{without}
 use Rattle.tree_memory.specs.Inside.{AreSpent}
 use Rattle.tree_memory.proofs.sparing.forget_spent.Given as goal
@@ -10,6 +11,8 @@ invariant-loop-alloc g l = record {
       ≡ without (g.T.TreeRep.remembered l.initial.tree) (map g.T.Remembers.number l.initial.spent.items);
   tree : g.T.TreeRep.tree l.tree ≡ g.T.TreeRep.tree l.initial.tree;
   room : g.T.TreeRep.room l.tree ≡ g.T.TreeRep.room l.initial.tree;
+  len : vec_len l.spent ≤ vec_len l.initial.spent;
+  capacity : vec_capacity l.spent ≡ vec_capacity l.initial.spent;
 }
 
 abbrev pub decreases-loop-alloc : goal.decreases-loop-alloc

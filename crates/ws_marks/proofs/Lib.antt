@@ -1,0 +1,5 @@
+pub mod Firsts
+pub mod Places
+pub mod Sorted
+pub mod Tables
+pub mod Kept
