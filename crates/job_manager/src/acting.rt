@@ -28,7 +28,7 @@ impl JobManager {
         requires { has_pass self.old.passes pass ≡ true }
         ensures ok { IfOk result (λ answer. (self.new, answer) ≡ doubled wants_copy (outcome self.old pass event.now)) }
         ensures err { OnErr result (self.new ≡ self.old) }
-        ensures open { OnOk result (closes event.now ≡ false → is_quiet self.old.passes ≡ false → is_quiet self.new.passes ≡ false) }
+        ensures busy { OnOk result (closes event.now ≡ false → is_quiet self.old.passes ≡ false → is_quiet self.new.passes ≡ false) }
     {
         match event {
             Event::Enter => self.enter(wants_copy),

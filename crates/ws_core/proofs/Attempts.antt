@@ -17,14 +17,14 @@ use Rattle.core_event.specs.Events.{is_checkpoint, operation_of}
 use Rattle.core_event.specs.Replies.{answered, is_attempt}
 use Rattle.job_manager.specs.declared.manager.JobManager.{JobManager}
 use Rattle.job_manager.specs.Effects as managing
-use Rattle.ws_core.specs.declared.state.State.{State}
+use Rattle.ws_core.specs.States.{Moment}
 use Rattle.ws_core.specs.Refusals.{refusal}
 use Rattle.ws_core.specs.Effects.{effect_by}
 use Rattle.ws_core.specs.Steps.{acted, act, told, tells, step}
 use Rattle.ws_core.specs.Sessions.{IsConsistent}
 use Rattle.ws_core.proofs.Stepped.{still}
 
-told_answer : (b : Bool) (s : State) (a : Answer) → (told b s a).1.answer ≡ a
+told_answer : (b : Bool) (s : Moment) (a : Answer) → (told b s a).1.answer ≡ a
 told_answer true s a = refl
 told_answer false s a = refl
 
@@ -57,7 +57,7 @@ managed_same m k EndBatch h = cc
 managed_same m k Checkpoint h = cc
 managed_same m k (Operation op) h = cc
 
-act_same : (s : State) (k : ℕ) (e : Event) → is_attempt e (act s k e).1 ≡ true → (act s k e).0 ≡ s
+act_same : (s : Moment) (k : ℕ) (e : Event) → is_attempt e (act s k e).1 ≡ true → (act s k e).0 ≡ s
 act_same s k e h = by (refusal s k e) (operation_of e) refl h
   where
     by : (r : Option Refusal) (o : Option Op) → operation_of e ≡ o → is_attempt e (acted r s k e).1 ≡ true → (acted r s k e).0 ≡ s
@@ -68,11 +68,11 @@ act_same s k e h = by (refusal s k e) (operation_of e) refl h
     by nothing (Some op) is g = absurd (op_answer e (ops.effect s.resources op).1 (sym (ap (λ x. is_attempt e (effect_by x s k e).1) is) ∙ g))
 
 -- the state after an attempt is the one before it
-pub attempt_same : (s : State) (k : ℕ) (e : Event) → IsConsistent s → is_attempt e (step s k e).1.answer ≡ true → (step s k e).0 ≡ s
+pub attempt_same : (s : Moment) (k : ℕ) (e : Event) → IsConsistent s → is_attempt e (step s k e).1.answer ≡ true → (step s k e).0 ≡ s
 attempt_same s k e x h =
     let answer : is_attempt e (act s k e).1 ≡ true = sym (ap (is_attempt e) (told_answer (tells e (act s k e).0) (act s k e).0 (act s k e).1)) ∙ h in
     let same = act_same s k e answer in
-    ap (λ (d : State × Reply). d.0) (still (tells e (act s k e).0) (act s k e).0 (act s k e).1 (place same answer)) ∙ same
+    ap (λ (d : Moment × Reply). d.0) (still (tells e (act s k e).0) (act s k e).0 (act s k e).1 (place same answer)) ∙ same
   where
     not_checked : is_attempt e (act s k e).1 ≡ true → is_checkpoint e ≡ false
     not_checked g = by e g
@@ -98,8 +98,8 @@ attempt_same s k e x h =
     place : (act s k e).0 ≡ s → is_attempt e (act s k e).1 ≡ true → tells e (act s k e).0 ≡ true → (act s k e).0.remembered.told ≡ (act s k e).0.resources.tree
     place same g t =
         let quiet : is_quiet s.manager.passes ≡ true =
-        sym (ap (λ (z : State). is_quiet z.manager.passes) same) ∙ later (is_checkpoint e) (is_quiet (act s k e).0.manager.passes) (not_checked g) t in
-        subst (λ (z : State). z.remembered.told ≡ z.resources.tree) (sym same) (x.quiet quiet)
+        sym (ap (λ (z : Moment). is_quiet z.manager.passes) same) ∙ later (is_checkpoint e) (is_quiet (act s k e).0.manager.passes) (not_checked g) t in
+        subst (λ (z : Moment). z.remembered.told ≡ z.resources.tree) (sym same) (x.quiet quiet)
       where
         later : (c q : Bool) → c ≡ false → (c || q) ≡ true → q ≡ true
         later true q a b = cc

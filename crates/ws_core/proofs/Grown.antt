@@ -4,19 +4,19 @@ use Rattle.std.specs.List.{list_any}
 use Rattle.std.specs.Option.{option_to_list}
 use Rattle.core_event.specs.declared.entry.Entry.{Entry}
 use Rattle.core_event.specs.declared.reply.Reply.{Reply}
-use Rattle.ws_core.specs.declared.state.State.{State}
+use Rattle.ws_core.specs.States.{Moment}
 use Rattle.ws_core.specs.Steps.{step}
 use Rattle.ws_core.specs.Histories.{after, replay, replies, has_entered, entered, only_tried, Legal, told_of}
 
-pub replay_append : (s : State) (h k : List Entry) → replay s (h ++ k) ≡ replay (replay s h) k
+pub replay_append : (s : Moment) (h k : List Entry) → replay s (h ++ k) ≡ replay (replay s h) k
 replay_append s [] k = refl
 replay_append s (x ∷ h) k = replay_append (after s x) h k
 
-pub replies_append : (s : State) (h k : List Entry) → replies s (h ++ k) ≡ replies s h ++ replies (replay s h) k
+pub replies_append : (s : Moment) (h k : List Entry) → replies s (h ++ k) ≡ replies s h ++ replies (replay s h) k
 replies_append s [] k = refl
 replies_append s (x ∷ h) k = ap (λ r. (step s x.pass x.event).1 ∷ r) (replies_append (after s x) h k)
 
-pub entered_append : (s : State) (h k : List Entry) → entered s (h ++ k) ≡ (entered s h && entered (replay s h) k)
+pub entered_append : (s : Moment) (h k : List Entry) → entered s (h ++ k) ≡ (entered s h && entered (replay s h) k)
 entered_append s [] k = refl
 entered_append s (x ∷ h) k = elim (has_entered x.pass s) as (λ b. (b && entered (after s x) (h ++ k)) ≡ ((b && entered (after s x) h) && entered (replay (after s x) h) k)) [
   | true ↦ entered_append (after s x) h k
@@ -49,14 +49,14 @@ both true false h g = g
 both false b h g = h
 
 -- a legal history goes on with one more entry
-pub legal_more : (s : State) (h : List Entry) (x : Entry) → Legal s h → has_entered x.pass (replay s h) ≡ true → x.reply ≡ (step (replay s h) x.pass x.event).1 → only_tried x ≡ false → Legal s (h ++ x ∷ [])
+pub legal_more : (s : Moment) (h : List Entry) (x : Entry) → Legal s h → has_entered x.pass (replay s h) ≡ true → x.reply ≡ (step (replay s h) x.pass x.event).1 → only_tried x ≡ false → Legal s (h ++ x ∷ [])
 legal_more s h x l p r t = record {
   replies = answers_append h (x ∷ []) ∙ ap (λ rs. rs ++ x.reply ∷ []) l.replies ∙ ap (λ (y : Reply). replies s h ++ y ∷ []) r ∙ sym (replies_append s h (x ∷ []));
   entered = entered_append s h (x ∷ []) ∙ both (entered s h) (has_entered x.pass (replay s h)) l.entered p;
   events = tried_append h (x ∷ []) ∙ either (list_any only_tried h) (only_tried x) l.events t;
 }
 
-pub replay_more : (s : State) (h : List Entry) (x : Entry) → replay s (h ++ x ∷ []) ≡ (step (replay s h) x.pass x.event).0
+pub replay_more : (s : Moment) (h : List Entry) (x : Entry) → replay s (h ++ x ∷ []) ≡ (step (replay s h) x.pass x.event).0
 replay_more s h x = replay_append s h (x ∷ [])
 
 -- both parts of a legal history are legal, each where it begins
@@ -68,7 +68,7 @@ neither : (a b : Bool) → (a || b) ≡ false → (a ≡ false) × (b ≡ false)
 neither false b h = (refl, h)
 neither true b h = cc
 
-pub legal_front : (s : State) (h k : List Entry) → entered s (h ++ k) ≡ true → list_any only_tried (h ++ k) ≡ false → map (λ (x : Entry). x.reply) h ≡ replies s h → Legal s h
+pub legal_front : (s : Moment) (h k : List Entry) → entered s (h ++ k) ≡ true → list_any only_tried (h ++ k) ≡ false → map (λ (x : Entry). x.reply) h ≡ replies s h → Legal s h
 legal_front s h k e t r = record {
   replies = r;
   entered = (split (entered s h) (entered (replay s h) k) (sym (entered_append s h k) ∙ e)).0;

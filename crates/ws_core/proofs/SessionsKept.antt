@@ -7,7 +7,7 @@ use Rattle.delta_kind.specs.declared.node.DeltaNode.{DeltaNode}
 use Rattle.core_event.specs.declared.event.Event.{Event}
 use Rattle.core_event.specs.declared.entry.Entry.{Entry}
 use Rattle.core_event.specs.Replies.{is_attempt}
-use Rattle.ws_core.specs.declared.state.State.{State}
+use Rattle.ws_core.specs.States.{Moment}
 use Rattle.ws_core.specs.Steps.{step}
 use Rattle.ws_core.specs.Histories.{fresh, has_entered, notices, told_of, written}
 use Rattle.ws_core.specs.Sessions.{Session, IsSession}
@@ -37,7 +37,7 @@ fresh_session = record {
 }
 
 -- the fresh workspace is one
-pub opens : (o s : State) (h : List Entry) → o ≡ s → s ≡ fresh → h ≡ [] → IsSession (record { opened = o; history = h; state = s })
+pub opens : (o s : Moment) (h : List Entry) → o ≡ s → s ≡ fresh → h ≡ [] → IsSession (record { opened = o; history = h; state = s })
 opens o s h same is empty =
     let back : fresh ≡ o = sym (same ∙ is) in
     let back2 : fresh ≡ s = sym is in
@@ -64,7 +64,7 @@ goes_on x k e is there false tried =
     }
 
 -- so is what a call leaves that makes a step and writes it down
-pub goes_on_so : (x : Session) (k : ℕ) (e : Event) (s : State) (h : List Entry) → IsSession x → has_entered k x.state ≡ true
+pub goes_on_so : (x : Session) (k : ℕ) (e : Event) (s : Moment) (h : List Entry) → IsSession x → has_entered k x.state ≡ true
     → s ≡ (step x.state k e).0 → h ≡ written x.history (record { pass = k; event = e; reply = (step x.state k e).1 })
     → IsSession (record { opened = x.opened; history = h; state = s })
 goes_on_so x k e s h is there after longer =

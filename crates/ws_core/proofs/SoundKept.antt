@@ -24,8 +24,7 @@ use Rattle.core_event.specs.Events.{is_checkpoint, operation_of}
 use Rattle.job_manager.specs.Admission.{admission}
 use Rattle.job_manager.specs.Effects as managing
 use Rattle.job_manager.proofs.Apart.{Apart, outcome_apart}
-use Rattle.ws_core.specs.declared.state.State.{State}
-use Rattle.ws_core.specs.States.{Remembered}
+use Rattle.ws_core.specs.States.{Moment, Remembered}
 use Rattle.ws_core.specs.Refusals.{operation_refusal, refusal, refusal_by}
 use Rattle.ws_core.specs.Effects.{effect_by, managed, operate}
 use Rattle.ws_core.specs.Steps.{acted, act, told, tells, step}
@@ -37,7 +36,7 @@ use Rattle.ws_core.proofs.Stepped.{act_managed}
 -- ---- but for what is quiet
 
 -- what holds of a state before anything is told
-pub record IsSteady (s : State) : Type 0 where
+pub record IsSteady (s : Moment) : Type 0 where
   pub resources : ops.IsConsistent s.resources
   pub start : Whole s.remembered.start
   pub told : Whole s.remembered.told
@@ -48,7 +47,7 @@ pub record IsSteady (s : State) : Type 0 where
   pub told_self : SameContents s.remembered.told s.remembered.told
   pub apart : Apart s.manager.passes.rules
 
-pub steady : (s : State) → IsConsistent s → IsSteady s
+pub steady : (s : Moment) → IsConsistent s → IsSteady s
 steady s x =
     let all = at s.resources.tree s.resources.shelf s.remembered.start s.remembered.told x.alike in
     record {
@@ -63,7 +62,7 @@ steady s x =
       apart = x.apart;
     }
 
-pub consistent : (s : State) → IsSteady s → (is_quiet s.manager.passes ≡ true → s.remembered.told ≡ s.resources.tree) → IsConsistent s
+pub consistent : (s : Moment) → IsSteady s → (is_quiet s.manager.passes ≡ true → s.remembered.told ≡ s.resources.tree) → IsConsistent s
 consistent s x quiet = record {
   resources = x.resources;
   start = x.start;
@@ -81,7 +80,7 @@ consistent s x quiet = record {
 -- ---- what each event leaves
 
 -- the tree is told, with what is there
-told_now : (s : State) → IsSteady s → IsSteady (record s { remembered = record (s.remembered) { told = s.resources.tree } })
+told_now : (s : Moment) → IsSteady s → IsSteady (record s { remembered = record (s.remembered) { told = s.resources.tree } })
 told_now s x = record {
   resources = x.resources;
   start = x.start;
@@ -99,7 +98,7 @@ not_refused None None h = (refl, refl)
 not_refused None (Some x) h = cc
 not_refused (Some a) x h = cc
 
-operate_steady : (s : State) (op : Op) → causes.refusal s.resources op ≡ None → IsSteady s → IsSteady (operate s op).0
+operate_steady : (s : Moment) (op : Op) → causes.refusal s.resources op ≡ None → IsSteady s → IsSteady (operate s op).0
 operate_steady s op h x =
     let r = (does.effect s.resources op).0 in
     record {
@@ -114,7 +113,7 @@ operate_steady s op h x =
       apart = x.apart;
     }
 
-managed_steady : (s : State) (k : ℕ) (e : Event) → IsSteady s → IsSteady (managed s (managing.outcome s.manager k e)).0
+managed_steady : (s : Moment) (k : ℕ) (e : Event) → IsSteady s → IsSteady (managed s (managing.outcome s.manager k e)).0
 managed_steady s k e x = record {
   resources = x.resources;
   start = x.start;
@@ -127,7 +126,7 @@ managed_steady s k e x = record {
   apart = outcome_apart s.manager k e x.apart;
 }
 
-act_steady : (s : State) (k : ℕ) (e : Event) → IsSteady s → IsSteady (act s k e).0
+act_steady : (s : Moment) (k : ℕ) (e : Event) → IsSteady s → IsSteady (act s k e).0
 act_steady s k e x = by (operation_of e) refl
   where
     done : (op : Op) (r : Option Refusal) → operation_of e ≡ Some op → operation_refusal s k op ≡ r → IsSteady (acted r s k e).0
@@ -137,10 +136,10 @@ act_steady s k e x = by (operation_of e) refl
     done op (Some r) is h = x
 
     by : (o : Option Op) → operation_of e ≡ o → IsSteady (act s k e).0
-    by None is = subst (λ (d : State × Answer). IsSteady d.0) (sym (act_managed s k e is)) (managed_steady s k e x)
+    by None is = subst (λ (d : Moment × Answer). IsSteady d.0) (sym (act_managed s k e is)) (managed_steady s k e x)
     by (Some op) is = subst (λ r. IsSteady (acted r s k e).0) (sym (ap (λ o. refusal_by o s k e) is)) (done op (operation_refusal s k op) is refl)
 
-told_sound : (b : Bool) (e : Event) (s : State) (a : Answer) → tells e s ≡ b → IsSteady s → IsConsistent (told b s a).0
+told_sound : (b : Bool) (e : Event) (s : Moment) (a : Answer) → tells e s ≡ b → IsSteady s → IsConsistent (told b s a).0
 told_sound true e s a is x = consistent (told true s a).0 (told_now s x) (λ _. refl)
 told_sound false e s a is x = consistent s x (λ h. absurd (no (is_checkpoint e) (is_quiet s.manager.passes) is h))
   where
@@ -150,7 +149,7 @@ told_sound false e s a is x = consistent s x (λ h. absurd (no (is_checkpoint e)
     no false false g h = cc
 
 -- a step leaves a sound state
-pub step_sound : (s : State) (k : ℕ) (e : Event) → IsConsistent s → IsConsistent (step s k e).0
+pub step_sound : (s : Moment) (k : ℕ) (e : Event) → IsConsistent s → IsConsistent (step s k e).0
 step_sound s k e x = told_sound (tells e (act s k e).0) e (act s k e).0 (act s k e).1 refl (act_steady s k e (steady s x))
 
 -- ---- the fresh workspace
@@ -173,11 +172,11 @@ fresh_sound =
 
 -- ---- what stays
 
-told_start : (b : Bool) (s : State) (a : Answer) → (told b s a).0.remembered.start ≡ s.remembered.start
+told_start : (b : Bool) (s : Moment) (a : Answer) → (told b s a).0.remembered.start ≡ s.remembered.start
 told_start false s a = refl
 told_start true s a = refl
 
-act_remembers : (s : State) (k : ℕ) (e : Event) → (act s k e).0.remembered ≡ s.remembered
+act_remembers : (s : Moment) (k : ℕ) (e : Event) → (act s k e).0.remembered ≡ s.remembered
 act_remembers s k e = by (refusal s k e) (operation_of e) refl
   where
     by : (r : Option Refusal) (o : Option Op) → operation_of e ≡ o → (acted r s k e).0.remembered ≡ s.remembered
@@ -186,6 +185,6 @@ act_remembers s k e = by (refusal s k e) (operation_of e) refl
     by (Some r) o is = refl
 
 -- the tree with which the workspace was opened stays the one that is remembered
-pub step_start : (s : State) (k : ℕ) (e : Event) → (step s k e).0.remembered.start ≡ s.remembered.start
+pub step_start : (s : Moment) (k : ℕ) (e : Event) → (step s k e).0.remembered.start ≡ s.remembered.start
 step_start s k e =
     told_start (tells e (act s k e).0) (act s k e).0 (act s k e).1 ∙ ap (λ (r : Remembered). r.start) (act_remembers s k e)

@@ -24,8 +24,7 @@ use Rattle.job_manager.specs.Admission.{admission}
 use Rattle.job_manager.specs.Batches.{closes}
 use Rattle.job_manager.specs.Refusals as managers
 use Rattle.job_manager.specs.Effects as managing
-use Rattle.ws_core.specs.declared.state.State.{State}
-use Rattle.ws_core.specs.States.{Contents, with_told}
+use Rattle.ws_core.specs.States.{Moment, Contents, with_told}
 use Rattle.ws_core.specs.Refusals.{refusal, refusal_by}
 use Rattle.ws_core.specs.Effects.{effect, effect_by, managed}
 use Rattle.ws_core.specs.Steps.{acted, act, notice, tell, tells, told, step}
@@ -34,7 +33,7 @@ use Rattle.ws_core.specs.Inside.Parts.{contents_of, moment, operated, operated_b
 -- ---- what is told
 
 -- where the tree is told, or it is no telling place, nothing is
-pub still : (b : Bool) (s : State) (a : Answer) → (b ≡ true → s.remembered.told ≡ s.resources.tree) → told b s a ≡ (s, record { answer = a; notice = None })
+pub still : (b : Bool) (s : Moment) (a : Answer) → (b ≡ true → s.remembered.told ≡ s.resources.tree) → told b s a ≡ (s, record { answer = a; notice = None })
 still false s a h = refl
 still true s a h =
     let same = h refl in
@@ -43,16 +42,16 @@ still true s a h =
     λ i. (record s { remembered = record (s.remembered) { told = back i } }, record { answer = a; notice = none i })
 
 -- a refused event tells nothing
-pub refused_still : (s : State) (k : ℕ) (e : Event) (r : Refusal) → refusal s k e ≡ Some r → (tells e s ≡ true → s.remembered.told ≡ s.resources.tree)
+pub refused_still : (s : Moment) (k : ℕ) (e : Event) (r : Refusal) → refusal s k e ≡ Some r → (tells e s ≡ true → s.remembered.told ≡ s.resources.tree)
     → (s, record { answer = Refused r; notice = None }) ≡ step s k e
 refused_still s k e r is h = sym (still (tells e s) s (Refused r) h) ∙ ap (λ x. tell e (acted x s k e)) (sym is)
 
 -- ---- events of passes, jobs, rules and batches
 
-pub act_managed : (s : State) (k : ℕ) (e : Event) → operation_of e ≡ None → act s k e ≡ managed s (managing.outcome s.manager k e)
+pub act_managed : (s : Moment) (k : ℕ) (e : Event) → operation_of e ≡ None → act s k e ≡ managed s (managing.outcome s.manager k e)
 act_managed s k e none = ap (λ o. acted_by o (refusal_by o s k e)) none ∙ by (managers.refusal s.manager k e)
   where
-    acted_by : Option Op → Option Refusal → State × Answer
+    acted_by : Option Op → Option Refusal → Moment × Answer
     acted_by o None = effect_by o s k e
     acted_by o (Some r) = (s, Refused r)
 
@@ -61,19 +60,19 @@ act_managed s k e none = ap (λ o. acted_by o (refusal_by o s k e)) none ∙ by 
     by (Some r) = refl
 
 -- such an event steps so
-pub step_managed : (s : State) (k : ℕ) (e : Event) → operation_of e ≡ None → tell e (managed s (managing.outcome s.manager k e)) ≡ step s k e
+pub step_managed : (s : Moment) (k : ℕ) (e : Event) → operation_of e ≡ None → tell e (managed s (managing.outcome s.manager k e)) ≡ step s k e
 step_managed s k e none = ap (tell e) (sym (act_managed s k e none))
 
 -- where it tells nothing
-pub managed_still : (s : State) (k : ℕ) (e : Event) (done : JobManager × Answer) → operation_of e ≡ None → done ≡ managing.outcome s.manager k e
+pub managed_still : (s : Moment) (k : ℕ) (e : Event) (done : JobManager × Answer) → operation_of e ≡ None → done ≡ managing.outcome s.manager k e
     → (tells e (managed s done).0 ≡ true → s.remembered.told ≡ s.resources.tree)
     → (record s { manager = done.0 }, record { answer = done.1; notice = None }) ≡ step s k e
 managed_still s k e done none is h =
     sym (still (tells e (managed s done).0) (managed s done).0 done.1 h) ∙ ap (λ d. tell e (managed s d)) is ∙ step_managed s k e none
 
 -- where a batch is open before and after it
-pub not_told : (e : Event) (s : State) → is_checkpoint e ≡ false → is_quiet s.manager.passes ≡ false → tells e s ≡ true → ⊥
-not_told e s other open h = no (sym h ∙ ap (λ b. b || is_quiet s.manager.passes) other ∙ open)
+pub not_told : (e : Event) (s : Moment) → is_checkpoint e ≡ false → is_quiet s.manager.passes ≡ false → tells e s ≡ true → ⊥
+not_told e s other busy h = no (sym h ∙ ap (λ b. b || is_quiet s.manager.passes) other ∙ busy)
   where
     no : true ≡ false → ⊥
     no g = cc
@@ -139,12 +138,12 @@ only_checkpoint Checkpoint h = refl
 only_checkpoint (Operation op) h = cc
 
 -- a checkpoint tells
-pub checkpoint_tells : (s : State) (k : ℕ) (e : Event) → is_checkpoint e ≡ true
+pub checkpoint_tells : (s : Moment) (k : ℕ) (e : Event) → is_checkpoint e ≡ true
     → (moment (told_with (contents_of s) Done).0 s.manager, (told_with (contents_of s) Done).1) ≡ step s k e
 checkpoint_tells s k e h = ap (step s k) (sym (only_checkpoint e h))
 
 -- where a closing event leaves no batch open, it tells
-pub closing_tells : (s : State) (now : JobManager) (k : ℕ) (e : Event) → closes e ≡ true → managers.refusal s.manager k e ≡ None → now ≡ (managing.effect s.manager k e).0
+pub closing_tells : (s : Moment) (now : JobManager) (k : ℕ) (e : Event) → closes e ≡ true → managers.refusal s.manager k e ≡ None → now ≡ (managing.effect s.manager k e).0
     → is_quiet (managing.outcome s.manager k e).0.passes ≡ true
     → (moment (told_with (contents_of s) Done).0 now, (told_with (contents_of s) Done).1) ≡ step s k e
 closing_tells s now k e h allowed is quiet =
@@ -156,7 +155,7 @@ closing_tells s now k e h allowed is quiet =
 -- ---- operations
 
 -- what an operation does to a state that is admitted
-pub act_operation : (s : State) (k : ℕ) (op : Op) → admission s.manager.passes.rules k (operation_rule op) ≡ None
+pub act_operation : (s : Moment) (k : ℕ) (op : Op) → admission s.manager.passes.rules k (operation_rule op) ≡ None
     → act s k (Operation op) ≡ (record s { resources = (operated s.resources op).0 }, (operated s.resources op).1)
 act_operation s k op admitted = ap (λ a. acted (option_or a (option_map refusals.Operation (ops.refusal s.resources op))) s k (Operation op)) admitted ∙ by (ops.refusal s.resources op)
   where
@@ -165,18 +164,18 @@ act_operation s k op admitted = ap (λ a. acted (option_or a (option_map refusal
     by (Some x) = refl
 
 -- one that tells nothing
-pub untold_operation : (s : State) (k : ℕ) (op : Op) → admission s.manager.passes.rules k (operation_rule op) ≡ None
+pub untold_operation : (s : Moment) (k : ℕ) (op : Op) → admission s.manager.passes.rules k (operation_rule op) ≡ None
     → (is_quiet s.manager.passes ≡ true → s.remembered.told ≡ (operated s.resources op).0.tree)
     → (moment (operated_on (contents_of s) op).0 s.manager, (operated_on (contents_of s) op).1) ≡ step s k (Operation op)
 untold_operation s k op admitted h =
-    let after : State = record s { resources = (operated s.resources op).0 } in
+    let after : Moment = record s { resources = (operated s.resources op).0 } in
     sym (still (is_quiet s.manager.passes) after (operated s.resources op).1 h) ∙ ap (tell (Operation op)) (sym (act_operation s k op admitted))
 
 -- one that tells
-pub told_operation : (s : State) (k : ℕ) (op : Op) → admission s.manager.passes.rules k (operation_rule op) ≡ None → is_quiet s.manager.passes ≡ true
+pub told_operation : (s : Moment) (k : ℕ) (op : Op) → admission s.manager.passes.rules k (operation_rule op) ≡ None → is_quiet s.manager.passes ≡ true
     → (moment (told_on (contents_of s) op).0 s.manager, (told_on (contents_of s) op).1) ≡ step s k (Operation op)
 told_operation s k op admitted quiet =
-    let after : State = record s { resources = (operated s.resources op).0 } in
+    let after : Moment = record s { resources = (operated s.resources op).0 } in
     ap (λ b. told b after (operated s.resources op).1) (sym quiet) ∙ ap (tell (Operation op)) (sym (act_operation s k op admitted))
 
 -- what only reads changes nothing

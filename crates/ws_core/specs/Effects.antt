@@ -8,20 +8,20 @@ use Rattle.core_event.specs.Events.{operation_of}
 use Rattle.core_event.specs.Replies.{answered}
 use Rattle.job_manager.specs.declared.manager.JobManager.{JobManager}
 use Rattle.job_manager.specs.Effects as managers
-use Rattle.ws_core.specs.declared.state.State.{State}
+use Rattle.ws_core.specs.States.{Moment}
 
 -- the operation is done
-abbrev pub operate : State → Op → State × Answer
+abbrev pub operate : Moment → Op → Moment × Answer
 operate s op = (record s { resources = (ops.effect s.resources op).0 }, answered (ops.effect s.resources op).1)
 
 -- what concerns passes, jobs, rules or batches is done
-abbrev pub managed : State → JobManager × Answer → State × Answer
+abbrev pub managed : Moment → JobManager × Answer → Moment × Answer
 managed s done = (record s { manager = done.0 }, done.1)
 
-abbrev pub effect_by : Option Op → State → ℕ → Event → State × Answer
+abbrev pub effect_by : Option Op → Moment → ℕ → Event → Moment × Answer
 effect_by None s pass event = managed s (managers.effect s.manager pass event)
 effect_by (Some op) s pass event = operate s op
 
 -- the state after the event, and its answer
-abbrev pub effect : State → ℕ → Event → State × Answer
+abbrev pub effect : Moment → ℕ → Event → Moment × Answer
 effect s pass event = effect_by (operation_of event) s pass event

@@ -11,11 +11,11 @@ use Rattle.core_event.specs.declared.entry.Entry.{Entry}
 use Rattle.core_event.specs.declared.reply.Reply.{Reply}
 use Rattle.core_event.specs.Replies.{is_attempt, some_nodes}
 use Rattle.job_manager.specs.Managers.{first_manager}
-use Rattle.ws_core.specs.declared.state.State.{State}
+use Rattle.ws_core.specs.States.{Moment}
 use Rattle.ws_core.specs.Steps.{step, tells}
 
 -- the fresh workspace: the root alone, as node 1, and pass 0
-abbrev pub fresh : State
+abbrev pub fresh : Moment
 fresh = record {
   resources = record { tree = fresh_tree; shelf = empty; next_node = 2; next_stamp = 1; next_marker = 1; partners = [] };
   remembered = record { start = fresh_tree; told = fresh_tree };
@@ -23,25 +23,25 @@ fresh = record {
 }
 
 -- the state after an entry
-abbrev pub after : State → Entry → State
+abbrev pub after : Moment → Entry → Moment
 after s x = (step s x.pass x.event).0
 
 -- the state after a history
-abbrev pub replay : State → List Entry → State
+abbrev pub replay : Moment → List Entry → Moment
 replay s [] = s
 replay s (x ∷ h) = replay (after s x) h
 
 -- what the events of the entries are answered, one after another
-abbrev pub replies : State → List Entry → List Reply
+abbrev pub replies : Moment → List Entry → List Reply
 replies s [] = []
 replies s (x ∷ h) = (step s x.pass x.event).1 ∷ replies (after s x) h
 
 -- the pass has entered, and hasn't left
-abbrev pub has_entered : ℕ → State → Bool
+abbrev pub has_entered : ℕ → Moment → Bool
 has_entered pass s = has_pass s.manager.passes pass
 
 -- each entry's pass has entered before it, and hasn't left
-abbrev pub entered : State → List Entry → Bool
+abbrev pub entered : Moment → List Entry → Bool
 entered s [] = true
 entered s (x ∷ h) = has_entered x.pass s && entered (after s x) h
 
@@ -50,7 +50,7 @@ abbrev pub only_tried : Entry → Bool
 only_tried x = is_attempt x.event x.reply.answer
 
 -- a history that may follow the state s
-pub record Legal (s : State) (h : List Entry) : Type 0 where
+pub record Legal (s : Moment) (h : List Entry) : Type 0 where
   -- each reply is the one that the step gives at its place
   pub replies : map (λ (x : Entry). x.reply) h ≡ replies s h
   -- each pass is there at its place
@@ -63,14 +63,14 @@ abbrev pub unless_empty : List DeltaNode → List (List DeltaNode)
 unless_empty nodes = option_to_list (some_nodes nodes)
 
 -- at each telling place the delta from the told tree to the tree, where there is one; the tree is then told
-abbrev pub notices_from : Tree → State → List Entry → List (List DeltaNode)
+abbrev pub notices_from : Tree → Moment → List Entry → List (List DeltaNode)
 notices_from told s [] = []
 notices_from told s (x ∷ h) =
     let next = after s x in
     if tells x.event next then unless_empty (delta told next.resources.tree) ++ notices_from next.resources.tree next h else notices_from told next h
 
 -- the notices of a history that begins at s, whose tree has been told
-abbrev pub notices : State → List Entry → List (List DeltaNode)
+abbrev pub notices : Moment → List Entry → List (List DeltaNode)
 notices s h = notices_from s.resources.tree s h
 
 -- what the replies of a history tell

@@ -8,17 +8,17 @@ use Rattle.op_kind.specs.Sound as ops
 use Rattle.op_kind.specs.Stamps.{AllDrawn}
 use Rattle.pass_table.specs.Passes.{is_quiet}
 use Rattle.core_event.specs.declared.entry.Entry.{Entry}
-use Rattle.ws_core.specs.declared.state.State.{State}
+use Rattle.ws_core.specs.States.{Moment}
 use Rattle.ws_core.specs.Histories.{Legal, replay}
 
 -- the state that a workspace was opened with, what was done since, and the state now
 pub record Session : Type 0 where
-  pub opened : State
+  pub opened : Moment
   pub history : List Entry
-  pub state : State
+  pub state : Moment
 
 -- what holds of a state at every moment
-pub record IsConsistent (s : State) : Type 0 where
+pub record IsConsistent (s : Moment) : Type 0 where
   -- its resources are sound
   pub resources : ops.IsConsistent s.resources
   -- the trees that are remembered are whole, and their numbers are below their counters

@@ -10,37 +10,36 @@ use Rattle.core_event.specs.declared.reply.Reply.{Reply}
 use Rattle.core_event.specs.Events.{is_checkpoint}
 use Rattle.core_event.specs.Replies.{some_nodes}
 use Rattle.pass_table.specs.Passes.{is_quiet}
-use Rattle.ws_core.specs.declared.state.State.{State}
-use Rattle.ws_core.specs.States.{with_told}
+use Rattle.ws_core.specs.States.{Moment, with_told}
 use Rattle.ws_core.specs.Effects.{effect}
 use Rattle.ws_core.specs.Refusals.{refusal}
 
 -- a refused event changes nothing
-abbrev pub acted : Option Refusal → State → ℕ → Event → State × Answer
+abbrev pub acted : Option Refusal → Moment → ℕ → Event → Moment × Answer
 acted None s pass event = effect s pass event
 acted (Some r) s pass event = (s, Refused r)
 
 -- the state after an event, before anything is told, and the event's answer
-abbrev pub act : State → ℕ → Event → State × Answer
+abbrev pub act : Moment → ℕ → Event → Moment × Answer
 act s pass event = acted (refusal s pass event) s pass event
 
 -- whether the event is a telling place: each Checkpoint, and each other event that leaves no batch open
-abbrev pub tells : Event → State → Bool
+abbrev pub tells : Event → Moment → Bool
 tells event after = is_checkpoint event || is_quiet after.manager.passes
 
 -- what changed since the last telling place
-abbrev pub notice : State → Option (List DeltaNode)
+abbrev pub notice : Moment → Option (List DeltaNode)
 notice s = some_nodes (delta s.remembered.told s.resources.tree)
 
 -- at a telling place the reply carries the notice, and the tree is told
-abbrev pub told : Bool → State → Answer → State × Reply
+abbrev pub told : Bool → Moment → Answer → Moment × Reply
 told true s answer = (record s { remembered = with_told s.remembered s.resources.tree }, record { answer = answer; notice = notice s })
 told false s answer = (s, record { answer = answer; notice = None })
 
 -- what an event did is told where the event is a telling place
-abbrev pub tell : Event → State × Answer → State × Reply
+abbrev pub tell : Event → Moment × Answer → Moment × Reply
 tell event done = told (tells event done.0) done.0 done.1
 
 -- the event of a pass gives a new state and a reply
-abbrev pub step : State → ℕ → Event → State × Reply
+abbrev pub step : Moment → ℕ → Event → Moment × Reply
 step s pass event = tell event (act s pass event)

@@ -152,7 +152,7 @@ impl<T: Remembers + Drop> State<T> {
         event: &Event,
         wants_copy: bool,
     ) -> Result<Twice<Reply>, NoMemory>
-        requires open { is_quiet self.old.manager.passes ≡ false }
+        requires busy { is_quiet self.old.manager.passes ≡ false }
         requires other { is_checkpoint event.now ≡ false }
         requires closes { closes event.now ≡ false }
         requires entered { has_entered pass self.old ≡ true }
@@ -188,7 +188,7 @@ impl<T: Remembers + Drop> State<T> {
         event: &Event,
         wants_copy: bool,
     ) -> Result<Twice<Reply>, NoMemory>
-        requires open { is_quiet self.old.manager.passes ≡ false }
+        requires busy { is_quiet self.old.manager.passes ≡ false }
         requires closes { closes event.now ≡ true }
         ensures ok { IfOk result (λ r. (self.new, r) ≡ doubled wants_copy (step self.old pass event.now)) }
         ensures err { OnErr result (self.new ≡ self.old) }

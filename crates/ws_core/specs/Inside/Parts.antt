@@ -27,8 +27,8 @@ contents r start told = record { resources = r; remembered = record { start = in
 
 -- both are remembered, under two numbers
 pub record AreHeld (remembered : ℕ → Option Tree) (start told : ℕ) : Type 0 where
-  pub start : IsSome (remembered start)
-  pub told : IsSome (remembered told)
+  pub has_start : IsSome (remembered start)
+  pub has_told : IsSome (remembered told)
   pub apart : start ≢ told
 
 abbrev pub moment : Contents → JobManager → Moment
