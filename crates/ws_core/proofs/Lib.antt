@@ -5,3 +5,4 @@ mod Told
 pub mod SoundKept
 mod SessionsKept
 mod Attempts
+mod Renewing

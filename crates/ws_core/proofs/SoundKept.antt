@@ -1,6 +1,6 @@
 -- Each step keeps a state sound.
 use Rattle.std.proofs.Common.{◌≡◌, ℕ, Bool, true, false, ◌||◌, List, [], ◌∷◌, refl, sym, ap, ◌∙◌, subst}
-use Rattle.std.specs.Prelude.{Option, Some, None}
+use Rattle.std.specs.Prelude.{Option, Some, None, Result, Ok, Err, IfOk, OnErr}
 use Rattle.std.specs.Option.{option_map, option_or}
 use Rattle.ws_elem.specs.Stamps.{SameContents, AgreeByStamps}
 use Rattle.ws_elem.specs.Trees.{Tree, Whole}
@@ -19,6 +19,9 @@ use Rattle.pass_table.specs.Passes.{is_quiet}
 use Rattle.core_event.specs.declared.event.Event.{Event}
 use Rattle.core_event.specs.declared.reply.Answer.{Answer}
 use Rattle.core_event.specs.declared.reply.Refusal.{Refusal}
+use Rattle.core_event.specs.declared.reply.Reply.{Reply}
+use Rattle.core_event.specs.declared.twice.Twice.{Twice}
+use Rattle.core_event.specs.Twice.{doubled}
 use Rattle.core_event.specs.declared.reply.Refusal.TheVariants as refusals
 use Rattle.core_event.specs.Events.{is_checkpoint, operation_of}
 use Rattle.job_manager.specs.Admission.{admission}
@@ -188,3 +191,9 @@ act_remembers s k e = by (refusal s k e) (operation_of e) refl
 pub step_start : (s : Moment) (k : ℕ) (e : Event) → (step s k e).0.remembered.start ≡ s.remembered.start
 step_start s k e =
     told_start (tells e (act s k e).0) (act s k e).0 (act s k e).1 ∙ ap (λ (r : Remembered). r.start) (act_remembers s k e)
+
+-- so does a call that makes a step, or changes nothing
+pub sound_after : {E : Type 0} (r : Result (Twice Reply) E) (w : Bool) (s t : Moment) (k : ℕ) (e : Event) → IsConsistent s
+    → IfOk r (λ x. (t, x) ≡ doubled w (step s k e)) → OnErr r (t ≡ s) → IsConsistent t
+sound_after (Ok x) w s t k e h ok err = subst IsConsistent (sym (ap (λ d. d.0) ok)) (step_sound s k e h)
+sound_after (Err x) w s t k e h ok err = subst IsConsistent (sym err) h

@@ -1,6 +1,6 @@
 -- A step by its parts.
 use Rattle.std.proofs.Common.{◌≡◌, ℕ, Bool, true, false, cond, ◌||◌, List, refl, sym, ap, ◌∙◌}
-use Rattle.std.specs.Prelude.{Option, Some, None}
+use Rattle.std.specs.Prelude.{Option, Some, None, Result, Ok, Err, IfOk}
 use Rattle.std.specs.Option.{option_map, option_or}
 use Rattle.delta_kind.proofs.Same.{tells_no_change}
 use Rattle.op_kind.specs.declared.op.Op.{Op}
@@ -30,6 +30,11 @@ use Rattle.ws_core.specs.Effects.{effect, effect_by, managed}
 use Rattle.ws_core.specs.Steps.{acted, act, notice, tell, tells, told, step}
 use Rattle.ws_core.specs.Inside.Parts.{contents_of, moment, operated, operated_by, operated_on, told_on, told_with}
 
+-- what holds where a call succeeds follows from what holds there
+pub if_ok : {T E : Type 0} {P Q : T → Type 0} (r : Result T E) → ((x : T) → P x → Q x) → IfOk r P → IfOk r Q
+if_ok (Ok x) f h = f x h
+if_ok (Err e) f h = tt
+
 -- ---- what is told
 
 -- where the tree is told, or it is no telling place, nothing is
@@ -49,14 +54,10 @@ refused_still s k e r is h = sym (still (tells e s) s (Refused r) h) ∙ ap (λ 
 -- ---- events of passes, jobs, rules and batches
 
 pub act_managed : (s : Moment) (k : ℕ) (e : Event) → operation_of e ≡ None → act s k e ≡ managed s (managing.outcome s.manager k e)
-act_managed s k e none = ap (λ o. acted_by o (refusal_by o s k e)) none ∙ by (managers.refusal s.manager k e)
+act_managed s k e none = ap (λ o. acted (refusal_by o s k e) s k e) none ∙ by (managers.refusal s.manager k e)
   where
-    acted_by : Option Op → Option Refusal → Moment × Answer
-    acted_by o None = effect_by o s k e
-    acted_by o (Some r) = (s, Refused r)
-
-    by : (r : Option Refusal) → acted_by None r ≡ managed s (managing.decided r s.manager k e)
-    by None = refl
+    by : (r : Option Refusal) → acted r s k e ≡ managed s (managing.decided r s.manager k e)
+    by None = ap (λ o. effect_by o s k e) none
     by (Some r) = refl
 
 -- such an event steps so

@@ -1,5 +1,7 @@
 //! What is there, and what it was.
-ghost use Rattle.std.specs.Prelude.{◌≡◌, IfOk, OnErr, None as nothing};
+ghost use Rattle.std.specs.Prelude.{◌≡◌, Ok, IfErr, IfOk, IsErr, OnErr, None as nothing};
+ghost use Rattle.op_kind.specs.Judging.{IfRefused};
+ghost use Rattle.op_kind.specs.declared.refusal.OpError.{OpError};
 ghost use Rattle.op_kind.specs.Resources.{resources};
 ghost use Rattle.delta_kind.specs.Deltas.{delta};
 ghost use Rattle.ws_core.specs.Inside.Parts.{operated_on, told_on, told_with};
@@ -69,11 +71,8 @@ impl<T: Remembers + Drop> Content<T> {
         ensures ok { IfOk result (λ r. (self.new, r) ≡ doubled wants_copy (operated_on self.old op.now)) }
         ensures err { OnErr result (self.new ≡ self.old) }
     {
-        match apply_untold(alloc, &mut self.tree, &mut self.side, op, wants_copy) {
-            Ok(replied) => Ok(replied),
-            Err(OpError::Refused(refusal)) => { refuse(alloc, refusal, wants_copy) }
-            Err(OpError::Memory) => Err(AllocError),
-        }
+        let done = apply_untold(alloc, &mut self.tree, &mut self.side, op, wants_copy);
+        reply_to(alloc, done, wants_copy)
     }
 
     /// Does the operation and tells it, or refuses it, where the tree is as it was told.
@@ -87,18 +86,15 @@ impl<T: Remembers + Drop> Content<T> {
         ensures ok { IfOk result (λ r. (self.new, r) ≡ doubled wants_copy (told_on self.old op.now)) }
         ensures err { OnErr result (self.new ≡ self.old) }
     {
-        match apply_told(
+        let done = apply_told(
             alloc,
             &mut self.tree,
             &mut self.side,
             &mut self.told,
             op,
             wants_copy,
-        ) {
-            Ok(replied) => Ok(replied),
-            Err(OpError::Refused(refusal)) => { refuse(alloc, refusal, wants_copy) }
-            Err(OpError::Memory) => Err(AllocError),
-        }
+        );
+        reply_to(alloc, done, wants_copy)
     }
 
     /// Tells what changed since the tree was told, with the answer.
@@ -133,6 +129,23 @@ impl<T: Remembers + Drop> Content<T> {
         ensures { resources self.now.resources.tree result.now ≡ self.now.resources }
     {
         &self.side
+    }
+}
+
+/// The reply to an operation that is done or refused; a refusal tells nothing.
+fn reply_to(
+    alloc: Global,
+    done: Result<Twice<Reply>, OpError>,
+    wants_copy: bool,
+) -> Result<Twice<Reply>, NoMemory>
+    ensures done { IfOk done (λ r. result ≡ Ok r) }
+    ensures refused { IfErr done (IfRefused (λ x. IfOk result (λ r. r ≡ twice wants_copy (record { answer = Refused (Operation x); notice = nothing })))) }
+    ensures memory { IfErr done (λ e. e ≡ OpError.Memory → IsErr result) }
+{
+    match done {
+        Ok(replied) => Ok(replied),
+        Err(OpError::Refused(refusal)) => refuse(alloc, refusal, wants_copy),
+        Err(OpError::Memory) => Err(AllocError),
     }
 }
 
