@@ -15,6 +15,7 @@ use Rattle.op_kind.specs.declared.op.Want.{Want}
 use Rattle.op_kind.specs.declared.op.Want.TheVariants.{Show, Cat, Tree, Digest}
 use Rattle.op_kind.specs.declared.refusal.OpRefusal.{OpRefusal}
 use Rattle.op_kind.specs.declared.refusal.OpRefusal.TheVariants as ops
+use Rattle.job_queue.specs.States.{state_number}
 use Rattle.script_words.specs.Words.{word_text}
 use Rattle.report_text.specs.Words.{path_word}
 use Rattle.report_text.specs.Elements.{shown_text}
@@ -22,7 +23,7 @@ use Rattle.report_text.specs.Rules.{rule_words}
 use Rattle.report_text.specs.Trees.{digest_text}
 use Rattle.script_ops.specs.Operations.{operation_text}
 use Rattle.core_event.specs.declared.event.Event.{Event}
-use Rattle.core_event.specs.declared.event.Event.TheVariants.{Enter, Leave, Schedule, Take, Finish, Begin, TryBegin, End, Batch, EndBatch, Checkpoint, Operation}
+use Rattle.core_event.specs.declared.event.Event.TheVariants.{Enter, Leave, Schedule, Sleep, Wake, Cancel, Take, Finish, Begin, TryBegin, End, Transfer, Batch, EndBatch, Checkpoint, Operation}
 use Rattle.core_event.specs.declared.reply.Refusal.{Refusal}
 use Rattle.core_event.specs.declared.reply.Refusal.TheVariants as refusals
 use Rattle.core_event.specs.declared.reply.Answer.{Answer}
@@ -30,16 +31,25 @@ use Rattle.core_event.specs.declared.reply.Answer.TheVariants as answers
 use Rattle.core_event.specs.declared.reply.Answer.TheVariants.{Done, Id, Count, Job, Seen, Refused}
 use Rattle.core_event.specs.declared.entry.Entry.{Entry}
 
+-- the word of a job that is scheduled asleep
+abbrev pub asleep_text : Bool → List ℕ
+asleep_text true = codes " asleep"
+asleep_text false = []
+
 -- the command of a script that the event is, or what stands for it
 abbrev pub event_text : Event → List ℕ
 event_text Enter = codes "enter"
 event_text Leave = codes "leave"
-event_text (Schedule name priority rule) = codes "schedule " ++ word_text name ++ codes " " ++ decimal priority ++ codes " " ++ rule_words rule
+event_text (Schedule name priority rule asleep) = codes "schedule " ++ word_text name ++ codes " " ++ decimal priority ++ asleep_text asleep ++ codes " " ++ rule_words rule
+event_text (Sleep name) = codes "sleep " ++ word_text name
+event_text (Wake name) = codes "wake " ++ word_text name
+event_text (Cancel name) = codes "cancel " ++ word_text name
 event_text Take = codes "take"
 event_text Finish = codes "finish"
 event_text (Begin rule) = codes "begin " ++ rule_words rule
 event_text (TryBegin rule) = codes "trybegin " ++ rule_words rule
 event_text (End rule) = codes "end " ++ rule_words rule
+event_text (Transfer to) = codes "transfer " ++ decimal to
 event_text Batch = codes "batch"
 event_text EndBatch = codes "endbatch"
 event_text Checkpoint = codes "checkpoint"
@@ -81,6 +91,11 @@ refusal_text refusals.NumbersUsed = codes "18"
 refusal_text (refusals.NotLast held) = codes "19 " ++ decimal held
 refusal_text refusals.HoldsNothing = codes "20"
 refusal_text (refusals.Conflict holder rule) = codes "30 " ++ decimal holder ++ codes " " ++ rule_words rule
+refusal_text refusals.TargetHolds = codes "31"
+refusal_text refusals.UnknownJob = codes "40"
+refusal_text (refusals.WrongState state) = codes "41 " ++ decimal (state_number state)
+refusal_text refusals.PassBusy = codes "42"
+refusal_text refusals.NoPass = codes "43"
 refusal_text refusals.NoBatch = codes "44"
 
 -- the text of the first element, if there is one
@@ -128,4 +143,17 @@ entry_line x = codes "p" ++ decimal x.pass ++ codes " " ++ event_text x.event ++
 abbrev pub is_shown : Event → Bool
 is_shown Enter = false
 is_shown Leave = false
-is_shown e = true
+is_shown (Schedule name priority rule asleep) = true
+is_shown (Sleep name) = true
+is_shown (Wake name) = true
+is_shown (Cancel name) = true
+is_shown Take = true
+is_shown Finish = true
+is_shown (Begin rule) = true
+is_shown (TryBegin rule) = true
+is_shown (End rule) = true
+is_shown (Transfer to) = true
+is_shown Batch = true
+is_shown EndBatch = true
+is_shown Checkpoint = true
+is_shown (Operation op) = true

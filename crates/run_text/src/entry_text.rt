@@ -45,12 +45,16 @@ pub fn is_shown(event: &Event) -> bool
 {
     match event {
         Event::Enter | Event::Leave => false,
-        Event::Schedule(_, _, _)
+        Event::Schedule(_, _, _, _)
+        | Event::Sleep(_)
+        | Event::Wake(_)
+        | Event::Cancel(_)
         | Event::Take
         | Event::Finish
         | Event::Begin(_)
         | Event::TryBegin(_)
         | Event::End(_)
+        | Event::Transfer(_)
         | Event::Batch
         | Event::EndBatch
         | Event::Checkpoint

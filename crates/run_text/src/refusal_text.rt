@@ -98,6 +98,11 @@ fn put_refusal(out: &mut Vec<u8>, refusal: &Refusal) -> Result<(), NoMemory>
         Refusal::NotLast(held) => put_counted(out, "19 ", *held),
         Refusal::HoldsNothing => put_text(out, "20"),
         Refusal::Conflict(holder, rule) => put_conflict(out, *holder, rule),
+        Refusal::TargetHolds => put_text(out, "31"),
+        Refusal::UnknownJob => put_text(out, "40"),
+        Refusal::WrongState(state) => put_counted(out, "41 ", u64::from(state.number())),
+        Refusal::PassBusy => put_text(out, "42"),
+        Refusal::NoPass => put_text(out, "43"),
         Refusal::NoBatch => put_text(out, "44"),
     }
 }
