@@ -1,5 +1,5 @@
 //! The rules that are held.
-ghost use Rattle.std.specs.Prelude.{◌≡◌, ◌≢◌, ◌⊎◌, ℕ, List, [], ◌∷◌, ◌++◌, true, false, Some, None, Err, IsTrue, IsSome, IfOk, IfErr, OnOk, OnErr, option_copied};
+ghost use Rattle.std.specs.Prelude.{◌≡◌, ◌↔◌, ◌≢◌, ◌⊎◌, ℕ, length, List, [], ◌∷◌, ◌++◌, true, false, Some, None, Err, IsTrue, IsSome, IfOk, IfErr, OnOk, OnErr, option_copied};
 ghost use Rattle.std.specs.Option.{IsSomeAnd};
 ghost use Rattle.sched_rules.specs.Rules.{rule_contains};
 ghost use Rattle.rule_table.specs.Tables.{last_rule, outer_rule, is_free, first_conflict, admits, without_last, moved, without, IsApart};
@@ -39,6 +39,20 @@ impl<A: Atom> RuleTable<A> {
         RuleTable {
             held: Vec::new(alloc),
         }
+    }
+
+    /// How many rules are held, by all holders together.
+    pub fn len(&self) -> usize
+        ensures { result ≡ length self.now }
+    {
+        self.held.len()
+    }
+
+    /// Whether no rule is held.
+    pub fn is_empty(&self) -> bool
+        ensures { IsTrue result ↔ (self.now ≡ []) }
+    {
+        self.held.is_empty()
     }
 
     /// The rule that the holder began last and hasn't ended; none where it has none.

@@ -145,8 +145,7 @@ tells_operation (Ok y) o w op r q f h start told now held quiet allowed after ne
     ((λ i. (p i, s i)) ∙ ap (λ z. doubled w (told_with (record { resources = z; remembered = record { start = in_memory (f start); told = in_memory (f told) } }) (answered (does.effect r op).1))) after
     ∙ ap (λ x. doubled w (told_with (record { resources = (operated_by x r op).0; remembered = record { start = in_memory (f start); told = in_memory (f told) } }) (operated_by x r op).1)) (sym allowed))
 tells_operation (Err (OpRefused x)) o w op r q f h start told now held quiet allowed after new reply refused same kept still given refusal memory =
-    if_ok o (λ y g. (λ i. (same_contents r q f h start told now same kept still i, g i))
-    ∙ silent ∙ ap (λ z. doubled w (told_with (record { resources = (operated_by z r op).0; remembered = record { start = in_memory (f start); told = in_memory (f told) } }) (operated_by z r op).1)) (sym refused)) refusal
+    if_ok o each refusal
   where
     if_ok : {T E : Type 0} {P Q : T → Type 0} (r : Result T E) → ((x : T) → P x → Q x) → IfOk r P → IfOk r Q
     if_ok (Ok x) f h = f x h
@@ -155,9 +154,19 @@ tells_operation (Err (OpRefused x)) o w op r q f h start told now held quiet all
     silent : doubled w (contents r (f start) (f told), record { answer = Refused (Operation x); notice = None })
         ≡ doubled w (told_with (contents r (f start) (f told)) (Refused (Operation x)))
     silent =
-        let back = quiet in
         let none = sym (ap some_nodes (tells_no_change (in_memory (f told)) r.tree quiet)) in
-        λ i. doubled w (record { resources = r; remembered = record { start = in_memory (f start); told = back i } }, record { answer = Refused (Operation x); notice = none i })
+        λ i. doubled w (record { resources = r; remembered = record { start = in_memory (f start); told = quiet i } }, record { answer = Refused (Operation x); notice = none i })
+
+    by_refusal : (z : Option OpRefusal) → z ≡ Some x → doubled w (told_with (contents r (f start) (f told)) (Refused (Operation x)))
+        ≡ doubled w (told_with (record { resources = (operated_by z r op).0; remembered = record { start = in_memory (f start); told = in_memory (f told) } }) (operated_by z r op).1)
+    by_refusal z is = ap (λ y. doubled w (told_with (record { resources = (operated_by y r op).0; remembered = record { start = in_memory (f start); told = in_memory (f told) } }) (operated_by y r op).1)) (sym is)
+
+    each : (y : Twice Reply) → y ≡ twice w (record { answer = Refused (Operation x); notice = None })
+        → (contents q (h start) (h now), y) ≡ doubled w (told_on (contents r (f start) (f told)) op)
+    each y g =
+        let first : (contents q (h start) (h now), y) ≡ doubled w (contents r (f start) (f told), record { answer = Refused (Operation x); notice = None }) =
+        λ i. (same_contents r q f h start told now same kept still i, g i) in
+        first ∙ silent ∙ by_refusal (causes.refusal r op) refused
 tells_operation (Err Memory) o w op r q f h start told now held quiet allowed after new reply refused same kept still given refusal memory = none o (memory refl)
   where
     none : (o : Result (Twice Reply) AllocError) → IsErr o → IfOk o (λ x. (contents q (h start) (h now), x) ≡ doubled w (told_on (contents r (f start) (f told)) op))

@@ -1,3 +1,4 @@
 -- What only the crate's own functions speak of.
 pub mod Codes
 pub mod Parts
+pub mod Rooms

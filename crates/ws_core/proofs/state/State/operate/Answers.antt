@@ -26,9 +26,9 @@ returns-in-Some-clause-ok g c =
     let k = c.args.pass in
     let op = c.args.op.now in
     let w = c.args.wants_copy in
-    let told : is_quiet s.manager.passes ≡ true → s.remembered.told ≡ s.resources.tree = subst (λ (z : Moment). is_quiet z.manager.passes ≡ true → z.remembered.told ≡ z.resources.tree) (sym c.self.view_is) c.requires in
+    let told : is_quiet s.manager.passes ≡ true → s.remembered.told ≡ s.resources.tree = subst (λ (z : Moment). is_quiet z.manager.passes ≡ true → z.remembered.told ≡ z.resources.tree) (sym c.self.view_is) c.requires.quiet in
     let is : refusal s k (Operation op) ≡ Some c.in-Some.refusal =
-    ap (λ a. option_or a (option_map refusals.Operation (ops.refusal s.resources op))) ? in
+    ap (λ a. option_or a (option_map refusals.Operation (ops.refusal s.resources op))) (sym c.in_ok-refusal.ensures ∙ c.in-Some.is) in
     if_ok c.refuse.result (λ r h.
     (λ j. (s, h j))
     ∙ ap (doubled w) (refused_still s k (Operation op) c.in-Some.refusal is told)

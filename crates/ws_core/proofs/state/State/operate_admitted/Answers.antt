@@ -41,10 +41,10 @@ returns-then-is_read-clause-ok g c =
     let w = c.args.wants_copy in
     let admitted : admission s.manager.passes.rules k (operation_rule op) ≡ None = ap (λ (z : Moment). admission z.manager.passes.rules k (operation_rule op)) c.self.view_is ∙ c.requires.admitted in
     let told : is_quiet s.manager.passes ≡ true → s.remembered.told ≡ s.resources.tree = subst (λ (z : Moment). is_quiet z.manager.passes ≡ true → z.remembered.told ≡ z.resources.tree) (sym c.self.view_is) c.requires.quiet in
-    if_ok c.operate-2.result (λ r h.
+    if_ok c.operate-then-is_read.result (λ r h.
     (λ j. (moment ((h j).0) i.manager, (h j).1))
     ∙ ap (doubled w) (untold_operation s k op admitted (λ q. told q ∙ ap (λ (r : Resources). r.tree) (sym (read_same s.resources op (sym c.is_read.ensures ∙ c.if-is_read.true)))))
-    ∙ ap (λ z. doubled w (step z k (Operation op))) c.self.view_is) c.operate-2.ensures.ok
+    ∙ ap (λ z. doubled w (step z k (Operation op))) c.self.view_is) c.operate-then-is_read.ensures.ok
 
 pub returns-clause-ok : goal.returns-clause-ok
 returns-clause-ok g c =
