@@ -8,6 +8,7 @@ use Rattle.delta_kind.specs.Deltas.{delta}
 use Rattle.delta_kind.specs.declared.node.DeltaNode.{DeltaNode}
 use Rattle.pass_table.specs.Passes.{has_pass}
 use Rattle.core_event.specs.declared.entry.Entry.{Entry}
+use Rattle.core_event.specs.declared.event.Event.{Event}
 use Rattle.core_event.specs.declared.reply.Reply.{Reply}
 use Rattle.core_event.specs.Replies.{is_attempt, some_nodes}
 use Rattle.job_manager.specs.Managers.{first_manager}
@@ -78,6 +79,10 @@ abbrev pub told_of : List Entry → List (List DeltaNode)
 told_of [] = []
 told_of (x ∷ h) = option_to_list x.reply.notice ++ told_of h
 
--- the history after an event that is answered so: an attempt leaves no entry
+-- the entry of an event at its place
+abbrev pub entry_of : Moment → ℕ → Event → Entry
+entry_of s pass event = record { pass = pass; event = event; reply = (step s pass event).1 }
+
+-- the history with this entry; an attempt leaves none
 abbrev pub written : List Entry → Entry → List Entry
 written h x = if only_tried x then h else h ++ x ∷ []

@@ -14,6 +14,7 @@
 mod contents;
 mod history;
 mod operating;
+mod session;
 mod state;
 mod stepping;
 
@@ -23,4 +24,5 @@ pub use history::History;
 pub use job_manager::JobManager;
 pub use op_rule::operation_rule;
 pub use res_path::NoMemory;
+pub use session::{Core, JobCount};
 pub use state::State;

@@ -1,21 +1,23 @@
 //! An open workspace.
-ghost use Rattle.std.specs.Prelude.{◌≡◌, ◌≤◌, ◌<◌, ◌+◌, [], IfOk, IsOk, OnOk, OnErr, Some, option_copied, vec_len, vec_capacity};
+ghost use Rattle.std.specs.Prelude.{◌≡◌, ◌<◌, [], true, IfOk, IsOk, IsErr, Ok, OnOk, OnErr, option_copied, vec_len, vec_capacity};
+ghost use Rattle.std.specs.List.{last};
 ghost use Rattle.sched_rules.specs.Atoms.{atom_contains, atom_conflicts};
-ghost use Rattle.rule_table.specs.Tables.{IsApart, last_rule, outer_rule};
+ghost use Rattle.rule_table.specs.Tables.{IsApart, outer_rule};
 ghost use Rattle.delta_kind.specs.Deltas.{delta, TellsContents};
 ghost use Rattle.ws_elem.specs.Trees.{fresh_tree};
 ghost use Rattle.job_queue.specs.Queues.{live};
-ghost use Rattle.core_event.specs.declared.event.Event.TheVariants.{End};
 ghost use Rattle.core_event.specs.Twice.{twice};
 ghost use Rattle.ws_core.specs.Steps.{step};
-ghost use Rattle.ws_core.specs.Histories.{entry_of, fresh, has_entered, last_entry, Legal, notices, replay, told_of, written};
+ghost use Rattle.ws_core.specs.Histories.{entry_of, fresh, has_entered, Legal, notices, replay, told_of, written};
 ghost use Rattle.ws_core.specs.Sessions.{IsConsistent};
-ghost use Rattle.ws_core.specs.Inside.Rooms.{Fits};
+ghost use Rattle.ws_core.specs.Inside.Rooms.{EndsLast, Fits, HasRoom};
 
 use crate::{Entry, Event, History, NoMemory, Reply, State, Twice, WsRule};
 use delta_kind::Delta;
 use elem_tree::LayerTree;
-use std::alloc::Global;
+use rule_table::RuleTable;
+use sched_rules::WsAtom;
+use std::alloc::{AllocError, Global};
 use std::marker::Model;
 use std::snapshot::Snapshot;
 use tree_memory::Remembers;
@@ -63,7 +65,7 @@ impl<T: Remembers + Drop> Model for Core<T> {
     ghost coded = { code_by
         (Moment × (List Entry × Moment))
         (coded× (moment_code element.the_row.coded job_manager.the_row.coded)
-            (coded× (coded_list of_entry.the_row.coded) (moment_code element.the_row.coded job_manager.the_row.coded)))
+        (coded× (coded_list of_entry.the_row.coded) (moment_code element.the_row.coded job_manager.the_row.coded)))
         (λ x. (x.opened, (x.history, x.state)))
         (λ p. record { opened = p.0; history = p.1.0; state = p.1.1 })
         (λ _. refl) };
@@ -71,7 +73,7 @@ impl<T: Remembers + Drop> Model for Core<T> {
     ghost view = { λ c. record { opened = c.opened.value; history = c.entries.items; state = c.state } };
 
     ghost invariant = { λ c. IsSession (record { opened = c.opened.value; history = c.entries.items; state = c.state })
-        × Fits c.state (vec_len c.entries) (vec_capacity c.entries) };
+        × Fits c.state.manager.passes.rules (vec_len c.entries) (vec_capacity c.entries) };
 }
 
 impl Core<LayerTree> {
@@ -115,7 +117,212 @@ impl<T: Remembers + Drop> Core<T> {
         ensures history { OnOk result (self.new.history ≡ written self.old.history (entry_of self.old.state pass event)) }
         ensures err { OnErr result (self.new ≡ self.old) }
     {
-        let replied = step_and_write(&mut self.state, &mut self.entries, alloc, pass, event)?;
-        Ok(replied)
+        match advance(&mut self.state, &mut self.entries, alloc, pass, event, true)? {
+            Some(reply) => Ok(reply),
+            None => unreachable!(),
+        }
     }
+
+    /// As `step`, for who asks `last` for the reply: no reply is copied.
+    pub fn perform(&mut self, alloc: Global, pass: u64, event: Event) -> Result<(), NoMemory>
+        requires { has_entered pass self.old.state ≡ true }
+        ensures opened { self.new.opened ≡ self.old.opened }
+        ensures state { OnOk result (self.new.state ≡ (step self.old.state pass event).0) }
+        ensures history { OnOk result (self.new.history ≡ written self.old.history (entry_of self.old.state pass event)) }
+        ensures err { OnErr result (self.new ≡ self.old) }
+    {
+        advance(
+            &mut self.state,
+            &mut self.entries,
+            alloc,
+            pass,
+            event,
+            false,
+        )?;
+        Ok(())
+    }
+
+    /// The last entry of the history.
+    pub fn last(&self) -> Option<&Entry>
+        ensures { option_copied result ≡ last self.now.history }
+    {
+        self.entries.last()
+    }
+
+    /// What was done since the workspace was opened.
+    pub fn history(&self) -> &[Entry]
+        ensures history { result.now ≡ self.now.history }
+        ensures legal { Legal self.now.opened result.now }
+        ensures told { told_of result.now ≡ notices self.now.opened result.now }
+    {
+        self.entries.as_slice()
+    }
+
+    /// What was done since the workspace was opened, and the state that it led to, as values of their own. It takes no
+    /// memory.
+    pub fn into_history(self) -> (History, State<T>)
+        ensures history { result.0 ≡ self.history }
+        ensures state { result.1 ≡ self.state }
+        ensures legal { Legal self.opened result.0 }
+        ensures told { told_of result.0 ≡ notices self.opened result.0 }
+    {
+        let Core {
+            state,
+            entries,
+            opened: _,
+        } = self;
+        (History::of(entries), state)
+    }
+
+    /// The state.
+    pub fn state(&self) -> &State<T>
+        ensures state { result.now ≡ self.now.state }
+        ensures replayed { result.now ≡ replay self.now.opened self.now.history }
+        ensures sound { IsConsistent result.now }
+        ensures apart { IsApart atom_contains atom_conflicts result.now.manager.passes.rules }
+    {
+        &self.state
+    }
+
+    /// The tree.
+    pub fn tree(&self) -> &T
+        ensures { T.tree result.now ≡ self.now.state.resources.tree }
+    {
+        self.state.tree()
+    }
+
+    /// What changed since the workspace was opened: a path without a node holds the same file bytes, or no file, as it did
+    /// then. Costs what was recorded since then.
+    pub fn since_start(&self, alloc: Global) -> Result<Delta, NoMemory>
+        ensures changed { IfOk result (λ d. d ≡ delta self.now.opened.resources.tree self.now.state.resources.tree) }
+        ensures replayed { IfOk result (λ d. d ≡ delta self.now.opened.resources.tree (replay self.now.opened self.now.history).resources.tree) }
+        ensures contents { IfOk result (λ d. TellsContents self.now.opened.resources.tree self.now.state.resources.tree d) }
+    {
+        self.state.since_start(alloc)
+    }
+
+    /// How many jobs wait or are run, and how many were finished.
+    pub fn jobs(&self) -> JobCount
+        ensures live { result.live ≡ live self.now.state.manager.jobs }
+        ensures finished { result.finished ≡ self.now.state.manager.jobs.finished }
+    {
+        let jobs = &self.state.manager().jobs;
+        JobCount {
+            live: jobs.live(),
+            finished: jobs.finished(),
+        }
+    }
+
+    /// The topmost rule of the pass that isn't null; none where it has none. It takes no memory.
+    pub fn outer(&self, pass: u64) -> Option<&WsRule>
+        ensures { option_copied result ≡ outer_rule pass self.now.state.manager.passes.rules }
+    {
+        self.state.manager().passes.rules().outer(pass)
+    }
+
+    /// Whether the pass has entered and hasn't left.
+    pub fn has_entered(&self, pass: u64) -> bool
+        ensures { result ≡ has_entered pass self.now.state }
+    {
+        self.state.manager().passes.has(pass)
+    }
+}
+
+/// Does the event, and adds it to the entries with its reply, of which it gives a copy where one is wanted. Where memory
+/// wants, nothing was done.
+fn advance<T: Remembers + Drop>(
+    state: &mut State<T>,
+    entries: &mut Vec<Entry>,
+    alloc: Global,
+    pass: u64,
+    event: Event,
+    wants_copy: bool,
+) -> Result<Option<Reply>, NoMemory>
+    requires sound { IsConsistent state.old }
+    requires entered { has_entered pass state.old ≡ true }
+    requires fits { Fits state.old.manager.passes.rules (vec_len entries.old) (vec_capacity entries.old) }
+    ensures state { OnOk result (state.new ≡ (step state.old pass event).0) }
+    ensures entries { OnOk result (entries.new.items ≡ written entries.old.items (entry_of state.old pass event)) }
+    ensures copy { IfOk result (λ copy. copy ≡ (twice wants_copy (step state.old pass event).1).copy) }
+    ensures same { OnErr result (state.new ≡ state.old) }
+    ensures no_entry { OnErr result (entries.new.items ≡ entries.old.items) }
+    ensures fits { Fits state.new.manager.passes.rules (vec_len entries.new) (vec_capacity entries.new) }
+{
+    make_room(entries, state.manager().passes.rules(), pass, &event)?;
+    let replied = state.step(alloc, pass, &event, wants_copy);
+    write(entries, pass, event, replied)
+}
+
+/// Room for an entry of the event, and then for one for each rule that may be held. It takes no memory where the event
+/// ends the rule that the pass began last.
+fn make_room(
+    entries: &mut Vec<Entry>,
+    held: &RuleTable<WsAtom>,
+    pass: u64,
+    event: &Event,
+) -> Result<(), NoMemory>
+    requires { Fits held.now (vec_len entries.old) (vec_capacity entries.old) }
+    ensures items { entries.new.items ≡ entries.old.items }
+    ensures room { OnOk result (HasRoom held.now pass event.now (vec_len entries.new) (vec_capacity entries.new)) }
+    ensures fits { Fits held.now (vec_len entries.new) (vec_capacity entries.new) }
+{
+    if ends_last(held, pass, event) {
+        return Ok(());
+    }
+    let Some(more) = held.len().checked_add(2) else {
+        return Err(AllocError);
+    };
+    entries.reserve(more)?;
+    Ok(())
+}
+
+/// Whether the event ends the rule that the pass began last.
+fn ends_last(held: &RuleTable<WsAtom>, pass: u64, event: &Event) -> bool
+    ensures { result ≡ true → EndsLast held.now pass event.now }
+{
+    let Event::End(rule) = event else {
+        return false;
+    };
+    match held.last(pass) {
+        Some(last) => last == rule,
+        None => false,
+    }
+}
+
+/// Adds the entry of the event, where there is a reply, unless the event only found that it must wait.
+fn write(
+    entries: &mut Vec<Entry>,
+    pass: u64,
+    event: Event,
+    replied: Result<Twice<Reply>, NoMemory>,
+) -> Result<Option<Reply>, NoMemory>
+    requires { IsOk replied → vec_len entries.old < vec_capacity entries.old }
+    ensures ok { IfOk replied (λ r. (entries.new.items ≡ written entries.old.items (record { pass = pass; event = event; reply = r.value })) × (result ≡ Ok r.copy)) }
+    ensures err { OnErr replied ((entries.new.items ≡ entries.old.items) × IsErr result) }
+    ensures capacity { vec_capacity entries.new ≡ vec_capacity entries.old }
+{
+    match replied {
+        Ok(replied) => {
+            let Twice { value, copy } = replied;
+            add(entries, pass, event, value);
+            Ok(copy)
+        }
+        Err(wanted) => {
+            drop(event);
+            Err(wanted)
+        }
+    }
+}
+
+/// Adds the entry, for which there is room, unless it only found that it must wait.
+fn add(entries: &mut Vec<Entry>, pass: u64, event: Event, reply: Reply)
+    requires { vec_len entries.old < vec_capacity entries.old }
+    ensures items { entries.new.items ≡ written entries.old.items (record { pass = pass; event = event; reply = reply }) }
+    ensures capacity { vec_capacity entries.new ≡ vec_capacity entries.old }
+{
+    if reply.answer.is_attempt(&event) {
+        drop(event);
+        return;
+    }
+    entries.push_reserved(Entry { pass, event, reply });
 }
