@@ -1,0 +1,12 @@
+//! A store of texts over two areas.
+#![tactic(auto)]
+
+mod desk;
+mod faults;
+mod store;
+mod texts;
+
+pub use desk::Desk;
+pub use faults::SaveFault;
+pub use store::AreaStore;
+pub use texts::Texts;
