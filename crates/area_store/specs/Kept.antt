@@ -48,17 +48,22 @@ ReadsAs points both = (point : Point) × Among point points × (reads both ≡ O
 abbrev pub IsWhole : ℕ → Texts → ℕ → List ℕ → Type 0
 IsWhole number texts gate bytes = area_of bytes ≡ Ok (Some record { number = number; image = texts.image; records = texts.records; end = Ok gate })
 
--- an area stands for a point: it is closed where that is nothing, and its number counts as 0
-abbrev pub Stands : ℕ → Point → List ℕ → Type 0
-Stands number None bytes = (number ≡ 0) × (head_of bytes ≡ Ok None)
-Stands number (Some texts) bytes = (gate : ℕ) × IsWhole number texts gate bytes
+-- an area that stands for nothing: one that is known to be shut, or else too short for a head
+abbrev pub IsUnused : Bool → List ℕ → Type 0
+IsUnused true bytes = IsShut bytes
+IsUnused false bytes = length bytes < 57
+
+-- an area stands for a point; for nothing it has the number 0
+abbrev pub Stands : Bool → ℕ → Point → List ℕ → Type 0
+Stands shut number None bytes = (number ≡ 0) × IsUnused shut bytes
+Stands shut number (Some texts) bytes = (shut ≡ false) × ((gate : ℕ) × IsWhole number texts gate bytes)
 
 -- the same, with the place of its gate
-abbrev pub StandsAt : ℕ → Option ℕ → Point → List ℕ → Type 0
-StandsAt number None None bytes = (number ≡ 0) × (head_of bytes ≡ Ok None)
-StandsAt number (Some gate) None bytes = ⊥
-StandsAt number None (Some texts) bytes = ⊥
-StandsAt number (Some gate) (Some texts) bytes = IsWhole number texts gate bytes
+abbrev pub StandsAt : Bool → ℕ → Option ℕ → Point → List ℕ → Type 0
+StandsAt shut number None None bytes = (number ≡ 0) × IsUnused shut bytes
+StandsAt shut number (Some gate) None bytes = ⊥
+StandsAt shut number None (Some texts) bytes = ⊥
+StandsAt shut number (Some gate) (Some texts) bytes = (shut ≡ false) × IsWhole number texts gate bytes
 
 -- beside an area of a number at this side one with the number n isn't chosen
 abbrev pub Loses : Which → ℕ → ℕ → Type 0
@@ -80,13 +85,13 @@ pub record IsKept {D : Type 0} (may_leave : D → Contents → Type 0) (first : 
   pub number : ℕ
   pub below : number ≤ desk.top
   pub high : desk.top < 2 ^ 63
-  -- the home area stands for one of the points, and where the last save was acknowledged for the first
-  pub stands : Each (may_leave desk.disk) (λ c. (point : Point) × Among point (first ∷ begun) × Stands number point (held desk.home c))
-  pub sure : desk.failed ≡ false → Each (may_leave desk.disk) (λ c. StandsAt number desk.gate first (held desk.home c))
-  -- the other one is known to be shut, or it stands for a point or for nothing, whatever its gate is torn to
-  pub shut : desk.shut ≡ true → Each (may_leave desk.disk) (λ c. IsShut (held (other desk.home) c))
-  pub torn : desk.shut ≡ false → Each (may_leave desk.disk) (λ c. IsTornSafe desk.home number begun (held (other desk.home) c))
-  pub calm : desk.failed ≡ false → desk.shut ≡ false → Each (may_leave desk.disk) (λ c. IsTornSafe desk.home number [] (held (other desk.home) c))
+  -- the home area stands for one of the points, and where the last save didn't fail for the first
+  pub stands : Each (may_leave desk.disk) (λ c. (point : Point) × Among point (first ∷ begun) × Stands desk.home_shut number point (held desk.home c))
+  pub sure : desk.failed ≡ false → Each (may_leave desk.disk) (λ c. StandsAt desk.home_shut number desk.gate first (held desk.home c))
+  -- the spare one is known to be shut, or it stands for a point or for nothing, whatever its gate is torn to
+  pub shut : desk.spare_shut ≡ true → Each (may_leave desk.disk) (λ c. IsShut (held (other desk.home) c))
+  pub torn : desk.spare_shut ≡ false → Each (may_leave desk.disk) (λ c. IsTornSafe desk.home number begun (held (other desk.home) c))
+  pub calm : desk.failed ≡ false → desk.spare_shut ≡ false → Each (may_leave desk.disk) (λ c. IsTornSafe desk.home number [] (held (other desk.home) c))
 
 -- some point was saved or opened last
 abbrev pub IsSound : {D : Type 0} → (D → Contents → Type 0) → Desk D → Type 0
