@@ -83,7 +83,6 @@ module _ {D : Type 0} (may_leave : D → Contents → Type 0) (first : Point) (b
   appending_kept disk came = record {
     number = kept.number;
     below = kept.below;
-    high = kept.high;
     stands = λ c left. appending c (came c left);
     sure = λ e. absurd (cc e);
     shut = λ e c left. let d = came c left in subst IsShut (sym (apart desk.home (Growing gate body) d.0 c d.2)) (kept.shut e d.0 d.1);
@@ -96,15 +95,14 @@ module _ {D : Type 0} (may_leave : D → Contents → Type 0) (first : Point) (b
       → IsKept may_leave (recorded body first) [] record desk { disk = disk; gate = Some (gate + 41 + length body); failed = false }
   appended_kept disk came more =
       let here : (c : Contents) → may_leave disk c → StandsAt desk.home_shut kept.number (Some (gate + 41 + length body)) (recorded body first) (held desk.home c) = λ c left.
-          let d = came c left in
-          stands_grown desk.home_shut kept.number gate desk.gate first body (held desk.home d.0) (held desk.home c) at (kept.sure sound d.0 d.1) d.2.here (more c left) in
+      let d = came c left in
+      stands_grown desk.home_shut kept.number gate desk.gate first body (held desk.home d.0) (held desk.home c) at (kept.sure sound d.0 d.1) d.2.here (more c left) in
       let safe : desk.spare_shut ≡ false → (c : Contents) → may_leave disk c → IsTornSafe desk.home kept.number [] (held (other desk.home) c) = λ e c left.
-          let d = came c left in
-          subst (IsTornSafe desk.home kept.number []) (sym (apart desk.home (Growing gate body) d.0 c d.2)) (kept.calm sound e d.0 d.1) in
+      let d = came c left in
+      subst (IsTornSafe desk.home kept.number []) (sym (apart desk.home (Growing gate body) d.0 c d.2)) (kept.calm sound e d.0 d.1) in
       record {
         number = kept.number;
         below = kept.below;
-        high = kept.high;
         stands = λ c left. (recorded body first, inl refl, stands_of desk.home_shut kept.number (gate + 41 + length body) (recorded body first) (held desk.home c) (here c left));
         sure = λ _ c left. here c left;
         shut = λ e c left. let d = came c left in subst IsShut (sym (apart desk.home (Growing gate body) d.0 c d.2)) (kept.shut e d.0 d.1);

@@ -1,3 +1,4 @@
 pub mod Appends
 pub mod Points
+pub mod Sound
 pub mod Steps

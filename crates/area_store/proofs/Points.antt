@@ -112,8 +112,8 @@ reads_as home shut number points begun point c among wider stands (inr (inr new)
       Some new.1,
       wider (Some new.1) new.4,
       ap (reads_by c) (heads_read home c here.0 (Some there.0) here.1 there.1)
-      ∙ ap (texts_of c) (spare_chosen home here.0 there.0 (omega (arith, here.2, there.2, new.3)))
-      ∙ texts_read (other home) c new.0 new.1 new.2 new.5,
+          ∙ ap (texts_of c) (spare_chosen home here.0 there.0 (omega (arith, here.2, there.2, new.3)))
+          ∙ texts_read (other home) c new.0 new.1 new.2 new.5,
     )
 
 pub spare_shut : (home : Which) (number : ℕ) (begun : List Point) (bytes : List ℕ) → IsShut bytes → IsSpare home number begun bytes

@@ -21,16 +21,15 @@ module _ {D : Type 0} (may_leave : D → Contents → Type 0) (first : Point) (b
       reads_as desk.home desk.home_shut kept.number (first ∷ later) later s.0 c (wider s.0 s.1) (λ p among. inr among) here spare
 
   -- the store after such steps
-  pub moved : (later : List Point) → Wider later → (R : List ℕ → List ℕ → Type 0) (disk : D) (top : ℕ) (shut failed : Bool) → desk.top ≤ top → top < 2 ^ 63 → (failed ≡ false → desk.failed ≡ false)
+  pub moved : (later : List Point) → Wider later → (R : List ℕ → List ℕ → Type 0) (disk : D) (top : ℕ) (shut failed : Bool) → desk.top ≤ top → (failed ≡ false → desk.failed ≡ false)
       → Each (may_leave disk) (Came (may_leave desk.disk) (InArea (other desk.home) R))
       → (shut ≡ true → Each (may_leave disk) (λ c. IsShut (held (other desk.home) c)))
       → (shut ≡ false → Each (may_leave disk) (λ c. IsTornSafe desk.home kept.number later (held (other desk.home) c)))
       → (failed ≡ false → shut ≡ false → Each (may_leave disk) (λ c. IsTornSafe desk.home kept.number [] (held (other desk.home) c)))
       → IsKept may_leave first later record { disk = disk; home = desk.home; gate = desk.gate; top = top; home_shut = desk.home_shut; spare_shut = shut; failed = failed }
-  moved later wider R disk top shut failed above high fails came shuts torn calm = record {
+  moved later wider R disk top shut failed above fails came shuts torn calm = record {
     number = kept.number;
     below = omega (arith, kept.below, above);
-    high = high;
     stands = λ c left.
         let d = came c left in
         let s = kept.stands d.0 d.1 in
@@ -65,7 +64,6 @@ module _ {D : Type 0} (may_leave : D → Contents → Type 0) (first : Point) (b
   failing = record {
     number = kept.number;
     below = kept.below;
-    high = kept.high;
     stands = kept.stands;
     sure = λ e. absurd (cc e);
     shut = kept.shut;
@@ -78,12 +76,12 @@ module _ {D : Type 0} (may_leave : D → Contents → Type 0) (first : Point) (b
   closing_reads unshut c came = moved_reads begun same SameBehind came.0 c came.1 came.2 (kept.torn unshut came.0 came.1 (held (other desk.home) c) came.2.here)
 
   pub closing_kept : (disk : D) → desk.spare_shut ≡ false → Each (may_leave disk) (Came (may_leave desk.disk) (InArea (other desk.home) SameBehind)) → IsKept may_leave first begun record desk { disk = disk }
-  closing_kept disk unshut came = moved begun same SameBehind disk desk.top desk.spare_shut desk.failed (omega arith) kept.high (λ e. e) came (λ e. absurd (cc (sym e ∙ unshut)))
+  closing_kept disk unshut came = moved begun same SameBehind disk desk.top desk.spare_shut desk.failed (omega arith) (λ e. e) came (λ e. absurd (cc (sym e ∙ unshut)))
       (λ _ c left. let d = came c left in torn_on desk.home kept.number begun (held (other desk.home) d.0) (held (other desk.home) c) d.2.here (kept.torn unshut d.0 d.1))
       (λ ok _ c left. let d = came c left in torn_on desk.home kept.number [] (held (other desk.home) d.0) (held (other desk.home) c) d.2.here (kept.calm ok unshut d.0 d.1))
 
   pub closed_kept : (disk : D) → Each (may_leave disk) (Came (may_leave desk.disk) (InArea (other desk.home) (Becomes (λ old. 0 ∷ drop 1 old)))) → IsKept may_leave first begun record desk { disk = disk; spare_shut = true }
-  closed_kept disk came = moved begun same (Becomes (λ old. 0 ∷ drop 1 old)) disk desk.top true desk.failed (omega arith) kept.high (λ e. e) came
+  closed_kept disk came = moved begun same (Becomes (λ old. 0 ∷ drop 1 old)) disk desk.top true desk.failed (omega arith) (λ e. e) came
       (λ _ c left. let d = came c left in subst IsShut (sym d.2.here) (λ e. absurd (omega (arith, e)))) (λ e. absurd (cc e)) (λ _ e. absurd (cc e))
 
   -- one point more may stand there
@@ -91,7 +89,6 @@ module _ {D : Type 0} (may_leave : D → Contents → Type 0) (first : Point) (b
   more_kept p = record {
     number = kept.number;
     below = kept.below;
-    high = kept.high;
     stands = λ c left. let s = kept.stands c left in (s.0, one_more p s.0 s.1, s.2);
     sure = kept.sure;
     shut = kept.shut;
@@ -112,7 +109,7 @@ module _ {D : Type 0} (may_leave : D → Contents → Type 0) (first : Point) (b
 
     pub laying_kept : (disk : D) → desk.spare_shut ≡ true → desk.failed ≡ true → Each (may_leave disk) (Came (may_leave desk.disk) (InArea (other desk.home) (λ _ s. IsShut s)))
         → IsKept may_leave first later record desk { disk = disk; top = n }
-    laying_kept disk shut failed came = moved later (one_more (saved image)) (λ _ s. IsShut s) disk n desk.spare_shut desk.failed (omega (arith, above)) high (λ e. absurd (cc (sym e ∙ failed))) came
+    laying_kept disk shut failed came = moved later (one_more (saved image)) (λ _ s. IsShut s) disk n desk.spare_shut desk.failed (omega (arith, above)) (λ e. absurd (cc (sym e ∙ failed))) came
         (λ _ c left. (came c left).2.here) (λ e. absurd (cc (sym e ∙ shut))) (λ e. absurd (cc (sym e ∙ failed)))
 
     abbrev pub IsNew : List ℕ → List ℕ → Type 0
@@ -137,7 +134,7 @@ module _ {D : Type 0} (may_leave : D → Contents → Type 0) (first : Point) (b
         (d.0, d.1, record { here = m.2.here ∙ ap (λ l. 1 ∷ l) d.2.here.behind; there = m.2.there ∙ d.2.there })
 
     pub opening_kept : (disk : D) → desk.failed ≡ true → Each (may_leave disk) (Came (may_leave desk.disk) (InArea (other desk.home) IsNew)) → IsKept may_leave first later record desk { disk = disk; top = n; spare_shut = false }
-    opening_kept disk failed came = moved later (one_more (saved image)) IsNew disk n false desk.failed (omega (arith, above)) high (λ e. absurd (cc (sym e ∙ failed))) came (λ e. absurd (cc e))
+    opening_kept disk failed came = moved later (one_more (saved image)) IsNew disk n false desk.failed (omega (arith, above)) (λ e. absurd (cc (sym e ∙ failed))) came (λ e. absurd (cc e))
         (λ _ c left torn same. new_is_spare torn (same ∙ (came c left).2.here)) (λ e. absurd (cc (sym e ∙ failed)))
 
     -- the new image is on the disk, and the home area of before is the spare one
@@ -146,15 +143,14 @@ module _ {D : Type 0} (may_leave : D → Contents → Type 0) (first : Point) (b
     opened_kept disk came =
         let new : (c : Contents) → may_leave disk c → Stands false n (saved image) (held (other desk.home) c) = λ c left. (refl, (57 + length image, image_whole n image (held (other desk.home) c) small (omega (arith, above)) high (came c left).2.here)) in
         let old : (c : Contents) → may_leave disk c → (p : Point) × Stands desk.home_shut kept.number p (held (other (other desk.home)) c) = λ c left.
-            let d = came c left in
-            let s = kept.stands d.0 d.1 in
-            (s.0, subst (Stands desk.home_shut kept.number s.0) (ap (λ w. held w c) (sym (twice desk.home))) (subst (Stands desk.home_shut kept.number s.0) (sym (stays desk.home (λ _ s. s ≡ 1 ∷ behind_gate n image) d.0 c d.2)) s.2)) in
+        let d = came c left in
+        let s = kept.stands d.0 d.1 in
+        (s.0, subst (Stands desk.home_shut kept.number s.0) (ap (λ w. held w c) (sym (twice desk.home))) (subst (Stands desk.home_shut kept.number s.0) (sym (stays desk.home (λ _ s. s ≡ 1 ∷ behind_gate n image) d.0 c d.2)) s.2)) in
         let safe : desk.home_shut ≡ false → (c : Contents) → may_leave disk c → IsTornSafe (other desk.home) n [] (held (other (other desk.home)) c) = λ e c left.
-            let s = old c left in old_spare (other desk.home) n desk.home_shut kept.number s.0 [] (held (other (other desk.home)) c) e (omega (arith, kept.below, above)) s.1 in
+        let s = old c left in old_spare (other desk.home) n desk.home_shut kept.number s.0 [] (held (other (other desk.home)) c) e (omega (arith, kept.below, above)) s.1 in
         record {
           number = n;
           below = omega arith;
-          high = high;
           stands = λ c left. (saved image, inl refl, new c left);
           sure = λ _ c left. (refl, ((new c left).1).1);
           shut = λ e c left. let s = old c left in old_shut desk.home_shut kept.number s.0 (held (other (other desk.home)) c) e s.1;

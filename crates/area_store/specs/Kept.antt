@@ -1,5 +1,5 @@
 -- What a crash leaves of a store's two areas.
-use Rattle.std.specs.Prelude.{◌≡◌, ◌≤◌, ◌<◌, ◌+◌, ◌-◌, ◌^◌, ◌⊎◌, ℕ, List, [], ◌∷◌, ◌++◌, length, Bool, true, false, if◌then◌else◌, nat_le, Option, Some, None, Result, Ok, Err, IfSome}
+use Rattle.std.specs.Prelude.{◌≡◌, ◌≤◌, ◌<◌, ◌+◌, ◌-◌, ◌^◌, ◌⊎◌, ℕ, List, [], ◌∷◌, ◌++◌, length, Bool, true, false, if◌then◌else◌, nat_le, Option, Some, None, Result, Ok, Err, IfSome, unwrap_or}
 use Rattle.ws_outside.specs.declared.contents.Contents.{Contents}
 use Rattle.ws_outside.specs.declared.contents.Which.{Which}
 use Rattle.ws_outside.specs.declared.contents.Which.TheVariants.{Left, Right}
@@ -84,7 +84,6 @@ IsTornSafe home number begun bytes = (torn : List ℕ) → SameBehind bytes torn
 pub record IsKept {D : Type 0} (may_leave : D → Contents → Type 0) (first : Point) (begun : List Point) (desk : Desk D) : Type 0 where
   pub number : ℕ
   pub below : number ≤ desk.top
-  pub high : desk.top < 2 ^ 63
   -- the home area stands for one of the points, and where the last save didn't fail for the first
   pub stands : Each (may_leave desk.disk) (λ c. (point : Point) × Among point (first ∷ begun) × Stands desk.home_shut number point (held desk.home c))
   pub sure : desk.failed ≡ false → Each (may_leave desk.disk) (λ c. StandsAt desk.home_shut number desk.gate first (held desk.home c))
@@ -104,6 +103,10 @@ room_at failed (Some gate) = if failed then None else (if nat_le (gate + 42) (2 
 
 abbrev pub room_of : {D : Type 0} → Desk D → Option ℕ
 room_of desk = room_at desk.failed desk.gate
+
+-- the place of the gate behind the acknowledged texts
+abbrev pub gate_of : {D : Type 0} → Desk D → ℕ
+gate_of desk = unwrap_or desk.gate 0
 
 -- `Disk` exactly where the count rose
 abbrev pub FaultOf : ℕ → ℕ → SaveFault → Type 0

@@ -5,7 +5,7 @@ ghost use Rattle.disk_area.specs.Area.{behind_gate, record_behind};
 ghost use Rattle.ws_outside.specs.Faults.{HasCause};
 ghost use Rattle.disk_area.specs.Reading.{IsClosedAt};
 ghost use Rattle.disk_area.specs.Writes.{IsShut};
-ghost use Rattle.area_store.specs.Kept.{Point, other, saved, recorded, ReadsAs, IsKept, FaultOf};
+ghost use Rattle.area_store.specs.Kept.{Point, other, saved, recorded, ReadsAs, IsKept, room_of, FaultOf};
 
 use crate::SaveFault;
 use disk_area::{close_gate, lay_image, open_gate, write_record};
@@ -13,6 +13,9 @@ use ws_outside::{Disk, Failed, Which};
 
 /// The most bytes of an image, so that it fits an area with its header and its gate.
 const LARGEST_IMAGE: usize = (1 << 30) - 58;
+
+/// The most bytes of an area.
+const LARGEST_AREA: u64 = 1 << 30;
 
 /// The last save number.
 const LAST_NUMBER: u64 = (1 << 63) - 1;
@@ -102,7 +105,6 @@ impl<D: Disk> Desk<D> {
     /// A full save into the spare area.
     pub(crate) fn full(&mut self, image: &[u8]) -> Result<(), SaveFault>
         requires known { self.old.spare_shut ≡ true → Each (D.may_leave self.old.disk) (λ c. IsShut (held (other self.old.home) c)) }
-        requires high { self.old.top < 2 ^ 63 }
         ensures any_moment { (first : Point) (begun : List Point) → IsKept D.may_leave first begun self.old
             → LeavesOnly D.moment D.left_since D.may_leave self.old.disk self.new.disk (ReadsAs (first ∷ begun ++ saved image.now ∷ [])) }
         ensures saved { OnOk result ((first : Point) (begun : List Point) → IsKept D.may_leave first begun self.old → IsKept D.may_leave (saved image.now) [] self.new) }
@@ -116,7 +118,7 @@ impl<D: Disk> Desk<D> {
         ensures seen { OnOk result (D.seen self.new.disk ≡ option_map (λ both. holding (other self.old.home) (1 ∷ behind_gate (self.old.top + 1) image.now) both) (D.seen self.old.disk)) }
         ensures beside { option_map (beside (other self.old.home)) (D.seen self.new.disk) ≡ option_map (beside (other self.old.home)) (D.seen self.old.disk) }
         ensures too_large { result ≡ Err SaveFault.TooLarge ↔ (2 ^ 30 < 58 + length image.now) }
-        ensures numbers_used { result ≡ Err SaveFault.NumbersUsed ↔ ((58 + length image.now ≤ 2 ^ 30) × (self.old.top ≡ 2 ^ 63 - 1)) }
+        ensures numbers_used { result ≡ Err SaveFault.NumbersUsed ↔ ((58 + length image.now ≤ 2 ^ 30) × (2 ^ 63 - 1 ≤ self.old.top)) }
         ensures refused { (result ≡ Err SaveFault.TooLarge) ⊎ (result ≡ Err SaveFault.NumbersUsed) → self.new ≡ record self.old { failed = true } }
         ensures cause { MatchResult result (λ _. D.faults self.new.disk ≡ D.faults self.old.disk) (FaultOf (D.faults self.old.disk) (D.faults self.new.disk)) }
     {
@@ -124,7 +126,7 @@ impl<D: Disk> Desk<D> {
         if image.len() > LARGEST_IMAGE {
             return Err(SaveFault::TooLarge);
         }
-        if self.top == LAST_NUMBER {
+        if self.top >= LAST_NUMBER {
             return Err(SaveFault::NumbersUsed);
         }
         self.close_spare()?;
@@ -156,5 +158,16 @@ impl<D: Disk> Desk<D> {
         self.gate = Some(gate + 41 + body.len() as u64);
         self.failed = false;
         Ok(())
+    }
+
+    /// The most bytes that the body of a record may have, where one may be written.
+    pub(crate) fn room(&self) -> Option<u64>
+        ensures { result ≡ room_of self.now }
+    {
+        let gate = self.gate?;
+        if self.failed {
+            return None;
+        }
+        LARGEST_AREA.checked_sub(gate.checked_add(42)?)
     }
 }

@@ -11,8 +11,8 @@ returns-then-image-gt-LARGEST_IMAGE-clause-any_moment g c first begun kept =
     at_start d.moment d.left_since d.may_leave g.met.D.Disk.only_now old.disk (ReadsAs (first ∷ begun ++ saved c.args.image.now ∷ []))
     (λ e left. reads_more d.may_leave first begun old kept (saved c.args.image.now) e (start_reads d.may_leave first begun old kept e left))
 
-pub returns-then-self-eq-LAST_NUMBER-clause-any_moment : goal.returns-then-self-eq-LAST_NUMBER-clause-any_moment
-returns-then-self-eq-LAST_NUMBER-clause-any_moment g c first begun kept =
+pub returns-then-self-ge-LAST_NUMBER-clause-any_moment : goal.returns-then-self-ge-LAST_NUMBER-clause-any_moment
+returns-then-self-ge-LAST_NUMBER-clause-any_moment g c first begun kept =
     let d = g.D.Disk in
     let old = c.args.self.now in
     at_start d.moment d.left_since d.may_leave g.met.D.Disk.only_now old.disk (ReadsAs (first ∷ begun ++ saved c.args.image.now ∷ []))
@@ -23,8 +23,8 @@ returns-then-image-gt-LARGEST_IMAGE-clause-unsaved g c first begun kept =
     let d = g.D.Disk in
     more_kept d.may_leave first begun _ (failing d.may_leave first begun c.args.self.now kept) (saved c.args.image.now)
 
-pub returns-then-self-eq-LAST_NUMBER-clause-unsaved : goal.returns-then-self-eq-LAST_NUMBER-clause-unsaved
-returns-then-self-eq-LAST_NUMBER-clause-unsaved g c first begun kept =
+pub returns-then-self-ge-LAST_NUMBER-clause-unsaved : goal.returns-then-self-ge-LAST_NUMBER-clause-unsaved
+returns-then-self-ge-LAST_NUMBER-clause-unsaved g c first begun kept =
     let d = g.D.Disk in
     more_kept d.may_leave first begun _ (failing d.may_leave first begun c.args.self.now kept) (saved c.args.image.now)
 
