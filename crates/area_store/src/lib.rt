@@ -3,6 +3,7 @@
 
 mod desk;
 mod faults;
+mod opening;
 mod store;
 mod texts;
 
