@@ -4,13 +4,14 @@ use Rattle.ws_outside.specs.declared.contents.Contents.{Contents}
 use Rattle.ws_outside.specs.declared.contents.Which.{Which}
 use Rattle.ws_outside.specs.declared.contents.Which.TheVariants.{Left, Right}
 use Rattle.ws_outside.specs.Disk.{held, picked}
+use Rattle.disk_area.specs.declared.bodies.Area.{Area}
 use Rattle.disk_area.specs.declared.damage.AreaFault.{AreaFault}
 use Rattle.disk_area.specs.declared.damage.AreaFault.TheVariants.{Disk, Damaged, Memory}
-use Rattle.disk_area.specs.Reading.{area_of}
+use Rattle.disk_area.specs.Reading.{Place, area_of}
 use Rattle.area_store.specs.declared.desk.Desk.{Desk}
 use Rattle.area_store.specs.declared.opening.Found.{Found}
 use Rattle.area_store.specs.declared.texts.Texts.{Texts}
-use Rattle.area_store.specs.Reads.{Heads, heads_of, chosen, greatest, texts_of}
+use Rattle.area_store.specs.Reads.{Heads, heads_of, chosen, greatest, texts_of, in_area, reads}
 use Rattle.area_store.specs.Kept.{other, IsWhole}
 
 -- there is a first byte, and it isn't 01
@@ -47,6 +48,14 @@ desk_with disk found = record {
   failed = false;
 }
 
+abbrev pub ended_by : Which → Area → Result ℕ Place → Result Ended AreaFault
+ended_by area whole (Ok gate) = Ok (Some (gate, record { image = whole.image; records = whole.records }))
+ended_by area whole (Err place) = Err (Damaged (in_area area place))
+
+-- an area's texts and their gate, or the damage at which its records end
+abbrev pub ended_of : Which → Area → Result Ended AreaFault
+ended_of area whole = ended_by area whole whole.end
+
 -- the chosen area is read as these texts, up to this gate
 abbrev pub IsEnded : Contents → Option Which → Ended → Type 0
 IsEnded both None None = Unit {0}
@@ -60,6 +69,12 @@ TellsEnd both area (Ok ended) = IsEnded both area ended
 TellsEnd both area (Err Disk) = Unit {0}
 TellsEnd both area (Err (Damaged damage)) = texts_of both area ≡ Err damage
 TellsEnd both area (Err Memory) = Unit {0}
+
+-- both areas are read as this fault says
+abbrev pub HasDamage : Contents → AreaFault → Type 0
+HasDamage both Disk = Unit {0}
+HasDamage both (Damaged damage) = reads both ≡ Err damage
+HasDamage both Memory = Unit {0}
 
 -- what was found is what stands in both areas
 pub record IsFound (both : Contents) (found : Found) : Type 0 where

@@ -5,7 +5,7 @@ ghost use Rattle.ws_outside.specs.Faults.{HasCause};
 ghost use Rattle.disk_area.specs.declared.damage.AreaFault.TheVariants.{Disk};
 ghost use Rattle.disk_area.specs.Reading.{HasFault};
 ghost use Rattle.ws_outside.specs.declared.contents.Which.TheVariants.{Left, Right};
-ghost use Rattle.area_store.specs.Found.{is_shut as shut_of};
+ghost use Rattle.area_store.specs.Found.{is_shut as shut_of, ended_of, TellsEnd, HasDamage, IsFound};
 ghost use Rattle.area_store.specs.Reads.{heads_of, chosen, TellsBoth};
 
 use crate::Texts;
@@ -90,4 +90,76 @@ fn is_shut(front: &[u8]) -> bool
         [] => false,
         [gate, ..] => *gate != 1,
     }
+}
+
+/// What the chosen area is read as; None where there is none.
+pub(crate) fn read_chosen<D: Disk>(
+    alloc: Global,
+    disk: &mut D,
+    chosen: Option<Which>,
+) -> Result<Option<(u64, Texts)>, AreaFault>
+    ensures told { IfSome (D.seen disk.old) (λ both. TellsEnd both chosen result) }
+    ensures seen { D.seen disk.new ≡ D.seen disk.old }
+    ensures any_moment { LeavesOnly D.moment D.left_since D.may_leave disk.old disk.new (D.may_leave disk.old) }
+    ensures cause { HasFault (D.faults disk.old) (D.faults disk.new) result }
+{
+    match chosen {
+        None => Ok(None),
+        Some(area) => read_texts(alloc, disk, area),
+    }
+}
+
+/// The texts of an area, with the place of the closed gate behind them; None where it is closed.
+fn read_texts<D: Disk>(
+    alloc: Global,
+    disk: &mut D,
+    area: Which,
+) -> Result<Option<(u64, Texts)>, AreaFault>
+    ensures told { IfSome (D.seen disk.old) (λ both. TellsEnd both (Some area) result) }
+    ensures seen { D.seen disk.new ≡ D.seen disk.old }
+    ensures any_moment { LeavesOnly D.moment D.left_since D.may_leave disk.old disk.new (D.may_leave disk.old) }
+    ensures cause { HasFault (D.faults disk.old) (D.faults disk.new) result }
+{
+    match read_area(alloc, disk, area)? {
+        None => Ok(None),
+        Some(whole) => ended(area, whole),
+    }
+}
+
+/// The texts of an area that was read, or the damage at which its records end.
+fn ended(area: Which, whole: Area) -> Result<Option<(u64, Texts)>, AreaFault>
+    ensures { result ≡ ended_of area whole }
+{
+    let Area {
+        image,
+        records,
+        end,
+        ..
+    } = whole;
+    match end {
+        Ok(gate) => Ok(Some((gate, Texts { image, records }))),
+        Err((at, cause)) => Err(AreaFault::Damaged(Damage { area, at, cause })),
+    }
+}
+
+/// Brings both areas to the device, and finds what stands in them.
+pub(crate) fn find<D: Disk>(alloc: Global, disk: &mut D) -> Result<Found, AreaFault>
+    ensures durable { IfOk result (λ _. Each (D.may_leave disk.new) (λ c. D.seen disk.old ≡ Some c)) }
+    ensures found { IfOk result (λ found. IfSome (D.seen disk.old) (λ both. IsFound both found)) }
+    ensures damaged { IfErr result (λ fault. IfSome (D.seen disk.old) (λ both. HasDamage both fault)) }
+    ensures seen { D.seen disk.new ≡ D.seen disk.old }
+    ensures any_moment { LeavesOnly D.moment D.left_since D.may_leave disk.old disk.new (D.may_leave disk.old) }
+    ensures cause { HasFault (D.faults disk.old) (D.faults disk.new) result }
+{
+    sync_both(disk)?;
+    let heads = heads(disk)?;
+    let left_shut = shut(disk, Which::Left)?;
+    let right_shut = shut(disk, Which::Right)?;
+    let ended = read_chosen(alloc, disk, choose(heads))?;
+    Ok(Found {
+        heads,
+        left_shut,
+        right_shut,
+        ended,
+    })
 }
