@@ -174,7 +174,7 @@ new_spare home number n begun image b lt high small among behind =
     ]
 
 -- an open area with its gate torn
-torn_open : (old torn : List ℕ) (head : Head) → head_of old ≡ Ok (Some head) → SameBehind old torn → (torn ≡ old) ⊎ (head_of torn ≡ Ok None)
+pub torn_open : (old torn : List ℕ) (head : Head) → head_of old ≡ Ok (Some head) → SameBehind old torn → (torn ≡ old) ⊎ (head_of torn ≡ Ok None)
 torn_open old [] head open_ same = inr (head_short [] (omega arith))
 torn_open [] (g ∷ torn) head open_ same = let closed = head_short [] (omega arith) in absurd (cc (sym closed ∙ open_))
 torn_open (h ∷ old) (g ∷ torn) head open_ same = elim (cases_eq g 1) [
@@ -185,7 +185,7 @@ torn_open (h ∷ old) (g ∷ torn) head open_ same = elim (cases_eq g 1) [
   ]
 ]
 
-torn_short : (old torn : List ℕ) → length old < 57 → SameBehind old torn → head_of torn ≡ Ok None
+pub torn_short : (old torn : List ℕ) → length old < 57 → SameBehind old torn → head_of torn ≡ Ok None
 torn_short old torn lt same = head_short torn (omega (arith, lt, ap length same, length-drop 1 torn, length-drop 1 old))
 
 loses : (home : Which) (n number : ℕ) → number < n → Loses home n number

@@ -309,6 +309,40 @@ head_grows : (size more : ℕ) (f : List ℕ) (head : Head) → more ≤ 2 ^ 30 
 head_grows size more f head le e =
     headed_grows (nat_le 57 (length f)) (is_open (take 1 f)) size more (take 6 (drop 1 f)) (big_number 2 (take 2 (drop 7 f))) (big_number 8 (take 8 (drop 9 f))) (big_number 8 (take 8 (drop 17 f))) head le e
 
+-- an area whose gate is open is closed only where it is too short for a head
+check_none : {A : Type 0} (b : Bool) (place : Place) (rest : Result (Option A) Place) → check b place rest ≡ Ok None → rest ≡ Ok None
+check_none true place rest e = e
+check_none false place rest e = absurd (cc e)
+
+open_some : (size : ℕ) (magic : List ℕ) (version number image : ℕ) → head_from size magic version number image ≡ Ok None → ⊥
+open_some size magic version number image e =
+    let h : Head = record { number = number; version = version; length = image } in
+    let numbered = check (is_number number) (9, BadNumber) (Ok (Some h)) in
+    let versioned = check (nat_eq version read_version) (7, BadVersion version) numbered in
+    let named = check (bytes_eq magic (codes "WSAREA")) (1, BadMagic) versioned in
+    let a = check_none (nat_le size (2 ^ 30)) (0, TooLarge) named e in
+    let b = check_none (bytes_eq magic (codes "WSAREA")) (1, BadMagic) versioned a in
+    let c = check_none (nat_eq version read_version) (7, BadVersion version) numbered b in
+    let d = check_none (is_number number) (9, BadNumber) (Ok (Some h)) c in
+    absurd (cc d)
+
+if_short : (n : ℕ) (open_ closed : Result (Option Head) Place) → (open_ ≡ Ok None → ⊥) → (if nat_le 57 n then open_ else closed) ≡ Ok None → n < 57
+if_short n open_ closed never e = by_test n open_ closed (nat_le 57 n) refl never e
+  where
+    lt_of : (n : ℕ) → nat_le 57 n ≡ false → n < 57
+    lt_of n e = grind (arith, nat_tests)
+    by_test : (n : ℕ) (open_ closed : Result (Option Head) Place) (b : Bool) → nat_le 57 n ≡ b → (open_ ≡ Ok None → ⊥) → (if b then open_ else closed) ≡ Ok None → n < 57
+    by_test n open_ closed true is never e = absurd (never e)
+    by_test n open_ closed false is never e = lt_of n is
+
+pub gate_short : (rest : List ℕ) → head_of (1 ∷ rest) ≡ Ok None → length (1 ∷ rest) < 57
+gate_short rest e =
+    let b : List ℕ = 1 ∷ rest in
+    let f = take 57 b in
+    let lt = if_short (length f) (head_from (length b) (take 6 (drop 1 f)) (big_number 2 (take 2 (drop 7 f))) (big_number 8 (take 8 (drop 9 f))) (big_number 8 (take 8 (drop 17 f)))) (Ok None)
+    (open_some (length b) (take 6 (drop 1 f)) (big_number 2 (take 2 (drop 7 f))) (big_number 8 (take 8 (drop 9 f))) (big_number 8 (take 8 (drop 17 f)))) e in
+    omega (arith, lt, length-take 57 b)
+
 -- an area whose front stays, and what is read behind it
 module _ (g : ℕ) (old new : List ℕ) (kept : KeepsFront g old new) (area : Area) (read : area_of old ≡ Ok (Some area)) (ends : area.end ≡ Ok g) where
   parts : Whole old area
