@@ -15,6 +15,7 @@ use Rattle.disk_area.specs.Reading.{Place, head_of, image_of, with_image, with_h
 use Rattle.disk_area.specs.Writes.{IsShut, SameBehind}
 use Rattle.disk_area.proofs.Fronts.{gate_short}
 use Rattle.disk_area.proofs.ReadingBack.{head_shut}
+use Rattle.area_store.specs.declared.desk.Desk.{Desk}
 use Rattle.area_store.specs.declared.opening.Found.{Found}
 use Rattle.area_store.specs.declared.texts.Texts.{Texts}
 use Rattle.area_store.specs.Reads.{Heads, heads_from, heads_of, chosen, number_of, greatest, texts_in, texts_of, with_end, reads_by, reads}
@@ -187,3 +188,8 @@ opened_kept may_leave seen disk found told durable =
     stands_from shut number None (Some texts) bytes stands = absurd stands
     stands_from shut number (Some gate) None bytes stands = absurd stands
     stands_from shut number (Some gate) (Some texts) bytes stands = (stands.0, (gate, stands.1))
+
+pub begun_kept : {D : Type 0} (may_leave : D → Contents → Type 0) (seen : Option Contents) (disk : D) (found : Found) (desk : Desk D) (texts : Point) → desk ≡ desk_with disk found → texts ≡ texts_with found.ended
+    → IfSome seen (λ both. IsFound both found) → Each (may_leave disk) (λ c. seen ≡ Some c) → IsKept may_leave texts [] desk
+begun_kept may_leave seen disk found desk texts made told are durable =
+    subst (λ t. IsKept may_leave t [] desk) (sym told) (subst (IsKept may_leave (texts_with found.ended) []) (sym made) (opened_kept may_leave seen disk found are durable))

@@ -82,3 +82,10 @@ pub record IsFound (both : Contents) (found : Found) : Type 0 where
   pub left : found.left_shut ≡ is_shut both.left
   pub right : found.right_shut ≡ is_shut both.right
   pub ended : IsEnded both (chosen found.heads) found.ended
+
+-- a store's home area is the chosen one of these areas, or the right one, and it goes on behind their greatest number
+pub record IsBegun {D : Type 0} (both : Contents) (desk : Desk D) : Type 0 where
+  pub heads : Heads
+  pub are : heads_of both ≡ Ok heads
+  pub home : desk.home ≡ home_of (chosen heads)
+  pub top : desk.top ≡ greatest heads

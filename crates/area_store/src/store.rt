@@ -1,13 +1,18 @@
 // A store of texts over two areas.
-ghost use Rattle.std.specs.Prelude.{◌≡◌, ◌≤◌, ◌<◌, ◌+◌, ◌-◌, ◌^◌, ◌++◌, ◌⊎◌, ◌↔◌, List, [], ◌∷◌, length, Ok, Err, OnOk, OnErr, MatchResult, IsSomeAnd, option_map, Some, true, false};
+ghost use Rattle.std.specs.Prelude.{◌≡◌, ◌≤◌, ◌<◌, ◌+◌, ◌-◌, ◌^◌, ◌++◌, ◌⊎◌, ◌↔◌, List, [], ◌∷◌, length, Ok, Err, OnOk, OnErr, MatchResult, IsSomeAnd, option_map, Some, true, false, is_some, IfOk, IfErr, IfSome};
 ghost use Rattle.ws_outside.specs.Disk.{held, beside, holding, written, Each, LeavesOnly};
 ghost use Rattle.ws_outside.specs.Faults.{HasCause};
+ghost use Rattle.disk_area.specs.Reading as area;
 ghost use Rattle.disk_area.specs.Area.{behind_gate, record_behind};
 ghost use Rattle.area_store.specs.Reads.{reads};
+ghost use Rattle.area_store.specs.Found.{HasDamage, IsBegun};
 ghost use Rattle.area_store.specs.Kept.{Point, other, saved, recorded, gate_of, ReadsAs, IsKept, room_of, FaultOf};
 
-use crate::SaveFault;
 use crate::desk::Desk;
+use crate::opening::{begin, find};
+use crate::{SaveFault, Texts};
+use disk_area::AreaFault;
+use std::alloc::Global;
 use std::marker::Model;
 use ws_outside::{Disk, Failed};
 
@@ -22,7 +27,8 @@ pub struct AreaStore<D: Disk> {
 
 impl<D: Disk> Model for AreaStore<D> {
     ghost use Rattle.area_store.specs.declared.desk.Desk.{Desk};
-    ghost use Rattle.area_store.specs.Kept.{IsSound};
+    ghost use Rattle.area_store.specs.Found.{HasDamage, IsBegun};
+ghost use Rattle.area_store.specs.Kept.{IsSound};
 
     ghost Value = { Desk D };
 
@@ -32,6 +38,38 @@ impl<D: Disk> Model for AreaStore<D> {
 }
 
 impl<D: Disk> AreaStore<D> {
+    /// Opens a store over what two areas hold, and gives the texts of the area that decides: the open one, of two that with
+    /// the greater number, on a tie the left one; None where none is open. It brings both areas to the device first, and
+    /// leaves what they hold, whatever it answers.
+    ///
+    /// Damaged comes exactly where the areas have that damage: the first of the left head, of the right head, of the chosen
+    /// area's image, and of its records in their order. Disk comes exactly where the disk's count of faults rose in this
+    /// call, and Memory where the bytes of the texts weren't to be had; then the disk is given back. Reads each byte of the
+    /// texts once.
+    pub fn open(
+        alloc: Global,
+        disk: D,
+    ) -> Result<(AreaStore<D>, Option<Texts>), (AreaFault, D)>
+        ensures texts { IfOk result (λ o. IfSome (D.seen disk) (λ both. reads both ≡ Ok o.1)) }
+        ensures reads { IfOk result (λ o. Each (D.may_leave o.0.disk) (λ c. reads c ≡ Ok o.1)) }
+        ensures kept { IfOk result (λ o. IsKept D.may_leave o.1 [] o.0) }
+        ensures acknowledged { IfOk result (λ o. (is_some o.0.gate ≡ is_some o.1) × (o.0.failed ≡ false)) }
+        ensures chosen { IfOk result (λ o. IfSome (D.seen disk) (λ both. IsBegun both o.0)) }
+        ensures damaged { IfErr result (λ e. IfSome (D.seen disk) (λ both. HasDamage both e.0)) }
+        ensures seen { MatchResult result (λ o. D.seen o.0.disk ≡ D.seen disk) (λ e. D.seen e.1 ≡ D.seen disk) }
+        ensures any_moment { MatchResult result (λ o. LeavesOnly D.moment D.left_since D.may_leave disk o.0.disk (D.may_leave disk)) (λ e. LeavesOnly D.moment D.left_since D.may_leave disk e.1 (D.may_leave disk)) }
+        ensures cause { MatchResult result (λ o. D.faults o.0.disk ≡ D.faults disk) (λ e. area.FaultOf (D.faults disk) (D.faults e.1) e.0) }
+    {
+        let mut disk = disk;
+        match find(alloc, &mut disk) {
+            Ok(found) => {
+                let (desk, texts) = begin(disk, found);
+                Ok((AreaStore { desk }, texts))
+            }
+            Err(fault) => Err((fault, disk)),
+        }
+    }
+
     /// Writes an image as a full save, with no record, into the area that isn't acknowledged, with a number one greater than
     /// the greatest that was read or written. Its faults come in this order: TooLarge exactly where the image with its
     /// header and its gate passes 1,073,741,824 bytes, NumbersUsed exactly where the number would pass 2^63 - 1, and Disk
