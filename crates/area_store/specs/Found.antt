@@ -76,6 +76,12 @@ HasDamage both Disk = Unit {0}
 HasDamage both (Damaged damage) = reads both ≡ Err damage
 HasDamage both Memory = Unit {0}
 
+-- a head of the two has the damage that this fault says
+abbrev pub HeadsDamaged : Contents → AreaFault → Type 0
+HeadsDamaged both Disk = Unit {0}
+HeadsDamaged both (Damaged damage) = heads_of both ≡ Err damage
+HeadsDamaged both Memory = Unit {0}
+
 -- what was found is what stands in both areas
 pub record IsFound (both : Contents) (found : Found) : Type 0 where
   pub heads : heads_of both ≡ Ok found.heads
