@@ -82,7 +82,7 @@ texts_read : (area : Which) (c : Contents) (number : ℕ) (texts : Texts) (gate 
 texts_read area c number texts gate whole = ap (texts_in area) whole
 
 -- the home area decides, where the spare one has no head or one that isn't chosen
-home_reads : (home : Which) (shut : Bool) (number : ℕ) (point : Point) (c : Contents) (there : Option Head) → Stands shut number point (held home c) → head_of (held (other home) c) ≡ Ok there
+pub home_reads : (home : Which) (shut : Bool) (number : ℕ) (point : Point) (c : Contents) (there : Option Head) → Stands shut number point (held home c) → head_of (held (other home) c) ≡ Ok there
     → IfSome there (λ h. Loses home number h.number × (1 ≤ h.number)) → reads c ≡ Ok point
 home_reads home shut number None c None stands spare loses =
     ap (reads_by c) (heads_read home c None None (head_unused shut (held home c) stands.1) spare) ∙ ap (texts_of c) (none_chosen home)
