@@ -97,6 +97,7 @@ other_loses (Some l, Some r) Left c e left right = (Some r, right, by_test l.num
   where
     le_of : (m n : ℕ) → nat_lt m n ≡ false → n ≤ m
     le_of m n e = grind (arith, nat_tests)
+
     by_test : (m n : ℕ) (b : Bool) → nat_lt m n ≡ b → (let o : Option Which = Some (if b then Right else Left) in o) ≡ Some Left → n ≤ m
     by_test m n true is e = absurd (cc e)
     by_test m n false is e = le_of m n is
@@ -104,6 +105,7 @@ other_loses (Some l, Some r) Right c e left right = (Some l, left, by_test l.num
   where
     lt_of : (m n : ℕ) → nat_lt m n ≡ true → m < n
     lt_of m n e = grind (arith, nat_tests)
+
     by_test : (m n : ℕ) (b : Bool) → nat_lt m n ≡ b → (let o : Option Which = Some (if b then Right else Left) in o) ≡ Some Right → m < n
     by_test m n true is e = lt_of m n is
     by_test m n false is e = absurd (cc e)

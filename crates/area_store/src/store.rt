@@ -28,7 +28,7 @@ pub struct AreaStore<D: Disk> {
 impl<D: Disk> Model for AreaStore<D> {
     ghost use Rattle.area_store.specs.declared.desk.Desk.{Desk};
     ghost use Rattle.area_store.specs.Found.{HasDamage, IsBegun};
-ghost use Rattle.area_store.specs.Kept.{IsSound};
+    ghost use Rattle.area_store.specs.Kept.{IsSound};
 
     ghost Value = { Desk D };
 
@@ -46,10 +46,7 @@ impl<D: Disk> AreaStore<D> {
     /// area's image, and of its records in their order. Disk comes exactly where the disk's count of faults rose in this
     /// call, and Memory where the bytes of the texts weren't to be had; then the disk is given back. Reads each byte of the
     /// texts once.
-    pub fn open(
-        alloc: Global,
-        disk: D,
-    ) -> Result<(AreaStore<D>, Option<Texts>), (AreaFault, D)>
+    pub fn open(alloc: Global, disk: D) -> Result<(AreaStore<D>, Option<Texts>), (AreaFault, D)>
         ensures texts { IfOk result (λ o. IfSome (D.seen disk) (λ both. reads both ≡ Ok o.1)) }
         ensures reads { IfOk result (λ o. Each (D.may_leave o.0.disk) (λ c. reads c ≡ Ok o.1)) }
         ensures kept { IfOk result (λ o. IsKept D.may_leave o.1 [] o.0) }

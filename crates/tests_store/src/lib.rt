@@ -1,0 +1,16 @@
+//! Tests of area_store, over what it offers.
+//!
+//! - `asserting`: the assertions.
+//! - `opened`: opening two areas, as one text.
+//! - `areas`: a save's known bytes, and what is opened of areas that are changed.
+//! - `stops`: saves, stopped or failed at every call.
+#![tactic(auto)]
+
+#[cfg(test)]
+mod areas;
+#[cfg(test)]
+mod asserting;
+#[cfg(test)]
+mod opened;
+#[cfg(test)]
+mod stops;
