@@ -1,6 +1,6 @@
 -- How a record keeps a store's points. It is written only where every image has the acknowledged texts, so that the points
 -- that were begun before are let go once it is there: none of them counts.
-use Rattle.std.proofs.Common.{◌≡◌, ◌⊎◌, inl, inr, ⊎_elim, ℕ, ◌+◌, ◌≤◌, ◌<◌, ◌^◌, List, [], ◌∷◌, ◌++◌, length, Option, Some, None, Ok, Bool, true, false, refl, sym, ◌∙◌, ap, subst, arith}
+use Rattle.std.proofs.Common.{◌≡◌, ◌⊎◌, inl, inr, ⊎_elim, ℕ, ◌+◌, ◌<◌, List, [], ◌∷◌, ◌++◌, length, Option, Some, None, Ok, Bool, true, false, refl, sym, subst}
 use Rattle.std.specs.Prelude.{IfSome}
 use Rattle.ws_outside.specs.declared.contents.Contents.{Contents}
 use Rattle.ws_outside.specs.declared.contents.Which.{Which}
@@ -11,8 +11,9 @@ use Rattle.disk_area.specs.Writes.{IsShut}
 use Rattle.disk_area.specs.declared.bodies.Area.{Area}
 use Rattle.disk_area.proofs.Fronts.{read_kept, read_grown}
 use Rattle.area_store.specs.declared.desk.Desk.{Desk}
-use Rattle.area_store.specs.declared.texts.Texts.{Texts}
-use Rattle.area_store.specs.Kept.{Point, other, with_record, recorded, Among, ReadsAs, IsWhole, Stands, StandsAt, IsSpare, IsTornSafe, IsKept}
+use Rattle.area_pair.specs.declared.texts.Texts.{Texts}
+use Rattle.area_pair.specs.Reads.{other, IsWhole}
+use Rattle.area_store.specs.Kept.{Point, with_record, recorded, Among, ReadsAs, Stands, StandsAt, IsSpare, IsTornSafe, IsKept}
 use Rattle.area_store.proofs.Points.{reads_as, apart, among_last, spare_more}
 use Rattle.area_store.proofs.Steps.{spare_now}
 

@@ -1,60 +1,29 @@
 -- What crash images are read as.
-use Rattle.std.proofs.Common.{◌≡◌, ◌≢◌, ◌⊎◌, inl, inr, ⊎_elim, ℕ, zero, suc, ◌+◌, ◌-◌, ◌≤◌, ◌<◌, ◌^◌, List, [], ◌∷◌, ◌++◌, length, take, drop, Option, Some, None, Ok, Bool, true, false, refl, sym, ◌∙◌, ap, subst, arith, length-take, length-drop}
+use Rattle.std.proofs.Common.{◌≡◌, ◌⊎◌, inl, inr, ⊎_elim, ℕ, ◌+◌, ◌≤◌, ◌<◌, ◌^◌, List, [], ◌∷◌, ◌++◌, length, take, drop, Option, Some, None, Ok, Bool, true, false, refl, sym, ◌∙◌, ap, subst, arith, length-take, length-drop}
 use Rattle.std.proofs.lemmas.Bool.{cases_eq}
 use Rattle.std.proofs.lemmas.Bool.Decides.{nat_tests}
-use Rattle.std.specs.Prelude.{if◌then◌else◌, nat_lt, nat_le, IfSome}
+use Rattle.std.specs.Prelude.{if◌then◌else◌, nat_le, IfSome}
 use Rattle.ws_outside.specs.declared.contents.Contents.{Contents}
 use Rattle.ws_outside.specs.declared.contents.Which.{Which}
 use Rattle.ws_outside.specs.declared.contents.Which.TheVariants.{Left, Right}
-use Rattle.ws_outside.specs.Disk.{held, beside, InArea}
-use Rattle.disk_area.specs.Area.{behind_gate, area_text, IsArea}
-use Rattle.disk_area.specs.Reading.{head_of, area_of}
+use Rattle.ws_outside.specs.Disk.{held, InArea}
+use Rattle.disk_area.specs.Area.{behind_gate, area_text}
+use Rattle.disk_area.specs.Reading.{head_of}
 use Rattle.disk_area.specs.Writes.{IsShut, SameBehind}
 use Rattle.disk_area.specs.declared.bodies.Area.{Area}
 use Rattle.disk_area.specs.declared.pieces.Head.{Head}
 use Rattle.disk_area.proofs.Areas.{area_back}
 use Rattle.disk_area.proofs.Chain.{save_is_area, length-area}
-use Rattle.disk_area.proofs.Fronts.{head_fits, read_head}
+use Rattle.disk_area.proofs.Fronts.{head_fits}
 use Rattle.disk_area.proofs.ReadingBack.{head_shut}
 use Rattle.disk_area.proofs.Staging.{length-behind}
-use Rattle.area_store.specs.declared.texts.Texts.{Texts}
-use Rattle.area_store.specs.Reads.{Heads, heads_from, heads_of, chosen, number_of, texts_in, texts_of, reads_by, reads}
-use Rattle.area_store.specs.Kept.{Point, other, saved, Among, ReadsAs, IsWhole, IsUnused, Stands, Loses, IsSpare, IsTornSafe}
+use Rattle.area_pair.specs.Reads.{number_of, texts_of, reads_by, reads, other, IsWhole, Loses}
+use Rattle.area_pair.proofs.Choosing.{heads_read, spare_chosen, none_chosen, whole_head, texts_read, open_reads}
+use Rattle.area_store.specs.Kept.{Point, saved, Among, ReadsAs, IsUnused, Stands, IsSpare, IsTornSafe}
 
 pub twice : (area : Which) → other (other area) ≡ area
 twice Left = refl
 twice Right = refl
-
-lt_true : (m n : ℕ) → m < n → nat_lt m n ≡ true
-lt_true m n lt = grind (arith, nat_tests)
-
-lt_false : (m n : ℕ) → n ≤ m → nat_lt m n ≡ false
-lt_false m n le = grind (arith, nat_tests)
-
--- both heads, by that of the home area and that of the spare one
-abbrev heads_at : Which → Option Head → Option Head → Heads
-heads_at Left home spare = (home, spare)
-heads_at Right home spare = (spare, home)
-
-heads_read : (home : Which) (c : Contents) (here there : Option Head) → head_of (held home c) ≡ Ok here → head_of (held (other home) c) ≡ Ok there → heads_of c ≡ Ok (heads_at home here there)
-heads_read Left c here there h t = λ i. heads_from (h i) (t i)
-heads_read Right c here there h t = λ i. heads_from (t i) (h i)
-
-home_chosen : (home : Which) (here : Head) (there : Option Head) → IfSome there (λ h. Loses home here.number h.number) → chosen (heads_at home (Some here) there) ≡ Some home
-home_chosen Left here None loses = refl
-home_chosen Right here None loses = refl
-home_chosen Left here (Some there) loses = ap (λ b. Some (if b then Right else Left)) (lt_false here.number there.number loses)
-home_chosen Right here (Some there) loses = ap (λ b. Some (if b then Right else Left)) (lt_true there.number here.number loses)
-
-spare_chosen : (home : Which) (here : Option Head) (there : Head) → number_of here < there.number → chosen (heads_at home here (Some there)) ≡ Some (other home)
-spare_chosen Left None there lt = refl
-spare_chosen Right None there lt = refl
-spare_chosen Left (Some here) there lt = ap (λ b. Some (if b then Right else Left)) (lt_true here.number there.number lt)
-spare_chosen Right (Some here) there lt = ap (λ b. Some (if b then Right else Left)) (lt_false there.number here.number (omega (arith, lt)))
-
-none_chosen : (home : Which) → chosen (heads_at home None None) ≡ None
-none_chosen Left = refl
-none_chosen Right = refl
 
 -- a closed area
 short_false : (n : ℕ) → n < 57 → nat_le 57 n ≡ false
@@ -71,15 +40,9 @@ pub head_unused : (shut : Bool) (bytes : List ℕ) → IsUnused shut bytes → h
 head_unused true bytes unused = head_shut bytes unused
 head_unused false bytes unused = head_short bytes unused
 
-pub whole_head : (number : ℕ) (texts : Texts) (gate : ℕ) (bytes : List ℕ) → IsWhole number texts gate bytes → (head : Head) × (head_of bytes ≡ Ok (Some head)) × (head.number ≡ number)
-whole_head number texts gate bytes whole = read_head bytes _ whole
-
 standing_head : (shut : Bool) (number : ℕ) (point : Point) (bytes : List ℕ) → Stands shut number point bytes → (head : Option Head) × (head_of bytes ≡ Ok head) × (number_of head ≡ number)
 standing_head shut number None bytes stands = (None, head_unused shut bytes stands.1, sym stands.0)
 standing_head shut number (Some texts) bytes stands = let h = whole_head number texts (stands.1).0 bytes (stands.1).1 in (Some h.0, h.1, h.2)
-
-texts_read : (area : Which) (c : Contents) (number : ℕ) (texts : Texts) (gate : ℕ) → IsWhole number texts gate (held area c) → texts_of c (Some area) ≡ Ok (Some texts)
-texts_read area c number texts gate whole = ap (texts_in area) whole
 
 -- the home area decides, where the spare one has no head or one that isn't chosen
 pub home_reads : (home : Which) (shut : Bool) (number : ℕ) (point : Point) (c : Contents) (there : Option Head) → Stands shut number point (held home c) → head_of (held (other home) c) ≡ Ok there
@@ -91,15 +54,11 @@ home_reads home shut number None c (Some there) stands spare loses = absurd (not
     nothing : (home : Which) (number n : ℕ) → number ≡ 0 → Loses home number n → 1 ≤ n → ⊥
     nothing Left number n none le low = omega (arith, none, le, low)
     nothing Right number n none lt low = omega (arith, none, lt, low)
-home_reads home shut number (Some texts) c there stands spare loses =
-    let h = whole_head number texts (stands.1).0 (held home c) (stands.1).1 in
-    ap (reads_by c) (heads_read home c (Some h.0) there h.1 spare)
-    ∙ ap (texts_of c) (home_chosen home h.0 there (lower home h.0 number there h.2 loses))
-    ∙ texts_read home c number texts (stands.1).0 (stands.1).1
+home_reads home shut number (Some texts) c there stands spare loses = open_reads home number texts (stands.1).0 c there (stands.1).1 spare (only home number there loses)
   where
-    lower : (home : Which) (here : Head) (number : ℕ) (there : Option Head) → here.number ≡ number → IfSome there (λ h. Loses home number h.number × (1 ≤ h.number)) → IfSome there (λ h. Loses home here.number h.number)
-    lower home here number None is loses = tt
-    lower home here number (Some there) is loses = subst (λ (n : ℕ). Loses home n there.number) (sym is) loses.0
+    only : (home : Which) (number : ℕ) (there : Option Head) → IfSome there (λ h. Loses home number h.number × (1 ≤ h.number)) → IfSome there (λ h. Loses home number h.number)
+    only home number None loses = tt
+    only home number (Some there) loses = loses.0
 
 pub reads_as : (home : Which) (shut : Bool) (number : ℕ) (points begun : List Point) (point : Point) (c : Contents) → Among point points → ((p : Point) → Among p begun → Among p points)
     → Stands shut number point (held home c) → IsSpare home number begun (held (other home) c) → ReadsAs points c

@@ -1,8 +1,8 @@
 -- What every store keeps, whatever its points are.
-use Rattle.std.proofs.Common.{◌≡◌, ◌⊎◌, inl, inr, ℕ, ◌+◌, ◌-◌, ◌≤◌, ◌<◌, ◌^◌, List, [], ◌∷◌, ◌++◌, length, Option, Some, None, Result, Ok, Err, Bool, true, false, OnOk, OnErr, refl, sym, ◌∙◌, ap, subst, arith}
+use Rattle.std.proofs.Common.{◌≡◌, inl, inr, ℕ, ◌+◌, ◌-◌, ◌≤◌, ◌<◌, ◌^◌, List, [], ◌∷◌, ◌++◌, length, Option, Some, None, Result, Ok, Err, Bool, true, false, OnOk, OnErr, refl, ◌∙◌, ap, subst, arith}
 use Rattle.std.proofs.lemmas.Bool.Decides.{nat_tests}
 use Rattle.std.proofs.Math.Logic.{∥∥₁_elim, ∥∥₁_map}
-use Rattle.std.specs.Coded.{×_prop, Π_prop, →_prop, le_prop, Coded, Coded-set, coded_bool, coded_option, coded_result}
+use Rattle.std.specs.Coded.{×_prop, Π_prop, →_prop, le_prop, Coded-set, coded_bool, coded_option, coded_result}
 use Rattle.std.specs.Prelude.{if◌then◌else◌, nat_le, IsSomeAnd}
 use Rattle.ws_outside.specs.declared.contents.Contents.{Contents}
 use Rattle.ws_outside.specs.Disk.{held, Each}
@@ -12,11 +12,10 @@ use Rattle.disk_area.specs.contracts.damage.Damage as of_damage
 use Rattle.disk_area.specs.declared.damage.Damage.{Damage}
 use Rattle.disk_area.specs.declared.bodies.Area.{Area}
 use Rattle.disk_area.proofs.Fronts.{read_ends}
-use Rattle.area_store.specs.contracts.texts.Texts as of_texts
+use Rattle.area_pair.specs.contracts.texts.Texts as of_texts
 use Rattle.area_store.specs.declared.desk.Desk.{Desk}
-use Rattle.area_store.specs.declared.texts.Texts.{Texts}
-use Rattle.area_store.specs.Reads.{reads}
-use Rattle.area_store.specs.Kept.{Point, other, saved, recorded, Among, ReadsAs, IsWhole, StandsAt, IsKept, IsSound, room_at}
+use Rattle.area_pair.specs.Reads.{reads, other}
+use Rattle.area_store.specs.Kept.{Point, saved, recorded, Among, StandsAt, IsKept, IsSound, room_at}
 use Rattle.area_store.proofs.Steps.{start_reads}
 
 -- facts that have one proof at most

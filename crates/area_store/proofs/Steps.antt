@@ -1,12 +1,13 @@
 -- How a store's steps keep its points.
-use Rattle.std.proofs.Common.{◌≡◌, ◌⊎◌, inl, inr, ⊎_elim, ℕ, ◌+◌, ◌≤◌, ◌<◌, ◌^◌, List, [], ◌∷◌, ◌++◌, length, drop, Option, Some, None, Bool, true, false, Result, Ok, Err, OnOk, OnErr, refl, sym, ◌∙◌, ap, subst, arith}
+use Rattle.std.proofs.Common.{◌≡◌, inl, inr, ℕ, ◌+◌, ◌≤◌, ◌<◌, ◌^◌, List, [], ◌∷◌, ◌++◌, length, drop, Some, Bool, true, false, Result, Ok, Err, OnErr, refl, sym, ◌∙◌, ap, subst, arith}
 use Rattle.ws_outside.specs.declared.contents.Contents.{Contents}
 use Rattle.ws_outside.specs.declared.contents.Which.{Which}
 use Rattle.ws_outside.specs.Disk.{held, InArea, Came, Each, LeavesOnly}
 use Rattle.disk_area.specs.Area.{behind_gate}
 use Rattle.disk_area.specs.Writes.{IsShut, SameBehind, Staged, Becomes}
 use Rattle.area_store.specs.declared.desk.Desk.{Desk}
-use Rattle.area_store.specs.Kept.{Point, other, saved, Among, ReadsAs, Stands, StandsAt, IsSpare, IsTornSafe, IsKept}
+use Rattle.area_pair.specs.Reads.{other}
+use Rattle.area_store.specs.Kept.{Point, saved, Among, ReadsAs, Stands, StandsAt, IsSpare, IsTornSafe, IsKept}
 use Rattle.area_store.proofs.Points.{twice, reads_as, spare_shut, torn_on, stays, among_more, among_last, spare_more, image_whole, new_spare, old_spare, old_shut}
 
 module _ {D : Type 0} (may_leave : D → Contents → Type 0) (first : Point) (begun : List Point) (desk : Desk D) (kept : IsKept may_leave first begun desk) where

@@ -1,27 +1,21 @@
 -- What a crash leaves of a store's two areas.
-use Rattle.std.specs.Prelude.{◌≡◌, ◌≤◌, ◌<◌, ◌+◌, ◌-◌, ◌^◌, ◌⊎◌, ℕ, List, [], ◌∷◌, ◌++◌, length, Bool, true, false, if◌then◌else◌, nat_le, Option, Some, None, Result, Ok, Err, IfSome, unwrap_or}
+use Rattle.std.specs.Prelude.{◌≡◌, ◌≤◌, ◌<◌, ◌+◌, ◌-◌, ◌^◌, ◌⊎◌, ℕ, List, [], ◌∷◌, ◌++◌, length, Bool, true, false, if◌then◌else◌, nat_le, Option, Some, None, Ok, unwrap_or}
 use Rattle.ws_outside.specs.declared.contents.Contents.{Contents}
 use Rattle.ws_outside.specs.declared.contents.Which.{Which}
-use Rattle.ws_outside.specs.declared.contents.Which.TheVariants.{Left, Right}
 use Rattle.ws_outside.specs.Disk.{held, Each}
 use Rattle.ws_outside.specs.Faults.{Rose}
 use Rattle.disk_area.specs.declared.pieces.Head.{Head}
-use Rattle.disk_area.specs.Reading.{head_of, area_of}
+use Rattle.disk_area.specs.Reading.{head_of}
 use Rattle.disk_area.specs.Writes.{IsShut, SameBehind}
 use Rattle.area_store.specs.declared.desk.Desk.{Desk}
 use Rattle.area_store.specs.declared.faults.SaveFault.{SaveFault}
 use Rattle.area_store.specs.declared.faults.SaveFault.TheVariants.{Disk, TooLarge, NumbersUsed}
-use Rattle.area_store.specs.declared.texts.Texts.{Texts}
-use Rattle.area_store.specs.Reads.{reads}
+use Rattle.area_pair.specs.declared.texts.Texts.{Texts}
+use Rattle.area_pair.specs.Reads.{other, reads, IsWhole, Loses}
 
 -- what areas stand for: texts, or nothing yet
 abbrev pub Point : Type 0
 Point = Option Texts
-
--- the other area
-abbrev pub other : Which → Which
-other Left = Right
-other Right = Left
 
 -- a save of an image has no record
 abbrev pub saved : List ℕ → Point
@@ -44,10 +38,6 @@ Among point (p ∷ points) = (point ≡ p) ⊎ Among point points
 abbrev pub ReadsAs : List Point → Contents → Type 0
 ReadsAs points both = (point : Point) × Among point points × (reads both ≡ Ok point)
 
--- an area with this number is read as these texts, up to the closed gate at this place
-abbrev pub IsWhole : ℕ → Texts → ℕ → List ℕ → Type 0
-IsWhole number texts gate bytes = area_of bytes ≡ Ok (Some record { number = number; image = texts.image; records = texts.records; end = Ok gate })
-
 -- an area that stands for nothing: one that is known to be shut, or else too short for a head
 abbrev pub IsUnused : Bool → List ℕ → Type 0
 IsUnused true bytes = IsShut bytes
@@ -64,11 +54,6 @@ StandsAt shut number None None bytes = (number ≡ 0) × IsUnused shut bytes
 StandsAt shut number (Some gate) None bytes = ⊥
 StandsAt shut number None (Some texts) bytes = ⊥
 StandsAt shut number (Some gate) (Some texts) bytes = (shut ≡ false) × IsWhole number texts gate bytes
-
--- beside an area of a number at this side one with the number n isn't chosen
-abbrev pub Loses : Which → ℕ → ℕ → Type 0
-Loses Left number n = n ≤ number
-Loses Right number n = n < number
 
 -- The area that is written next doesn't count, or it is chosen and stands for one of these points.
 abbrev pub IsSpare : Which → ℕ → List Point → List ℕ → Type 0

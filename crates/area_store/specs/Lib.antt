@@ -1,3 +1,2 @@
-pub mod Found
+pub mod Begun
 pub mod Kept
-pub mod Reads

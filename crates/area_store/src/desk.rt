@@ -5,7 +5,8 @@ ghost use Rattle.disk_area.specs.Area.{behind_gate, record_behind};
 ghost use Rattle.ws_outside.specs.Faults.{HasCause};
 ghost use Rattle.disk_area.specs.Reading.{IsClosedAt};
 ghost use Rattle.disk_area.specs.Writes.{IsShut};
-ghost use Rattle.area_store.specs.Kept.{Point, other, saved, recorded, ReadsAs, IsKept, room_of, FaultOf};
+ghost use Rattle.area_pair.specs.Reads.{other};
+ghost use Rattle.area_store.specs.Kept.{Point, saved, recorded, ReadsAs, IsKept, room_of, FaultOf};
 
 use crate::SaveFault;
 use disk_area::{close_gate, lay_image, open_gate, write_record};

@@ -4,13 +4,15 @@ ghost use Rattle.ws_outside.specs.Disk.{held, beside, holding, written, Each, Le
 ghost use Rattle.ws_outside.specs.Faults.{HasCause};
 ghost use Rattle.disk_area.specs.Reading as area;
 ghost use Rattle.disk_area.specs.Area.{behind_gate, record_behind};
-ghost use Rattle.area_store.specs.Reads.{reads};
-ghost use Rattle.area_store.specs.Found.{HasDamage, IsBegun};
-ghost use Rattle.area_store.specs.Kept.{Point, other, saved, recorded, gate_of, ReadsAs, IsKept, room_of, FaultOf};
+ghost use Rattle.area_pair.specs.Reads.{other, reads};
+ghost use Rattle.area_pair.specs.Found.{HasDamage};
+ghost use Rattle.area_store.specs.Begun.{IsBegun};
+ghost use Rattle.area_store.specs.Kept.{Point, saved, recorded, gate_of, ReadsAs, IsKept, room_of, FaultOf};
 
+use crate::SaveFault;
+use crate::begin::begin;
 use crate::desk::Desk;
-use crate::opening::{begin, find};
-use crate::{SaveFault, Texts};
+use area_pair::{Texts, find};
 use disk_area::AreaFault;
 use std::alloc::Global;
 use std::marker::Model;
@@ -27,7 +29,8 @@ pub struct AreaStore<D: Disk> {
 
 impl<D: Disk> Model for AreaStore<D> {
     ghost use Rattle.area_store.specs.declared.desk.Desk.{Desk};
-    ghost use Rattle.area_store.specs.Found.{HasDamage, IsBegun};
+    ghost use Rattle.area_pair.specs.Found.{HasDamage};
+    ghost use Rattle.area_store.specs.Begun.{IsBegun};
     ghost use Rattle.area_store.specs.Kept.{IsSound};
 
     ghost Value = { Desk D };
@@ -50,7 +53,9 @@ impl<D: Disk> AreaStore<D> {
         ensures texts { IfOk result (λ o. IfSome (D.seen disk) (λ both. reads both ≡ Ok o.1)) }
         ensures reads { IfOk result (λ o. Each (D.may_leave o.0.disk) (λ c. reads c ≡ Ok o.1)) }
         ensures kept { IfOk result (λ o. IsKept D.may_leave o.1 [] o.0) }
-        ensures acknowledged { IfOk result (λ o. (is_some o.0.gate ≡ is_some o.1) × (o.0.failed ≡ false)) }
+        ensures gate { IfOk result (λ o. is_some o.0.gate ≡ is_some o.1) }
+        ensures sound { IfOk result (λ o. o.0.failed ≡ false) }
+        ensures synced { IfOk result (λ o. Each (D.may_leave o.0.disk) (λ c. D.seen disk ≡ Some c)) }
         ensures chosen { IfOk result (λ o. IfSome (D.seen disk) (λ both. IsBegun both o.0)) }
         ensures damaged { IfErr result (λ e. IfSome (D.seen disk) (λ both. HasDamage both e.0)) }
         ensures seen { MatchResult result (λ o. D.seen o.0.disk ≡ D.seen disk) (λ e. D.seen e.1 ≡ D.seen disk) }
@@ -83,8 +88,12 @@ impl<D: Disk> AreaStore<D> {
         ensures unsaved { OnErr result ((first : Point) (begun : List Point) → IsKept D.may_leave first begun self.old → IsKept D.may_leave first (begun ++ saved image.now ∷ []) self.new) }
         ensures seen { OnOk result (D.seen self.new.disk ≡ option_map (λ both. holding (other self.old.home) (1 ∷ behind_gate (self.old.top + 1) image.now) both) (D.seen self.old.disk)) }
         ensures beside { option_map (beside (other self.old.home)) (D.seen self.new.disk) ≡ option_map (beside (other self.old.home)) (D.seen self.old.disk) }
-        ensures acknowledged { OnOk result ((self.new.home ≡ other self.old.home) × (self.new.gate ≡ Some (57 + length image.now)) × (self.new.top ≡ self.old.top + 1) × (self.new.failed ≡ false)) }
-        ensures failed { OnErr result ((self.new.home ≡ self.old.home) × (self.new.failed ≡ true)) }
+        ensures home { OnOk result (self.new.home ≡ other self.old.home) }
+        ensures gate { OnOk result (self.new.gate ≡ Some (57 + length image.now)) }
+        ensures top { OnOk result (self.new.top ≡ self.old.top + 1) }
+        ensures acknowledged { OnOk result (self.new.failed ≡ false) }
+        ensures stays { OnErr result (self.new.home ≡ self.old.home) }
+        ensures failed { OnErr result (self.new.failed ≡ true) }
         ensures too_large { result ≡ Err SaveFault.TooLarge ↔ (2 ^ 30 < 58 + length image.now) }
         ensures numbers_used { result ≡ Err SaveFault.NumbersUsed ↔ ((58 + length image.now ≤ 2 ^ 30) × (2 ^ 63 - 1 ≤ self.old.top)) }
         ensures refused { (result ≡ Err SaveFault.TooLarge) ⊎ (result ≡ Err SaveFault.NumbersUsed) → self.new ≡ record self.old { failed = true } }
@@ -116,8 +125,11 @@ impl<D: Disk> AreaStore<D> {
         ensures unsaved { OnErr result ((first : Point) (begun : List Point) → IsKept D.may_leave first begun self.old → IsKept D.may_leave first (begun ++ recorded body.now first ∷ []) self.new) }
         ensures seen { OnOk result (D.seen self.new.disk ≡ option_map (λ both. holding self.old.home (written (gate_of self.old) (1 ∷ record_behind body.now) (held self.old.home both)) both) (D.seen self.old.disk)) }
         ensures beside { option_map (beside self.old.home) (D.seen self.new.disk) ≡ option_map (beside self.old.home) (D.seen self.old.disk) }
-        ensures acknowledged { OnOk result ((self.new.home ≡ self.old.home) × (self.new.gate ≡ Some (gate_of self.old + 41 + length body.now)) × (self.new.top ≡ self.old.top) × (self.new.failed ≡ false)) }
-        ensures failed { OnErr result ((self.new.home ≡ self.old.home) × (self.new.failed ≡ true)) }
+        ensures home { self.new.home ≡ self.old.home }
+        ensures gate { OnOk result (self.new.gate ≡ Some (gate_of self.old + 41 + length body.now)) }
+        ensures top { self.new.top ≡ self.old.top }
+        ensures acknowledged { OnOk result (self.new.failed ≡ false) }
+        ensures failed { OnErr result (self.new.failed ≡ true) }
         ensures cause { HasCause (D.faults self.old.disk) (D.faults self.new.disk) result }
     {
         let gate = self.desk.gate.unwrap();

@@ -1,6 +1,7 @@
 //! Opening two areas, as one text.
 use crate::asserting::must;
-use area_store::{AreaStore, Texts};
+use area_pair::Texts;
+use area_store::AreaStore;
 use disk_area::{AreaFault, Damage, DamageCause};
 use std::alloc::Global;
 use std::process::Abort;

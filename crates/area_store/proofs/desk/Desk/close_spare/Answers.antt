@@ -1,7 +1,8 @@
-use Rattle.std.proofs.Common.{[], ◌∷◌, drop}
+use Rattle.std.proofs.Common.{◌∷◌, drop}
 use Rattle.disk_area.specs.Writes.{SameBehind, Becomes}
 use Rattle.disk_area.proofs.Moments.{at_start, only_wider}
-use Rattle.area_store.specs.Kept.{other, ReadsAs}
+use Rattle.area_pair.specs.Reads.{other}
+use Rattle.area_store.specs.Kept.{ReadsAs}
 use Rattle.area_store.proofs.Steps.{start_reads, closing_reads, closing_kept, closed_kept, run_in, sure_in}
 use Rattle.area_store.proofs.desk.Desk.close_spare.Goals as goal
 

@@ -1,9 +1,9 @@
-use Rattle.std.proofs.Common.{◌≡◌, ◌+◌, ◌++◌, [], ◌∷◌, length, drop, sym, subst, Some, true, false, arith}
-use Rattle.ws_outside.specs.Disk.{Each, Came, InArea}
+use Rattle.std.proofs.Common.{◌+◌, ◌++◌, [], ◌∷◌, length, drop, sym, subst, Some, false, arith}
 use Rattle.disk_area.specs.Area.{behind_gate}
 use Rattle.disk_area.specs.Writes.{IsShut, SameBehind, Staged, Becomes}
 use Rattle.disk_area.proofs.Moments.{both, only_wider}
-use Rattle.area_store.specs.Kept.{other, saved, ReadsAs, IsKept}
+use Rattle.area_pair.specs.Reads.{other}
+use Rattle.area_store.specs.Kept.{saved, ReadsAs, IsKept}
 use Rattle.area_store.proofs.Steps.{laying_reads, laying_kept, opening_reads, opening_came, opened_came, opening_kept, opened_kept, run_in, sure_in, on_err_of}
 use Rattle.area_store.proofs.desk.Desk.write_spare.Goals as goal
 

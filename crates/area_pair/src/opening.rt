@@ -1,15 +1,14 @@
 // What stands in two areas.
 ghost use Rattle.std.specs.Prelude.{◌≡◌, ◌≤◌, Some, None, Ok, IfOk, IfErr, IfSome, OnOk, MatchResult, if◌then◌else◌, nat_lt};
-ghost use Rattle.ws_outside.specs.Disk.{held, picked, Each, LeavesOnly};
+ghost use Rattle.ws_outside.specs.Disk.{held, Each, LeavesOnly};
 ghost use Rattle.ws_outside.specs.Faults.{HasCause};
 ghost use Rattle.disk_area.specs.declared.damage.AreaFault.TheVariants.{Disk};
 ghost use Rattle.disk_area.specs.Reading.{HasFault};
 ghost use Rattle.ws_outside.specs.declared.contents.Which.TheVariants.{Left, Right};
-ghost use Rattle.area_store.specs.Found.{is_shut as shut_of, gate_in, texts_with, desk_with, ended_of, TellsEnd, HasDamage, IsFound};
-ghost use Rattle.area_store.specs.Reads.{heads_of, chosen, number_of, greatest, TellsBoth};
+ghost use Rattle.area_pair.specs.Found.{is_shut as shut_of, ended_of, TellsEnd, HasDamage, IsFound};
+ghost use Rattle.area_pair.specs.Reads.{heads_of, chosen, TellsBoth};
 
 use crate::Texts;
-use crate::desk::{Desk, other_of};
 use disk_area::{Area, AreaFault, Damage, Head, head, read_area};
 use std::alloc::Global;
 use ws_outside::{Disk, Failed, Which};
@@ -48,7 +47,7 @@ pub(crate) fn heads<D: Disk>(disk: &mut D) -> Result<(Option<Head>, Option<Head>
 }
 
 /// The area that decides.
-pub(crate) fn choose(heads: (Option<Head>, Option<Head>)) -> Option<Which>
+pub fn choose(heads: (Option<Head>, Option<Head>)) -> Option<Which>
     ensures { result ≡ chosen heads }
 {
     match heads {
@@ -94,7 +93,7 @@ fn is_shut(front: &[u8]) -> bool
 }
 
 /// What the chosen area is read as; None where there is none.
-pub(crate) fn read_chosen<D: Disk>(
+fn read_chosen<D: Disk>(
     alloc: Global,
     disk: &mut D,
     chosen: Option<Which>,
@@ -144,7 +143,7 @@ fn ended(area: Which, whole: Area) -> Result<Option<(u64, Texts)>, AreaFault>
 }
 
 /// Brings both areas to the device, and finds what stands in them.
-pub(crate) fn find<D: Disk>(alloc: Global, disk: &mut D) -> Result<Found, AreaFault>
+pub fn find<D: Disk>(alloc: Global, disk: &mut D) -> Result<Found, AreaFault>
     ensures durable { IfOk result (λ _. Each (D.may_leave disk.new) (λ c. D.seen disk.old ≡ Some c)) }
     ensures found { IfOk result (λ found. IfSome (D.seen disk.old) (λ both. IsFound both found)) }
     ensures damaged { IfErr result (λ fault. IfSome (D.seen disk.old) (λ both. HasDamage both fault)) }
@@ -163,67 +162,4 @@ pub(crate) fn find<D: Disk>(alloc: Global, disk: &mut D) -> Result<Found, AreaFa
         right_shut,
         ended,
     })
-}
-
-/// What a store knows of its areas once these were found, and the texts.
-pub(crate) fn begin<D: Disk>(disk: D, found: Found) -> (Desk<D>, Option<Texts>)
-    ensures desk { result.0 ≡ desk_with disk found }
-    ensures texts { result.1 ≡ texts_with found.ended }
-{
-    let Found {
-        heads,
-        left_shut,
-        right_shut,
-        ended,
-    } = found;
-    let home = choose(heads).unwrap_or(Which::Right);
-    let (gate, texts) = split(ended);
-    let desk = Desk {
-        disk,
-        home,
-        gate,
-        top: greatest_of(heads),
-        home_shut: of_area(home, left_shut, right_shut),
-        spare_shut: of_area(other_of(home), left_shut, right_shut),
-        failed: false,
-    };
-    (desk, texts)
-}
-
-/// The place of the gate, and the texts.
-fn split(ended: Option<(u64, Texts)>) -> (Option<u64>, Option<Texts>)
-    ensures gate { result.0 ≡ gate_in ended }
-    ensures texts { result.1 ≡ texts_with ended }
-{
-    match ended {
-        None => (None, None),
-        Some((gate, texts)) => (Some(gate), Some(texts)),
-    }
-}
-
-/// The greatest number of an open area, 0 where none is open.
-fn greatest_of(heads: (Option<Head>, Option<Head>)) -> u64
-    ensures { result ≡ greatest heads }
-{
-    let (left, right) = heads;
-    number(left).max(number(right))
-}
-
-fn number(head: Option<Head>) -> u64
-    ensures { result ≡ number_of head }
-{
-    match head {
-        None => 0,
-        Some(head) => head.number,
-    }
-}
-
-/// What belongs to an area.
-fn of_area(area: Which, left: bool, right: bool) -> bool
-    ensures { result ≡ picked area left right }
-{
-    match area {
-        Which::Left => left,
-        Which::Right => right,
-    }
 }

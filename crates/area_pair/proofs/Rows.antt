@@ -1,19 +1,15 @@
 -- What two areas are read as, case by case.
-use Rattle.std.proofs.Common.{◌≡◌, inl, inr, ℕ, ◌≤◌, ◌<◌, List, [], ◌∷◌, ◌++◌, Option, Some, None, Result, Ok, Err, Bool, false, refl, sym, ◌∙◌, ap, subst}
-use Rattle.std.specs.Prelude.{codes, replicate, IfSome}
+use Rattle.std.proofs.Common.{◌≡◌, ℕ, ◌≤◌, ◌<◌, List, [], ◌∷◌, ◌++◌, Option, Some, None, Ok, Err, refl, sym, ap, subst}
+use Rattle.std.specs.Prelude.{codes, replicate}
 use Rattle.ws_outside.specs.declared.contents.Contents.{Contents}
-use Rattle.ws_outside.specs.declared.contents.Which.{Which}
 use Rattle.ws_outside.specs.declared.contents.Which.TheVariants.{Left, Right}
 use Rattle.disk_area.specs.Area.{IsArea}
 use Rattle.disk_area.specs.Reading.{Place, head_of}
-use Rattle.disk_area.specs.declared.damage.Damage.{Damage}
 use Rattle.disk_area.specs.declared.damage.DamageCause.TheVariants.{BadMagic, BadVersion, BadNumber, Truncated}
 use Rattle.disk_area.specs.declared.pieces.Head.{Head}
 use Rattle.disk_area.proofs.Areas.{area_back}
-use Rattle.disk_area.proofs.Fronts.{head_fits}
-use Rattle.area_store.specs.Reads.{heads_from, in_area, reads_by, reads}
-use Rattle.area_store.specs.Kept.{other, Stands}
-use Rattle.area_store.proofs.Points.{whole_head, home_reads}
+use Rattle.area_pair.specs.Reads.{heads_from, in_area, reads_by, reads}
+use Rattle.area_pair.proofs.Choosing.{whole_head, open_reads}
 
 abbrev both : List ℕ → List ℕ → Contents
 both left right = record { left = left; right = right }
@@ -55,10 +51,10 @@ then_right left right head place here there = λ i. reads_by (both left right) (
 
 -- one area open, and the other one closed
 left_open : (number : ℕ) (image : List ℕ) (records : List (List ℕ)) (left right : List ℕ) → IsArea number image records left → head_of right ≡ Ok None → reads (both left right) ≡ Ok (Some record { image = image; records = records })
-left_open number image records left right a closed = home_reads Left false number (Some record { image = image; records = records }) (both left right) None (refl, (_, area_back number image records left a)) closed tt
+left_open number image records left right a closed = open_reads Left number (record { image = image; records = records }) _ (both left right) None (area_back number image records left a) closed tt
 
 right_open : (number : ℕ) (image : List ℕ) (records : List (List ℕ)) (left right : List ℕ) → head_of left ≡ Ok None → IsArea number image records right → reads (both left right) ≡ Ok (Some record { image = image; records = records })
-right_open number image records left right closed a = home_reads Right false number (Some record { image = image; records = records }) (both left right) None (refl, (_, area_back number image records right a)) closed tt
+right_open number image records left right closed a = open_reads Right number (record { image = image; records = records }) _ (both left right) None (area_back number image records right a) closed tt
 
 -- both open: the left one on a tie or where its number is greater, else the right one
 module _ (left_number : ℕ) (left_image : List ℕ) (left_records : List (List ℕ)) (left : List ℕ) (is_left : IsArea left_number left_image left_records left)
@@ -66,11 +62,11 @@ module _ (left_number : ℕ) (left_image : List ℕ) (left_records : List (List 
   left_wins : right_number ≤ left_number → reads (both left right) ≡ Ok (Some record { image = left_image; records = left_records })
   left_wins le =
       let h = whole_head right_number (record { image = right_image; records = right_records }) _ right (area_back right_number right_image right_records right is_right) in
-      home_reads Left false left_number (Some record { image = left_image; records = left_records }) (both left right) (Some h.0) (refl, (_, area_back left_number left_image left_records left is_left)) h.1
-      (subst (λ (n : ℕ). n ≤ left_number) (sym h.2) le, (head_fits right h.0 h.1).1)
+      open_reads Left left_number (record { image = left_image; records = left_records }) _ (both left right) (Some h.0) (area_back left_number left_image left_records left is_left) h.1
+      (subst (λ (n : ℕ). n ≤ left_number) (sym h.2) le)
 
   right_wins : left_number < right_number → reads (both left right) ≡ Ok (Some record { image = right_image; records = right_records })
   right_wins lt =
       let h = whole_head left_number (record { image = left_image; records = left_records }) _ left (area_back left_number left_image left_records left is_left) in
-      home_reads Right false right_number (Some record { image = right_image; records = right_records }) (both left right) (Some h.0) (refl, (_, area_back right_number right_image right_records right is_right)) h.1
-      (subst (λ (n : ℕ). n < right_number) (sym h.2) lt, (head_fits left h.0 h.1).1)
+      open_reads Right right_number (record { image = right_image; records = right_records }) _ (both left right) (Some h.0) (area_back right_number right_image right_records right is_right) h.1
+      (subst (λ (n : ℕ). n < right_number) (sym h.2) lt)

@@ -3,8 +3,8 @@ ghost use Rattle.std.specs.Prelude.{◌≡◌, ◌⊎◌, Ok, IfOk, IfErr, IfSom
 ghost use Rattle.ws_outside.specs.Disk.{held, LeavesOnly};
 ghost use Rattle.disk_area.specs.declared.damage.AreaFault.TheVariants.{Disk, Memory};
 ghost use Rattle.disk_area.specs.Reading.{area_of, HasFault};
-ghost use Rattle.area_store.specs.Reads.{heads_of, chosen};
-ghost use Rattle.area_store.specs.Found.{HeadsDamaged};
+ghost use Rattle.area_pair.specs.Reads.{heads_of, chosen};
+ghost use Rattle.area_pair.specs.Found.{HeadsDamaged};
 
 use crate::opening::{choose, heads};
 use disk_area::{Area, AreaFault, DamageCause, Head, read_area};

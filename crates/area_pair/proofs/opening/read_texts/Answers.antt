@@ -1,8 +1,8 @@
 use Rattle.std.proofs.Common.{Ok, Some, refl, sym, ◌∙◌, ap, subst}
 use Rattle.disk_area.proofs.Readings.{one_told}
-use Rattle.area_store.specs.Found.{TellsEnd}
-use Rattle.area_store.proofs.Opened.{ended_tells}
-use Rattle.area_store.proofs.opening.read_texts.Goals as goal
+use Rattle.area_pair.specs.Found.{TellsEnd}
+use Rattle.area_pair.proofs.Ending.{ended_tells}
+use Rattle.area_pair.proofs.opening.read_texts.Goals as goal
 
 pub returns-in-Some-clause-told : goal.returns-in-Some-clause-told
 returns-in-Some-clause-told g c =

@@ -1,5 +1,5 @@
 -- What two areas are read as: the texts of the chosen one, or the first damage.
-use Rattle.std.specs.Prelude.{◌≡◌, ℕ, ◌≤◌, List, max, Bool, if◌then◌else◌, nat_lt, Option, Some, None, Result, Ok, Err}
+use Rattle.std.specs.Prelude.{◌≡◌, ℕ, ◌≤◌, ◌<◌, List, max, if◌then◌else◌, nat_lt, Option, Some, None, Result, Ok, Err}
 use Rattle.ws_outside.specs.declared.contents.Contents.{Contents}
 use Rattle.ws_outside.specs.declared.contents.Which.{Which}
 use Rattle.ws_outside.specs.declared.contents.Which.TheVariants.{Left, Right}
@@ -10,7 +10,7 @@ use Rattle.disk_area.specs.declared.damage.AreaFault.TheVariants.{Disk, Damaged,
 use Rattle.disk_area.specs.declared.damage.Damage.{Damage}
 use Rattle.disk_area.specs.declared.pieces.Head.{Head}
 use Rattle.disk_area.specs.Reading.{Place, head_of, area_of}
-use Rattle.area_store.specs.declared.texts.Texts.{Texts}
+use Rattle.area_pair.specs.declared.texts.Texts.{Texts}
 
 -- the heads of both areas, each where that area is open
 abbrev pub Heads : Type 0
@@ -74,3 +74,17 @@ TellsBoth expected (Ok value) = expected ≡ Ok value
 TellsBoth expected (Err Disk) = Unit {0}
 TellsBoth expected (Err (Damaged damage)) = expected ≡ Err damage
 TellsBoth expected (Err Memory) = Unit {0}
+
+-- an area with this number is read as these texts, up to the closed gate at this place
+abbrev pub IsWhole : ℕ → Texts → ℕ → List ℕ → Type 0
+IsWhole number texts gate bytes = area_of bytes ≡ Ok (Some record { number = number; image = texts.image; records = texts.records; end = Ok gate })
+
+-- the other area
+abbrev pub other : Which → Which
+other Left = Right
+other Right = Left
+
+-- beside an area of a number at this side one with the number n isn't chosen
+abbrev pub Loses : Which → ℕ → ℕ → Type 0
+Loses Left number n = n ≤ number
+Loses Right number n = n < number
