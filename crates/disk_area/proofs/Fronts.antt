@@ -331,6 +331,7 @@ if_short n open_ closed never e = by_test n open_ closed (nat_le 57 n) refl neve
   where
     lt_of : (n : ℕ) → nat_le 57 n ≡ false → n < 57
     lt_of n e = grind (arith, nat_tests)
+
     by_test : (n : ℕ) (open_ closed : Result (Option Head) Place) (b : Bool) → nat_le 57 n ≡ b → (open_ ≡ Ok None → ⊥) → (if b then open_ else closed) ≡ Ok None → n < 57
     by_test n open_ closed true is never e = absurd (never e)
     by_test n open_ closed false is never e = lt_of n is

@@ -1,4 +1,4 @@
-//! Tests of area_store, over what it offers.
+//! Tests of area_pair and area_store, over what they offer.
 //!
 //! - `asserting`: the assertions.
 //! - `opened`: opening two areas, as one text.
