@@ -20,10 +20,12 @@ is_shut (gate ∷ _) = if nat_eq gate 1 then false else true
 abbrev pub Ended : Type 0
 Ended = Option (ℕ × Texts)
 
+-- the texts alone
 abbrev pub texts_with : Ended → Option Texts
 texts_with None = None
 texts_with (Some ended) = Some ended.1
 
+-- texts that end at a gate, or at a damage
 abbrev pub ended_by : Which → Area → Result ℕ Place → Result Ended AreaFault
 ended_by area whole (Ok gate) = Ok (Some (gate, record { image = whole.image; records = whole.records }))
 ended_by area whole (Err place) = Err (Damaged (in_area area place))

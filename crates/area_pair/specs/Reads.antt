@@ -20,6 +20,7 @@ Heads = Option Head × Option Head
 abbrev pub in_area : Which → Place → Damage
 in_area area place = record { area = area; at = place.0; cause = place.1 }
 
+-- two heads, or the damage of the left one, or else that of the right one
 abbrev pub heads_from : Result (Option Head) Place → Result (Option Head) Place → Result Heads Damage
 heads_from (Err place) right = Err (in_area Left place)
 heads_from (Ok left) (Err place) = Err (in_area Right place)
@@ -36,6 +37,7 @@ chosen (None, Some right) = Some Right
 chosen (Some left, None) = Some Left
 chosen (Some left, Some right) = Some (if nat_lt left.number right.number then Right else Left)
 
+-- the save number of an area, 0 where it is closed
 abbrev pub number_of : Option Head → ℕ
 number_of None = 0
 number_of (Some head) = head.number
@@ -44,6 +46,7 @@ number_of (Some head) = head.number
 abbrev pub greatest : Heads → ℕ
 greatest heads = max (number_of heads.0) (number_of heads.1)
 
+-- the texts of an area whose records end at a gate; or the damage at which they end
 abbrev pub with_end : Which → Area → Result ℕ Place → Result (Option Texts) Damage
 with_end area whole (Ok gate) = Ok (Some record { image = whole.image; records = whole.records })
 with_end area whole (Err place) = Err (in_area area place)
@@ -54,10 +57,12 @@ texts_in area (Ok None) = Ok None
 texts_in area (Ok (Some whole)) = with_end area whole whole.end
 texts_in area (Err place) = Err (in_area area place)
 
+-- the texts of the chosen area
 abbrev pub texts_of : Contents → Option Which → Result (Option Texts) Damage
 texts_of both None = Ok None
 texts_of both (Some area) = texts_in area (area_of (held area both))
 
+-- the texts, by both heads
 abbrev pub reads_by : Contents → Result Heads Damage → Result (Option Texts) Damage
 reads_by both (Ok heads) = texts_of both (chosen heads)
 reads_by both (Err damage) = Err damage

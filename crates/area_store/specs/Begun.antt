@@ -14,6 +14,7 @@ abbrev pub home_of : Option Which → Which
 home_of None = Right
 home_of (Some area) = area
 
+-- the place of that gate
 abbrev pub gate_in : Ended → Option ℕ
 gate_in None = None
 gate_in (Some ended) = Some ended.0

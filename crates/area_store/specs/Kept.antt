@@ -25,6 +25,7 @@ saved image = Some record { image = image; records = [] }
 abbrev pub with_record : List ℕ → Texts → Texts
 with_record body texts = record { image = texts.image; records = texts.records ++ body ∷ [] }
 
+-- a point with a record more, where it has texts
 abbrev pub recorded : List ℕ → Point → Point
 recorded body None = None
 recorded body (Some texts) = Some (with_record body texts)
@@ -86,6 +87,7 @@ abbrev pub room_at : Bool → Option ℕ → Option ℕ
 room_at failed None = None
 room_at failed (Some gate) = if failed then None else (if nat_le (gate + 42) (2 ^ 30) then Some (2 ^ 30 - (gate + 42)) else None)
 
+-- the room that a store has for a record
 abbrev pub room_of : {D : Type 0} → Desk D → Option ℕ
 room_of desk = room_at desk.failed desk.gate
 
