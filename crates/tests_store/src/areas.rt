@@ -1,6 +1,9 @@
 //! A save's known bytes, and what is opened of areas that are changed.
+ghost use Rattle.std.specs.Prelude.{◌≤◌, ◌<◌, ◌^◌};
+
 use crate::asserting::{holds, must, same, same_at};
 use crate::opened::{disk_of, open_on, opened};
+use area_store::SaveFault;
 use disk_area::write_image;
 use std::alloc::Global;
 use std::process::Abort;
@@ -76,7 +79,7 @@ const TWINS: &str = "\
 3m 2m left:1:magic
 ";
 
-fn word<'a>(words: &mut SplitWhitespace<'a>) -> &'a str {
+pub fn word<'a>(words: &mut SplitWhitespace<'a>) -> &'a str {
     match words.next() {
         Some(word) => word,
         None => "",
@@ -125,7 +128,7 @@ fn is_cut_so(rt: &impl Abort, alloc: Global, row: &str) {
 }
 
 /// An area as its word in a row says.
-fn area_of(rt: &impl Abort, alloc: Global, word: &str, image: &[u8; 1]) -> Vec<u8> {
+pub fn area_of(rt: &impl Abort, alloc: Global, word: &str, image: &[u8; 1]) -> Vec<u8> {
     let letters = word.as_bytes();
     let digit = match letters {
         [digit, ..] if *digit != b'-' => *digit,
@@ -191,4 +194,31 @@ fn a_full_save_on_empty_areas_has_the_known_bytes_on_the_left(rt: HostRuntime) {
         same(&rt, disk.contents().of(Which::Left), FRESH);
         holds(&rt, disk.contents().of(Which::Right).is_empty());
     }
+}
+
+/// What a full save answers over an area with this save number, and whether there is room for a record then.
+fn saved_over(rt: &impl Abort, alloc: Global, number: u64) -> (Result<(), SaveFault>, bool)
+    requires low { 1 ≤ number }
+    requires high { number < 2 ^ 63 }
+{
+    let mut disk = disk_of(rt, alloc, b"", b"");
+    must(rt, write_image(&mut disk, Which::Left, number, b"l", false));
+    let (store, _) = open_on(rt, alloc, disk);
+    match store {
+        Some(mut store) => {
+            let answer = store.full(b"r");
+            (answer, store.room().is_some())
+        }
+        None => (Ok(()), false),
+    }
+}
+
+#[test]
+fn the_last_save_number_is_used_once(rt: HostRuntime) {
+    let (answer, room) = saved_over(&rt, rt.alloc(), (1 << 63) - 2);
+    same(&rt, answer, Ok(()));
+    holds(&rt, room);
+    let (answer, room) = saved_over(&rt, rt.alloc(), (1 << 63) - 1);
+    same(&rt, answer, Err(SaveFault::NumbersUsed));
+    holds(&rt, !room);
 }

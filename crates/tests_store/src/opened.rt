@@ -5,7 +5,7 @@ use area_store::AreaStore;
 use disk_area::{AreaFault, Damage, DamageCause};
 use std::alloc::Global;
 use std::process::Abort;
-use ws_outside::{Contents, MemDisk, Octets, Which};
+use ws_outside::{Contents, Disk, MemDisk, Octets, Which};
 
 /// A disk that holds these bytes.
 pub fn disk_of(rt: &impl Abort, alloc: Global, left: &[u8], right: &[u8]) -> MemDisk {
@@ -16,7 +16,7 @@ pub fn disk_of(rt: &impl Abort, alloc: Global, left: &[u8], right: &[u8]) -> Mem
     must(rt, MemDisk::new(alloc, first))
 }
 
-fn word_of(cause: DamageCause) -> &'static str {
+pub fn word_of(cause: DamageCause) -> &'static str {
     match cause {
         DamageCause::TooLarge => "large",
         DamageCause::BadMagic => "magic",
@@ -28,7 +28,7 @@ fn word_of(cause: DamageCause) -> &'static str {
     }
 }
 
-fn damage_text(rt: &impl Abort, alloc: Global, damage: Damage) -> String {
+pub fn damage_text(rt: &impl Abort, alloc: Global, damage: Damage) -> String {
     let area = match damage.area {
         Which::Left => "left",
         Which::Right => "right",
@@ -61,11 +61,7 @@ fn texts_text(rt: &impl Abort, alloc: Global, texts: Option<Texts>) -> String {
 }
 
 /// A store over the disk with the text of what it was opened to; or the text of the fault.
-pub fn open_on(
-    rt: &impl Abort,
-    alloc: Global,
-    disk: MemDisk,
-) -> (Option<AreaStore<MemDisk>>, String) {
+pub fn open_on<D: Disk>(rt: &impl Abort, alloc: Global, disk: D) -> (Option<AreaStore<D>>, String) {
     match AreaStore::open(alloc, disk) {
         Ok((store, texts)) => (Some(store), texts_text(rt, alloc, texts)),
         Err((AreaFault::Damaged(damage), _)) => (None, damage_text(rt, alloc, damage)),

@@ -67,7 +67,7 @@ fn record(
 
 /// Two full saves, each with a record behind it, on areas of which the left one holds this; and what the areas may be
 /// opened to then. A call that is to fail fails.
-fn saved(rt: &impl Abort, alloc: Global, left: &[u8], failing: Vec<u64>) -> (MemDisk, String) {
+pub fn saved(rt: &impl Abort, alloc: Global, left: &[u8], failing: Vec<u64>) -> (MemDisk, String) {
     let mut may = must(rt, String::from_str(alloc, " "));
     begun(rt, &mut may, opened(rt, alloc, left, b"").as_str());
     let disk = disk_of(rt, alloc, left, b"").failing_at(failing);
