@@ -115,6 +115,7 @@ impl<D: Disk> Desk<D> {
         ensures acknowledged { OnOk result (self.new.failed ≡ false) }
         ensures failed { OnErr result (self.new.failed ≡ true) }
         ensures top { OnOk result (self.new.top ≡ self.old.top + 1) }
+        ensures risen { (self.old.top ≤ self.new.top) × (self.new.top ≤ self.old.top + 1) }
         ensures gate { OnOk result (self.new.gate ≡ Some (57 + length image.now)) }
         ensures seen { OnOk result (D.seen self.new.disk ≡ option_map (λ both. holding (other self.old.home) (1 ∷ behind_gate (self.old.top + 1) image.now) both) (D.seen self.old.disk)) }
         ensures beside { option_map (beside (other self.old.home)) (D.seen self.new.disk) ≡ option_map (beside (other self.old.home)) (D.seen self.old.disk) }

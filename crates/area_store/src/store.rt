@@ -91,6 +91,7 @@ impl<D: Disk> AreaStore<D> {
         ensures home { OnOk result (self.new.home ≡ other self.old.home) }
         ensures gate { OnOk result (self.new.gate ≡ Some (57 + length image.now)) }
         ensures top { OnOk result (self.new.top ≡ self.old.top + 1) }
+        ensures risen { (self.old.top ≤ self.new.top) × (self.new.top ≤ self.old.top + 1) }
         ensures acknowledged { OnOk result (self.new.failed ≡ false) }
         ensures stays { OnErr result (self.new.home ≡ self.old.home) }
         ensures failed { OnErr result (self.new.failed ≡ true) }
