@@ -1,6 +1,7 @@
 pub mod Areas
 pub mod Bytes
 pub mod Chain
+pub mod Fronts
 pub mod Lay
 pub mod Moments
 pub mod Numbers
