@@ -1,4 +1,4 @@
 pub mod Admitted
-mod Ended
+pub mod Ended
 pub mod Apart
 pub mod Counts

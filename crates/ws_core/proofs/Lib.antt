@@ -6,3 +6,4 @@ pub mod SoundKept
 mod SessionsKept
 mod Attempts
 mod Renewing
+mod Roomy

@@ -1,6 +1,5 @@
 //! An open workspace.
-ghost use Rattle.std.specs.Prelude.{◌≡◌, ◌<◌, [], true, IfOk, IsOk, IsErr, Ok, OnOk, OnErr, option_copied, vec_len, vec_capacity};
-ghost use Rattle.std.specs.List.{last};
+ghost use Rattle.std.specs.Prelude.{◌≡◌, ◌≤◌, ◌<◌, ◌+◌, ◌-◌, [], length, slice_get, true, IfOk, IsOk, IsErr, Ok, OnOk, OnErr, option_copied, vec_len, vec_capacity};
 ghost use Rattle.sched_rules.specs.Atoms.{atom_contains, atom_conflicts};
 ghost use Rattle.rule_table.specs.Tables.{IsApart, outer_rule};
 ghost use Rattle.delta_kind.specs.Deltas.{delta, TellsContents};
@@ -144,7 +143,7 @@ impl<T: Remembers + Drop> Core<T> {
 
     /// The last entry of the history.
     pub fn last(&self) -> Option<&Entry>
-        ensures { option_copied result ≡ last self.now.history }
+        ensures { option_copied result ≡ slice_get self.now.history (length self.now.history - 1) }
     {
         self.entries.last()
     }
@@ -300,6 +299,8 @@ fn write(
     ensures ok { IfOk replied (λ r. (entries.new.items ≡ written entries.old.items (record { pass = pass; event = event; reply = r.value })) × (result ≡ Ok r.copy)) }
     ensures err { OnErr replied ((entries.new.items ≡ entries.old.items) × IsErr result) }
     ensures capacity { vec_capacity entries.new ≡ vec_capacity entries.old }
+    ensures len { vec_len entries.new ≤ vec_len entries.old + 1 }
+    ensures same_len { OnErr replied (vec_len entries.new ≡ vec_len entries.old) }
 {
     match replied {
         Ok(replied) => {
@@ -319,6 +320,7 @@ fn add(entries: &mut Vec<Entry>, pass: u64, event: Event, reply: Reply)
     requires { vec_len entries.old < vec_capacity entries.old }
     ensures items { entries.new.items ≡ written entries.old.items (record { pass = pass; event = event; reply = reply }) }
     ensures capacity { vec_capacity entries.new ≡ vec_capacity entries.old }
+    ensures len { vec_len entries.new ≤ vec_len entries.old + 1 }
 {
     if reply.answer.is_attempt(&event) {
         drop(event);

@@ -4,9 +4,8 @@ use Rattle.core_event.specs.Twice.{doubled, twice}
 use Rattle.core_event.specs.declared.twice.Twice.{Twice}
 use Rattle.job_manager.specs.declared.manager.JobManager.{JobManager}
 use Rattle.job_manager.specs.Effects as managing
-use Rattle.ws_core.specs.States.{Contents, Moment}
+use Rattle.ws_core.specs.States.{Moment}
 use Rattle.ws_core.specs.Steps.{step}
-use Rattle.ws_core.specs.Inside.Parts.{moment}
 use Rattle.std.specs.Prelude.{Some, None}
 use Rattle.std.specs.Option.{option_map, option_or}
 use Rattle.op_kind.specs.Refusals as ops
@@ -21,15 +20,13 @@ use Rattle.ws_core.proofs.state.State.operate.Goals as goal
 
 pub returns-in-Some-clause-ok : goal.returns-in-Some-clause-ok
 returns-in-Some-clause-ok g c =
-    let i = c.self.inside in
-    let s : Moment = moment i.content i.manager in
+    let s = c.args.self.now in
     let k = c.args.pass in
     let op = c.args.op.now in
     let w = c.args.wants_copy in
-    let told : is_quiet s.manager.passes ≡ true → s.remembered.told ≡ s.resources.tree = subst (λ (z : Moment). is_quiet z.manager.passes ≡ true → z.remembered.told ≡ z.resources.tree) (sym c.self.view_is) c.requires.quiet in
+    let admitted : admission s.manager.passes.rules k (operation_rule op) ≡ Some c.in-Some.refusal =
+    sym (ap (λ (z : Moment). admission z.manager.passes.rules k (operation_rule op)) c.self.view_is) ∙ sym c.in_ok-refusal.ensures ∙ c.in-Some.is in
     let is : refusal s k (Operation op) ≡ Some c.in-Some.refusal =
-    ap (λ a. option_or a (option_map refusals.Operation (ops.refusal s.resources op))) (sym c.in_ok-refusal.ensures ∙ c.in-Some.is) in
+    ap (λ a. option_or a (option_map refusals.Operation (ops.refusal s.resources op))) admitted in
     if_ok c.refuse.result (λ r h.
-    (λ j. (s, h j))
-    ∙ ap (doubled w) (refused_still s k (Operation op) c.in-Some.refusal is told)
-    ∙ ap (λ z. doubled w (step z k (Operation op))) c.self.view_is) c.refuse.ensures
+    (λ j. (s, h j)) ∙ ap (doubled w) (refused_still s k (Operation op) c.in-Some.refusal is c.requires.quiet)) c.refuse.ensures
