@@ -20,9 +20,6 @@ pub enum Verb {
     Begin,
     TryBegin,
     End,
-    Sleep,
-    Wake,
-    Cancel,
     Create,
     Delete,
     Write,
@@ -74,7 +71,7 @@ fn verb_named(word: &[u8]) -> Option<Verb>
     }
 }
 
-/// The verb with this name, of those that bound phases, jobs, batches and rules, and of those that steer jobs.
+/// The verb with this name, of those that bound phases, jobs, batches and rules.
 fn bound_named(word: &[u8]) -> Option<Verb>
     ensures { IsNamed bounds word.now result }
 {
@@ -89,9 +86,6 @@ fn bound_named(word: &[u8]) -> Option<Verb>
         b"begin" => Some(Verb::Begin),
         b"trybegin" => Some(Verb::TryBegin),
         b"end" => Some(Verb::End),
-        b"sleep" => Some(Verb::Sleep),
-        b"wake" => Some(Verb::Wake),
-        b"cancel" => Some(Verb::Cancel),
         _ => None,
     }
 }

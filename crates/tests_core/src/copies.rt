@@ -3,7 +3,7 @@ use crate::asserting::{holds, let_go, must, reads, same, some};
 use crate::passes::{CASES, CHANGED, after, reply_text};
 use report_text::delta_lines;
 use std::process::Abort;
-use ws_core::{Entry, History, Reply};
+use lone_core::{Entry, History, Reply};
 
 /// What is answered, and the lines of what is told.
 fn told_text(rt: &(impl Abort + AllocGlobal), reply: &Reply) -> Vec<u8> {

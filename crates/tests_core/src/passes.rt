@@ -5,7 +5,7 @@ use report_text::{delta_lines, put_counted, put_text, rule_words, tree_text};
 use res_path::Path;
 use script_lang::{Command, Job, Script};
 use std::process::Abort;
-use ws_core::{Answer, Core, Event, Refusal, Reply, State};
+use lone_core::{Answer, Core, Event, Refusal, Reply, State};
 use ws_ops::{Entries, Partners};
 
 /// The event of a command, which is made anew.

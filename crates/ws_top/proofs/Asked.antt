@@ -6,10 +6,10 @@ use Rattle.std.proofs.lemmas.List.{drop_all}
 use Rattle.std.proofs.lemmas.Bool.{false≢true}
 use Rattle.std.proofs.lemmas.Bool.Decides.{nat_tests}
 use Rattle.script_lang.specs.declared.script.Phase.{Phase}
-use Rattle.core_event.specs.declared.event.Event.TheVariants.{Enter, Leave}
-use Rattle.core_event.specs.declared.entry.Entry.{Entry}
-use Rattle.ws_core.specs.Sessions.{Session}
-use Rattle.run_text.proofs.Dropped.{dropped}
+use Rattle.lone_event.specs.declared.event.Event.TheVariants.{Enter, Leave}
+use Rattle.lone_event.specs.declared.entry.Entry.{Entry}
+use Rattle.lone_core.specs.Sessions.{Session}
+use Rattle.lone_text.proofs.Dropped.{dropped}
 use Rattle.ws_top.specs.Inside.Asking.{Asks, AsksFront, Stay, DoesCalls, DoesAll, DoesFront, Does}
 use Rattle.ws_top.specs.Runs.{Call, call_of, phase_calls, calls}
 

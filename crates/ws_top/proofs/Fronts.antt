@@ -3,13 +3,13 @@ use Rattle.std.proofs.Common.{◌≡◌, inl, inr, ℕ, List, [], ◌++◌, Opti
 use Rattle.std.specs.Prelude.{Result, Ok, Err, OnOk, OnErr}
 use Rattle.ws_outside.specs.Faults.{Rose, HasCause}
 use Rattle.ws_outside.specs.Streams.{Gains, GainsFront}
-use Rattle.core_event.specs.declared.entry.Entry.{Entry}
-use Rattle.run_text.specs.declared.writing.Unwritten.{Unwritten}
-use Rattle.run_text.specs.declared.writing.Unwritten.TheVariants.{Fault, Memory}
-use Rattle.run_text.specs.Printing.{PrintsSome, IsCause, PrintsAll, PrintsFront}
-use Rattle.run_text.proofs.Printed.{some_of, some_front, some_before, some_more, whole_of, front_of}
-use Rattle.run_text.proofs.Written.{gains_more}
-use Rattle.ws_core.specs.declared.state.State.{State}
+use Rattle.lone_event.specs.declared.entry.Entry.{Entry}
+use Rattle.lone_text.specs.declared.writing.Unwritten.{Unwritten}
+use Rattle.lone_text.specs.declared.writing.Unwritten.TheVariants.{Fault, Memory}
+use Rattle.lone_text.specs.Printing.{PrintsSome, IsCause, PrintsAll, PrintsFront}
+use Rattle.lone_text.proofs.Printed.{some_of, some_front, some_before, some_more, whole_of, front_of}
+use Rattle.lone_text.proofs.Written.{gains_more}
+use Rattle.lone_core.specs.declared.state.State.{State}
 use Rattle.ws_top.specs.Inside.Parts.{WritesLast, WritesReport, IsBreak, WritesRun}
 use Rattle.ws_top.specs.Outcomes.{Writes}
 use Rattle.ws_top.specs.Texts.{report_from, status_line}

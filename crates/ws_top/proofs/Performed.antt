@@ -3,10 +3,10 @@ use Rattle.std.proofs.Common.{◌≡◌, ◌≢◌, ◌⊎◌, inl, inr, ℕ, Li
 use Rattle.std.specs.Prelude.{Result, Ok, Err}
 use Rattle.ws_outside.specs.Faults.{Rose}
 use Rattle.ws_outside.specs.Streams.{Gains, GainsFront}
-use Rattle.core_event.specs.declared.entry.Entry.{Entry}
-use Rattle.run_text.specs.declared.writing.Unwritten.{Unwritten}
-use Rattle.run_text.specs.declared.writing.Unwritten.TheVariants.{Fault, Memory}
-use Rattle.ws_core.specs.declared.state.State.{State}
+use Rattle.lone_event.specs.declared.entry.Entry.{Entry}
+use Rattle.lone_text.specs.declared.writing.Unwritten.{Unwritten}
+use Rattle.lone_text.specs.declared.writing.Unwritten.TheVariants.{Fault, Memory}
+use Rattle.lone_core.specs.declared.state.State.{State}
 use Rattle.ws_top.specs.Inside.Parts.{WritesRun, Nothing, Same, Performs}
 use Rattle.ws_top.specs.Outcomes.{opened_state, WasRun, TellsWriteFault, IsOneThread, DoesScript, WritesCut, WritesText, Writes}
 use Rattle.ws_top.specs.Texts.{report_from, text, status_line}

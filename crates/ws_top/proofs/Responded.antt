@@ -5,8 +5,8 @@ use Rattle.script_lang.specs.declared.script.Script.{Script}
 use Rattle.script_words.specs.declared.error.ScriptError.{ScriptError}
 use Rattle.script_words.specs.declared.error.ScriptError.TheVariants.{BadLine, Memory}
 use Rattle.script_lang.specs.Scripts.{IsScript, IsFirstBad}
-use Rattle.core_event.specs.declared.entry.Entry.{Entry}
-use Rattle.ws_core.specs.Sessions.{Session}
+use Rattle.lone_event.specs.declared.entry.Entry.{Entry}
+use Rattle.lone_core.specs.Sessions.{Session}
 use Rattle.ws_top.specs.Inside.Asking.{DoesCalls, DoesFront}
 use Rattle.ws_top.specs.Inside.Parts.{Nothing, Same, Performs, Responds}
 use Rattle.ws_top.specs.Outcomes.{opened_state, SpellsNone, Shuffle, CutShuffle, StoppedShuffle, Spelled, Writes}

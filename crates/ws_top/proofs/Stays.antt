@@ -3,19 +3,19 @@ use Rattle.std.proofs.Common.{◌≡◌, ℕ, Bool, true, false, if◌then◌els
 use Rattle.std.proofs.lemmas.Bool.{false≢true, true≢false}
 use Rattle.script_lang.specs.declared.script.Command.{Command}
 use Rattle.script_lang.specs.declared.script.Command.TheVariants as commands
-use Rattle.core_event.specs.declared.event.Event.{Event}
-use Rattle.core_event.specs.declared.event.Event.TheVariants.{Enter, Leave, Schedule, Take, Finish, Begin, TryBegin, End, Batch, EndBatch, Checkpoint, Operation}
-use Rattle.core_event.specs.declared.reply.Answer.{Answer}
-use Rattle.core_event.specs.declared.reply.Answer.TheVariants as answers
-use Rattle.core_event.specs.declared.reply.Refusal.{Refusal}
-use Rattle.ws_core.specs.declared.state.State.{State}
-use Rattle.core_event.specs.Events.{is_leave}
-use Rattle.ws_core.specs.Effects.{effect, take, run, may_run}
-use Rattle.core_event.specs.declared.waiting.Waiting.{Waiting}
-use Rattle.ws_core.specs.Histories.{has_entered}
-use Rattle.core_event.specs.Numbers.{has_number}
-use Rattle.ws_core.specs.Refusals.{refusal}
-use Rattle.ws_core.specs.Steps.{acted, act, told, tells, step}
+use Rattle.lone_event.specs.declared.event.Event.{Event}
+use Rattle.lone_event.specs.declared.event.Event.TheVariants.{Enter, Leave, Schedule, Take, Finish, Begin, TryBegin, End, Batch, EndBatch, Checkpoint, Operation}
+use Rattle.lone_event.specs.declared.reply.Answer.{Answer}
+use Rattle.lone_event.specs.declared.reply.Answer.TheVariants as answers
+use Rattle.lone_event.specs.declared.reply.Refusal.{Refusal}
+use Rattle.lone_core.specs.declared.state.State.{State}
+use Rattle.lone_event.specs.Events.{is_leave}
+use Rattle.lone_core.specs.Effects.{effect, take, run, may_run}
+use Rattle.lone_event.specs.declared.waiting.Waiting.{Waiting}
+use Rattle.lone_core.specs.Histories.{has_entered}
+use Rattle.lone_event.specs.Numbers.{has_number}
+use Rattle.lone_core.specs.Refusals.{refusal}
+use Rattle.lone_core.specs.Steps.{acted, act, told, tells, step}
 use Rattle.ws_top.specs.Inside.Asking.{Stay}
 use Rattle.ws_top.specs.Outcomes.{opened_state}
 use Rattle.ws_top.specs.Runs.{event_of}

@@ -4,9 +4,9 @@ use Rattle.ws_outside.specs.Faults.{Rose}
 use Rattle.ws_outside.specs.Streams.{Gains, GainsFront, IsAtEnd}
 use Rattle.script_lang.specs.declared.script.Script.{Script}
 use Rattle.script_lang.specs.Scripts.{IsScript, IsFirstBad}
-use Rattle.core_event.specs.declared.entry.Entry.{Entry}
-use Rattle.ws_core.specs.declared.state.State.{State}
-use Rattle.ws_core.specs.Histories.{fresh, Legal, notices, told_of}
+use Rattle.lone_event.specs.declared.entry.Entry.{Entry}
+use Rattle.lone_core.specs.declared.state.State.{State}
+use Rattle.lone_core.specs.Histories.{fresh, Legal, notices, told_of}
 use Rattle.ws_top.specs.declared.words.Form.{Form}
 use Rattle.ws_top.specs.declared.words.Form.TheVariants.{Help, Version}
 use Rattle.ws_top.specs.Forms.{IsRun, help_text, version_text}

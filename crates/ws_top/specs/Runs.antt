@@ -6,9 +6,9 @@ use Rattle.script_lang.specs.declared.script.Command.TheVariants as commands
 use Rattle.script_lang.specs.declared.script.Job.{Job}
 use Rattle.script_lang.specs.declared.script.Phase.{Phase}
 use Rattle.script_lang.specs.Commands.{priority_number}
-use Rattle.core_event.specs.declared.event.Event.{Event}
-use Rattle.core_event.specs.declared.event.Event.TheVariants.{Enter, Leave, Schedule, Take, Finish, Begin, TryBegin, End, Batch, EndBatch, Checkpoint, Operation}
-use Rattle.core_event.specs.declared.entry.Entry.{Entry}
+use Rattle.lone_event.specs.declared.event.Event.{Event}
+use Rattle.lone_event.specs.declared.event.Event.TheVariants.{Enter, Leave, Schedule, Take, Finish, Begin, TryBegin, End, Batch, EndBatch, Checkpoint, Operation}
+use Rattle.lone_event.specs.declared.entry.Entry.{Entry}
 
 -- who asks what
 abbrev pub Call : Type 0

@@ -1,11 +1,11 @@
 -- The text of a run.
 use Rattle.std.specs.Prelude.{ℕ, List, ◌++◌, codes, decimal}
 use Rattle.delta_kind.specs.Deltas.{delta}
-use Rattle.core_event.specs.declared.entry.Entry.{Entry}
+use Rattle.lone_event.specs.declared.entry.Entry.{Entry}
 use Rattle.report_text.specs.Deltas.{delta_lines}
-use Rattle.run_text.specs.Lines.{history_lines}
-use Rattle.ws_core.specs.declared.state.State.{State}
-use Rattle.ws_core.specs.Histories.{replay}
+use Rattle.lone_text.specs.Lines.{history_lines}
+use Rattle.lone_core.specs.declared.state.State.{State}
+use Rattle.lone_core.specs.Histories.{replay}
 
 -- what changed since the state was opened
 abbrev pub changes_from : State → List Entry → List ℕ

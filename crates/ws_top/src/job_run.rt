@@ -1,17 +1,17 @@
 //! A script is run by one worker, event by event.
 ghost use Rattle.std.specs.Prelude.{◌≡◌, ◌∷◌, ◌++◌, [], map, true, false, IfOk, OnOk, MatchResult};
 ghost use Rattle.std.specs.List.{flat_map};
-ghost use Rattle.core_event.specs.Events.{is_leave};
-ghost use Rattle.ws_core.specs.Histories.{has_entered};
+ghost use Rattle.lone_event.specs.Events.{is_leave};
+ghost use Rattle.lone_core.specs.Histories.{has_entered};
 ghost use Rattle.ws_top.specs.Inside.Asking.{DoesCalls, DoesFront, Does};
 ghost use Rattle.ws_top.specs.Outcomes.{opened_state};
 ghost use Rattle.ws_top.specs.Runs.{event_of, command_call, schedule_event, schedule_call, job_calls, phase_calls, calls};
 
 use crate::NoMemory;
-use core_event::Event;
+use lone_event::Event;
 use script_lang::{Command, Job, Phase, Phases};
 use std::alloc::Global;
-use ws_core::Core;
+use lone_core::Core;
 
 /// What a command asks.
 fn event_of(command: Command) -> Event

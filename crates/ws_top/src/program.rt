@@ -10,7 +10,7 @@ use crate::NoMemory;
 use crate::reading::{Unread, read_all};
 use crate::response::{Outcome, nothing_done, respond, stop};
 use crate::words::{self, Form};
-use run_text::write_all;
+use lone_text::write_all;
 use std::alloc::Global;
 use ws_outside::{Sink, Source};
 

@@ -1,13 +1,13 @@
 //! What was done, and what changed since the start, is written to a sink.
 ghost use Rattle.std.specs.Prelude.{◌≡◌};
-ghost use Rattle.run_text.specs.Printing.{Printed};
+ghost use Rattle.lone_text.specs.Printing.{Printed};
 ghost use Rattle.ws_top.specs.Inside.Parts.{WritesLast, WritesReport, WritesRun};
 ghost use Rattle.ws_top.specs.Texts.{changes_from, report_from, status_line};
 
-use run_text::{Unwritten, print_entries, print_headed, write_all};
+use lone_text::{Unwritten, print_entries, print_headed, write_all};
 use std::alloc::Global;
 use std::mem;
-use ws_core::Core;
+use lone_core::Core;
 use ws_outside::Sink;
 
 /// Prints what changed since the start.

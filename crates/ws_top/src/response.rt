@@ -9,10 +9,10 @@ use crate::job_run::run_phases;
 use crate::report::write_run;
 use bytes::Bytes;
 use report_text::{put_counted, put_text};
-use run_text::{Unwritten, write_all};
+use lone_text::{Unwritten, write_all};
 use script_lang::{Script, ScriptError, parse_shared};
 use std::alloc::Global;
-use ws_core::{Core, History};
+use lone_core::{Core, History};
 use ws_outside::Sink;
 
 /// What a run ended with.

@@ -1,9 +1,9 @@
 -- How calls are made of an open workspace, one after another.
 use Rattle.std.specs.Prelude.{◌≡◌, ℕ, true, List, ◌∷◌, ◌++◌, map, Result, MatchResult}
-use Rattle.core_event.specs.declared.entry.Entry.{Entry}
-use Rattle.ws_core.specs.declared.state.State.{State}
-use Rattle.ws_core.specs.Histories.{has_entered}
-use Rattle.ws_core.specs.Sessions.{Session}
+use Rattle.lone_event.specs.declared.entry.Entry.{Entry}
+use Rattle.lone_core.specs.declared.state.State.{State}
+use Rattle.lone_core.specs.Histories.{has_entered}
+use Rattle.lone_core.specs.Sessions.{Session}
 use Rattle.ws_top.specs.Runs.{Call, call_of}
 
 -- these calls were made after what was done before, in this order

@@ -3,11 +3,11 @@ use Rattle.std.specs.Prelude.{◌≡◌, ◌≢◌, ◌⊎◌, ℕ, List, [], Op
 use Rattle.ws_outside.specs.Faults.{Rose}
 use Rattle.ws_outside.specs.Streams.{Gains, GainsFront}
 use Rattle.script_lang.specs.Scripts.{IsFirstBad}
-use Rattle.core_event.specs.declared.entry.Entry.{Entry}
-use Rattle.run_text.specs.declared.writing.Unwritten.{Unwritten}
-use Rattle.run_text.specs.declared.writing.Unwritten.TheVariants.{Fault, Memory}
-use Rattle.run_text.specs.Printing.{IsCause}
-use Rattle.ws_core.specs.declared.state.State.{State}
+use Rattle.lone_event.specs.declared.entry.Entry.{Entry}
+use Rattle.lone_text.specs.declared.writing.Unwritten.{Unwritten}
+use Rattle.lone_text.specs.declared.writing.Unwritten.TheVariants.{Fault, Memory}
+use Rattle.lone_text.specs.Printing.{IsCause}
+use Rattle.lone_core.specs.declared.state.State.{State}
 use Rattle.ws_top.specs.declared.reading.Unread.{Unread}
 use Rattle.ws_top.specs.declared.reading.Unread.TheVariants as unread
 use Rattle.ws_top.specs.Limits.{ReadsShort, ReadsLong}

@@ -1,5 +1,5 @@
 use Rattle.std.proofs.Common.{[]}
-use Rattle.ws_core.specs.Steps.{step}
+use Rattle.lone_core.specs.Steps.{step}
 use Rattle.ws_top.proofs.Asked.{does_one, does_none}
 use Rattle.ws_top.proofs.Stays.{stay_step}
 use Rattle.ws_top.proofs.job_run.ask.Goals as goal

@@ -1,6 +1,6 @@
 use Rattle.std.proofs.Common.{[], ◌∷◌}
 use Rattle.std.specs.List.{flat_map}
-use Rattle.core_event.specs.declared.event.Event.TheVariants.{Leave}
+use Rattle.lone_event.specs.declared.event.Event.TheVariants.{Leave}
 use Rattle.ws_top.specs.Runs.{phase_calls}
 use Rattle.ws_top.proofs.Asked.{calls_then, does_first}
 use Rattle.ws_top.proofs.job_run.do_and_leave.Goals as goal

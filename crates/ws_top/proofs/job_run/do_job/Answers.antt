@@ -1,5 +1,5 @@
 use Rattle.std.proofs.Common.{[], ◌∷◌, map, subst}
-use Rattle.core_event.specs.declared.event.Event.TheVariants.{Take, Finish}
+use Rattle.lone_event.specs.declared.event.Event.TheVariants.{Take, Finish}
 use Rattle.ws_top.specs.Inside.Asking.{DoesAll, DoesFront}
 use Rattle.ws_top.specs.Runs.{command_call}
 use Rattle.ws_top.proofs.Asked.{does_then, does_first}

@@ -1,6 +1,6 @@
 use Rattle.std.proofs.Common.{[], refl}
-use Rattle.core_event.specs.declared.event.Event.TheVariants.{Enter}
-use Rattle.ws_core.specs.Steps.{step}
+use Rattle.lone_event.specs.declared.event.Event.TheVariants.{Enter}
+use Rattle.lone_core.specs.Steps.{step}
 use Rattle.ws_top.proofs.Asked.{does_one, does_none}
 use Rattle.ws_top.proofs.Stays.{stay_step, first_entered, pass_0_entered}
 use Rattle.ws_top.proofs.job_run.enter.Goals as goal

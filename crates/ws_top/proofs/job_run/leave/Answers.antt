@@ -1,6 +1,6 @@
 use Rattle.std.proofs.Common.{[]}
-use Rattle.core_event.specs.declared.event.Event.TheVariants.{Leave}
-use Rattle.ws_core.specs.Steps.{step}
+use Rattle.lone_event.specs.declared.event.Event.TheVariants.{Leave}
+use Rattle.lone_core.specs.Steps.{step}
 use Rattle.ws_top.proofs.Asked.{calls_one, does_none}
 use Rattle.ws_top.proofs.job_run.leave.Goals as goal
 

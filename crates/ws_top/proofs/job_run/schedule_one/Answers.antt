@@ -1,5 +1,5 @@
 use Rattle.std.proofs.Common.{[], ◌∷◌, ap, refl, subst}
-use Rattle.core_event.specs.Events.{is_leave}
+use Rattle.lone_event.specs.Events.{is_leave}
 use Rattle.ws_top.specs.Inside.Asking.{Does}
 use Rattle.ws_top.specs.Runs.{schedule_call}
 use Rattle.ws_top.proofs.Asked.{does_none}

@@ -1,5 +1,5 @@
 use Rattle.std.proofs.Common.{[], ◌∷◌, map}
-use Rattle.core_event.specs.declared.event.Event.TheVariants.{Take}
+use Rattle.lone_event.specs.declared.event.Event.TheVariants.{Take}
 use Rattle.ws_top.specs.Runs.{command_call}
 use Rattle.ws_top.proofs.Asked.{does_then, does_first}
 use Rattle.ws_top.proofs.job_run.take_and_do.Goals as goal

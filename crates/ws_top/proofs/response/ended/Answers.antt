@@ -1,5 +1,5 @@
 use Rattle.std.proofs.Common.{subst}
-use Rattle.ws_core.specs.declared.state.State.{State}
+use Rattle.lone_core.specs.declared.state.State.{State}
 use Rattle.ws_top.specs.Outcomes.{IsOneThread}
 use Rattle.ws_top.proofs.response.ended.Goals as goal
 

@@ -1,0 +1,12 @@
+pub mod Told
+pub mod Seen
+pub mod LastBatch
+pub mod Grown
+pub mod Operated
+pub mod Remembered
+pub mod SoundKept
+pub mod SessionsKept
+pub mod Admitted
+pub mod Taken
+pub mod Ended
+pub mod Stepped

@@ -1,0 +1,13 @@
+use Rattle.std.proofs.Common.{◌≡◌, sym, ap, ◌∙◌, subst}
+use Rattle.lone_core.specs.Histories.{notices, told_of}
+use Rattle.lone_core.specs.Sessions.{Session}
+use Rattle.lone_core.proofs.SessionsKept.{session_told}
+use Rattle.lone_core.proofs.session.Core.history.Goals as goal
+
+pub returns-clause-told : goal.returns-clause-told
+returns-clause-told c =
+    let i = c.self.inside in
+    let x : Session = record { opened = i.opened.value; history = i.entries.items; state = i.state } in
+    let is : c.as_slice.result.now ≡ c.args.self.now.history = c.as_slice.ensures.value ∙ ap (λ (y : Session). y.history) c.self.view_is in
+    subst (λ h. told_of h ≡ notices c.args.self.now.opened h) (sym is)
+    (subst (λ (y : Session). told_of y.history ≡ notices y.opened y.history) c.self.view_is (session_told x c.self.invariant.1))

@@ -1,0 +1,3 @@
+-- What only the crate's own functions speak of.
+pub mod Views
+pub mod Acts

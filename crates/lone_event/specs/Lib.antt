@@ -1,0 +1,4 @@
+pub mod Batches
+pub mod Events
+pub mod Numbers
+pub mod Replies

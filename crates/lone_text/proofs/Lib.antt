@@ -1,0 +1,4 @@
+pub mod Dropped
+pub mod Written
+pub mod Printed
+pub mod Pieces

@@ -1,0 +1,12 @@
+use Rattle.report_text.specs.Deltas.{node_lines}
+use Rattle.lone_text.proofs.Pieces.{front_none, after_put}
+use Rattle.lone_text.proofs.printing.print_node.Goals as goal
+
+pub returns-in-Ok : goal.returns-in-Ok
+returns-in-Ok g c = record {
+  printed = after_put (g.K.Sink.written c.args.sink.now) (g.K.Sink.written c.print_gathered.new.sink) (g.K.Sink.faults c.args.sink.now) (g.K.Sink.faults c.print_gathered.new.sink)
+      c.args.out.now.items (node_lines c.args.node.now) c.put_node.new.out.items c.print_gathered.new.out.items c.print_gathered.result c.in-Ok.ensures c.print_gathered.ensures.printed;
+}
+
+pub returns-in-Err : goal.returns-in-Err
+returns-in-Err g c = record { printed = front_none (g.K.Sink.written c.args.sink.now) (g.K.Sink.faults c.args.sink.now) c.args.out.now.items (node_lines c.args.node.now) }
