@@ -21,10 +21,10 @@ mod state;
 mod stepping;
 mod telling;
 
+pub use history::History;
 pub use lone_event::{
     Answer, Apart, Batches, Entry, Event, Notice, Numbers, Refusal, Reply, Waiting, WsRule,
 };
-pub use history::History;
 pub use op_rule::operation_rule;
 pub use res_path::NoMemory;
 pub use session::Core;

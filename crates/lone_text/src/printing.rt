@@ -8,8 +8,8 @@ ghost use Rattle.lone_text.specs.Replies.{entry_line};
 
 use crate::entry_text::{is_shown, put_line};
 use crate::writing::{Unwritten, write_waiting};
-use lone_event::Entry;
 use delta_kind::{Delta, DeltaNode};
+use lone_event::Entry;
 use report_text::{put_node, put_text};
 use ws_outside::Sink;
 

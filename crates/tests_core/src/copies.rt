@@ -1,9 +1,9 @@
 //! Copies of what was done.
 use crate::asserting::{holds, let_go, must, reads, same, some};
 use crate::passes::{CASES, CHANGED, after, reply_text};
+use lone_core::{Entry, History, Reply};
 use report_text::delta_lines;
 use std::process::Abort;
-use lone_core::{Entry, History, Reply};
 
 /// What is answered, and the lines of what is told.
 fn told_text(rt: &(impl Abort + AllocGlobal), reply: &Reply) -> Vec<u8> {

@@ -1,11 +1,11 @@
 //! A core with several passes.
 use crate::asserting::{holds, let_go, must, reads, same, some};
 use crate::rows::{command, cut, job, job_text, number, script};
+use lone_core::{Answer, Core, Event, Refusal, Reply, State};
 use report_text::{delta_lines, put_counted, put_text, rule_words, tree_text};
 use res_path::Path;
 use script_lang::{Command, Job, Script};
 use std::process::Abort;
-use lone_core::{Answer, Core, Event, Refusal, Reply, State};
 use ws_ops::{Entries, Partners};
 
 /// The event of a command, which is made anew.

@@ -8,10 +8,10 @@ ghost use Rattle.ws_top.specs.Outcomes.{opened_state};
 ghost use Rattle.ws_top.specs.Runs.{event_of, command_call, schedule_event, schedule_call, job_calls, phase_calls, calls};
 
 use crate::NoMemory;
+use lone_core::Core;
 use lone_event::Event;
 use script_lang::{Command, Job, Phase, Phases};
 use std::alloc::Global;
-use lone_core::Core;
 
 /// What a command asks.
 fn event_of(command: Command) -> Event

@@ -4,10 +4,10 @@ ghost use Rattle.lone_text.specs.Printing.{Printed};
 ghost use Rattle.ws_top.specs.Inside.Parts.{WritesLast, WritesReport, WritesRun};
 ghost use Rattle.ws_top.specs.Texts.{changes_from, report_from, status_line};
 
+use lone_core::Core;
 use lone_text::{Unwritten, print_entries, print_headed, write_all};
 use std::alloc::Global;
 use std::mem;
-use lone_core::Core;
 use ws_outside::Sink;
 
 /// Prints what changed since the start.

@@ -8,11 +8,11 @@ use crate::NoMemory;
 use crate::job_run::run_phases;
 use crate::report::write_run;
 use bytes::Bytes;
-use report_text::{put_counted, put_text};
+use lone_core::{Core, History};
 use lone_text::{Unwritten, write_all};
+use report_text::{put_counted, put_text};
 use script_lang::{Script, ScriptError, parse_shared};
 use std::alloc::Global;
-use lone_core::{Core, History};
 use ws_outside::Sink;
 
 /// What a run ended with.
