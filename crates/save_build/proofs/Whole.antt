@@ -23,7 +23,7 @@ use Rattle.save_build.specs.Told.{told_tree, Tells, IsFit, AreFit, AllTold, IsBu
 
 -- ---- trees
 
-one_entry : (p : Names) (x y : Option Element) → IfSome x (IsFit p) → IfSome y (IsFit p) → option_map told x ≡ option_map told y → x ≡ y
+pub one_entry : (p : Names) (x y : Option Element) → IfSome x (IsFit p) → IfSome y (IsFit p) → option_map told x ≡ option_map told y → x ≡ y
 one_entry p None None f g e = refl
 one_entry p None (Some y) f g e = absurd cc
 one_entry p (Some x) None f g e = absurd cc
