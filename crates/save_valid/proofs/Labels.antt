@@ -1,0 +1,129 @@
+-- Numbers that differ.
+use Rattle.std.proofs.Common.{◌≡◌, ◌≢◌, ◌↔◌, ℕ, Bool, true, false, cond, List, [], ◌∷◌, ◌++◌, refl, sym, ap, ◌∙◌, subst, rules}
+use Rattle.std.specs.Prelude.{Option, Some, None, is_some, IsTrue, Result, Ok, Err, IfOk, ◌==◌}
+use Rattle.std.specs.declared.alloc.AllocError.{AllocError}
+use Rattle.std.specs.List.{AllByRecursion}
+use Rattle.std.specs.FinMap.{FinMap, get, insert, empty, contains_key, find, from_entries, get-insert, get-from_entries, get-empty, same_map, nat_cmp-IsAntisymmetric}
+use Rattle.std.specs.Ordering.{nat_cmp, eq_by_cmp}
+use Rattle.std.specs.Cmp.{nat_cmp_total, eq_by_cmp_equiv, unsigned_tied}
+use Rattle.std.specs.BTreeMap.{is_at}
+use Rattle.std.specs.Option.{option_copied}
+use denote.Ref.{Bor}
+use Rattle.std.specs.Map.{lookup}
+use Rattle.save_valid.specs.Rules.{AllDiffer}
+use Rattle.save_valid.specs.Inside.Fresh.{Numbers, Fresh, with_all}
+
+-- ---- a map from numbers, as it is kept
+
+module _ {X : Type 0} where
+  find_is : (es : List (ℕ × X)) (q : ℕ) → find nat_cmp q es ≡ lookup (is_at (nat_cmp q)) es
+  find_is [] q = refl
+  find_is (e ∷ es) q = ap (cond (is_at (nat_cmp q) e.0) (Some e.1)) (find_is es q)
+
+  pub get_is : (es : List (ℕ × X)) (q : ℕ) → get (from_entries {R = nat_cmp} es) q ≡ lookup (is_at (nat_cmp q)) es
+  get_is es q = get-from_entries nat_cmp_total es q ∙ find_is es q
+
+  pub one_put : (es fs : List (ℕ × X)) (n : ℕ) (p : X) → ((q : ℕ) → lookup (is_at (nat_cmp q)) fs ≡ cond (is_at (nat_cmp n) q) (Some p) (lookup (is_at (nat_cmp q)) es))
+      → from_entries {R = nat_cmp} fs ≡ insert (from_entries es) n p
+  one_put es fs n p h = same_map nat_cmp_total nat_cmp-IsAntisymmetric _ _ (λ q.
+      get_is fs q ∙ h q ∙ ap (λ b. cond b (Some p) (lookup (is_at (nat_cmp q)) es)) ((eq_by_cmp_equiv nat_cmp_total).symm n q)
+      ∙ sym (get-insert nat_cmp_total (from_entries es) n p q ∙ ap (cond (eq_by_cmp nat_cmp q n) (Some p)) (get_is es q)))
+
+-- ---- fresh numbers differ
+
+abbrev Unseen : Numbers → List ℕ → Type 0
+Unseen seen = AllByRecursion (λ n. contains_key seen n ≡ false)
+
+tie : (k n : ℕ) → eq_by_cmp nat_cmp k n ≡ (n == k)
+tie k n = search (rules, unsigned_tied)
+
+same : (n k : ℕ) → (n == k) ≡ true → n ≡ k
+same n k h = search (rules, h)
+
+itself : (n : ℕ) → (n == n) ≡ true
+itself n = search rules
+
+has_insert : (seen : Numbers) (n k : ℕ) → contains_key (insert seen n tt) k ≡ is_some (cond (n == k) (Some tt) (get seen k))
+has_insert seen n k = ap is_some (get-insert nat_cmp_total seen n tt k ∙ ap (λ b. cond b (Some tt) (get seen k)) (tie k n))
+
+parts : (t : Bool) (o : Option (Unit {0})) → is_some (cond t (Some tt) o) ≡ false → (t ≡ false) × (is_some o ≡ false)
+parts true o h = absurd cc
+parts false o h = (refl, h)
+
+whole : (t : Bool) (o : Option (Unit {0})) → t ≡ false → is_some o ≡ false → is_some (cond t (Some tt) o) ≡ false
+whole true o h g = absurd cc
+whole false o h g = g
+
+other : (n k : ℕ) → (n == k) ≡ false → k ≢ n
+other n k h e = let t : true ≡ false = sym (itself n) ∙ ap (λ x. n == x) (sym e) ∙ h in absurd cc
+
+not_same : (n k : ℕ) → k ≢ n → (n == k) ≡ false
+not_same n k h = by (n == k) refl where
+  by : (t : Bool) → (n == k) ≡ t → t ≡ false
+  by true e = absurd (h (sym (same n k e)))
+  by false e = refl
+
+unseen_parts : (seen : Numbers) (n : ℕ) (ks : List ℕ) → Unseen (insert seen n tt) ks → Unseen seen ks × AllByRecursion (λ k. k ≢ n) ks
+unseen_parts seen n [] h = (tt, tt)
+unseen_parts seen n (k ∷ ks) h =
+    let p = parts (n == k) (get seen k) (sym (has_insert seen n k) ∙ h.0) in
+    let r = unseen_parts seen n ks h.1 in
+    ((p.1, r.0), (other n k p.0, r.1))
+
+unseen_whole : (seen : Numbers) (n : ℕ) (ks : List ℕ) → Unseen seen ks → AllByRecursion (λ k. k ≢ n) ks → Unseen (insert seen n tt) ks
+unseen_whole seen n [] h g = tt
+unseen_whole seen n (k ∷ ks) h g = (has_insert seen n k ∙ whole (n == k) (get seen k) (not_same n k g.0) h.0, unseen_whole seen n ks h.1 g.1)
+
+fresh_differ : (seen : Numbers) (ns : List ℕ) → Fresh seen ns → Unseen seen ns × AllDiffer ns
+fresh_differ seen [] h = (tt, tt)
+fresh_differ seen (n ∷ ns) h =
+    let r = fresh_differ (insert seen n tt) ns h.1 in
+    let p = unseen_parts seen n ns r.0 in
+    ((h.0, p.0), (p.1, r.1))
+
+differ_fresh : (seen : Numbers) (ns : List ℕ) → Unseen seen ns → AllDiffer ns → Fresh seen ns
+differ_fresh seen [] h g = tt
+differ_fresh seen (n ∷ ns) h g = (h.0, differ_fresh (insert seen n tt) ns (unseen_whole seen n ns h.1 g.0) g.1)
+
+none_seen : (ns : List ℕ) → Unseen empty ns
+none_seen [] = tt
+none_seen (n ∷ ns) = (ap is_some (get-empty {X = Unit {0}} nat_cmp n), none_seen ns)
+
+fresh_join : (seen : Numbers) (xs ys : List ℕ) → Fresh seen xs → Fresh (with_all seen xs) ys → Fresh seen (xs ++ ys)
+fresh_join seen [] ys h g = g
+fresh_join seen (x ∷ xs) ys h g = (h.0, fresh_join (insert seen x tt) xs ys h.1 g)
+
+fresh_split : (seen : Numbers) (xs ys : List ℕ) → Fresh seen (xs ++ ys) → Fresh seen xs × Fresh (with_all seen xs) ys
+fresh_split seen [] ys h = (tt, h)
+fresh_split seen (x ∷ xs) ys h = let r = fresh_split (insert seen x tt) xs ys h.1 in ((h.0, r.0), r.1)
+
+pub first_fails : (xs ys : List ℕ) (seen : Numbers) (b : Bool) → seen ≡ empty → b ≡ false → (IsTrue b ↔ Fresh seen xs) → IsTrue false ↔ AllDiffer (xs ++ ys)
+first_fails xs ys seen b start is h = (
+  λ u. absurd (let f : false ≡ true = u in cc),
+  λ d. absurd (let f : b ≡ true = h.1 (subst (λ s. Fresh s xs) (sym start) (fresh_split empty xs ys (differ_fresh empty (xs ++ ys) (none_seen (xs ++ ys)) d)).0) in cc),
+)
+
+both_decide : (xs ys : List ℕ) (seen : Numbers) (r : Result Bool AllocError) → Fresh empty xs → seen ≡ with_all empty xs → IfOk r (λ b. IsTrue b ↔ Fresh seen ys) → IfOk r (λ b. IsTrue b ↔ AllDiffer (xs ++ ys))
+both_decide xs ys seen (Err e) f is h = tt
+both_decide xs ys seen (Ok b) f is h = (
+  λ u. (fresh_differ empty (xs ++ ys) (fresh_join empty xs ys f (subst (λ s. Fresh s ys) is (h.0 u)))).1,
+  λ d. h.1 (subst (λ s. Fresh s ys) (sym is) (fresh_split empty xs ys (differ_fresh empty (xs ++ ys) (none_seen (xs ++ ys)) d)).1),
+)
+
+pub second_decides : (xs ys : List ℕ) (old new : Numbers) (b : Bool) (first r : Result Bool AllocError) → old ≡ empty → first ≡ Ok b → b ≡ true → (IsTrue b ↔ Fresh old xs) → (first ≡ Ok true → new ≡ with_all old xs)
+    → IfOk r (λ b. IsTrue b ↔ Fresh new ys) → IfOk r (λ b. IsTrue b ↔ AllDiffer (xs ++ ys))
+second_decides xs ys old new b first r start was is h all next =
+    both_decide xs ys new r (subst (λ s. Fresh s xs) start (h.0 is)) (all (was ∙ ap (λ (t : Bool). Ok t) is) ∙ ap (λ s. with_all s xs) start) next
+
+pub one_decides : (ns : List ℕ) (seen : Numbers) (r : Result Bool AllocError) → seen ≡ empty → IfOk r (λ b. IsTrue b ↔ Fresh seen ns) → IfOk r (λ b. IsTrue b ↔ AllDiffer ns)
+one_decides ns seen (Err e) start h = tt
+one_decides ns seen (Ok b) start h = (
+  λ u. (fresh_differ empty ns (subst (λ s. Fresh s ns) start (h.0 u))).1,
+  λ d. h.1 (subst (λ s. Fresh s ns) (sym start) (differ_fresh empty ns (none_seen ns) d)),
+)
+
+-- ---- a number that is looked up
+
+pub copied_there : {X : Type 0} (o : Option (Bor X)) → is_some o ≡ is_some (option_copied o)
+copied_there None = refl
+copied_there (Some x) = refl

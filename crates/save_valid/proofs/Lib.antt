@@ -1,0 +1,4 @@
+pub mod Eaches
+pub mod Labels
+pub mod Parents
+pub mod Wholes

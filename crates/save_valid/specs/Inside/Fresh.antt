@@ -1,0 +1,21 @@
+-- Numbers that were not seen before.
+use Rattle.std.specs.Prelude.{◌≡◌, ℕ, List, [], ◌∷◌, false, refl}
+use Rattle.std.specs.Coded.{Coded, code_by, coded_ℕ}
+use Rattle.std.specs.FinMap.{FinMap, contains_key, insert}
+use Rattle.std.specs.Ordering.{nat_cmp}
+
+abbrev pub Numbers : Type 0
+Numbers = FinMap nat_cmp (Unit {0})
+
+-- none of them was seen before, those before it among them
+abbrev pub Fresh : Numbers → List ℕ → Type 0
+Fresh seen [] = Unit {0}
+Fresh seen (n ∷ ns) = (contains_key seen n ≡ false) × Fresh (insert seen n tt) ns
+
+abbrev pub with_all : Numbers → List ℕ → Numbers
+with_all seen [] = seen
+with_all seen (n ∷ ns) = with_all (insert seen n tt) ns
+
+-- what tells nothing is stored as 0
+abbrev pub coded_unit : Coded (Unit {0})
+coded_unit = code_by ℕ coded_ℕ (λ _. 0) (λ _. tt) (λ _. refl)

@@ -1,0 +1,18 @@
+//! Whether what a text tells may be kept.
+//!
+//! - `each`: what holds of each element of a tree.
+//! - `counters`: every number was drawn, and every partner is registered.
+//! - `places`: where elements stand in a tree, and on the shelf.
+#![tactic(auto)]
+
+mod counters;
+mod each;
+mod numbers;
+mod places;
+mod whole;
+
+pub use counters::Below;
+pub use each::{Test, is_each};
+pub use numbers::do_nodes_differ;
+pub use places::{Placed, Shelved};
+pub use whole::is_whole;
