@@ -6,12 +6,14 @@
 #![tactic(auto)]
 
 mod counters;
+mod described;
 mod each;
 mod numbers;
 mod places;
 mod whole;
 
 pub use counters::Below;
+pub use described::{Described, are_built_in};
 pub use each::{Test, is_each};
 pub use numbers::do_nodes_differ;
 pub use places::{Placed, Shelved};
