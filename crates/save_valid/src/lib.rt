@@ -15,6 +15,6 @@ mod whole;
 pub use counters::Below;
 pub use described::{Described, are_built_in};
 pub use each::{Test, is_each};
-pub use numbers::do_nodes_differ;
+pub use numbers::{do_names_differ, do_nodes_differ};
 pub use places::{Placed, Shelved};
 pub use whole::is_whole;
