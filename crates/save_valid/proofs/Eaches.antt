@@ -4,7 +4,7 @@ use Rattle.std.specs.Prelude.{Bool, Result, Ok, Err, IfOk, IsTrue}
 use Rattle.std.specs.declared.alloc.AllocError.{AllocError}
 use Rattle.std.specs.List.{AllByRecursion}
 use Rattle.std.specs.FinMap.{entries}
-use Rattle.res_path.specs.Paths.{Names, path_cmp}
+use Rattle.res_path.specs.Paths.{Names}
 use Rattle.res_path.specs.PathLaws.{path_cmp_total}
 use Rattle.res_path.proofs.Prefixes.{path_cmp_exact}
 use Rattle.ws_elem.specs.declared.element.Element.{Element}

@@ -1,5 +1,5 @@
 -- Elements and their parents.
-use Rattle.std.proofs.Common.{◌≡◌, ◌≢◌, ◌↔◌, Bool, [], ◌∷◌, length, refl, sym, ap, ◌∙◌, subst}
+use Rattle.std.proofs.Common.{◌≡◌, ◌≢◌, ◌↔◌, Bool, [], ◌∷◌, length, ap, ◌∙◌, subst}
 use Rattle.std.specs.Prelude.{Option, Some, None, IsTrue, IsSomeAnd}
 use Rattle.std.specs.FinMap.{get}
 use Rattle.res_path.specs.Paths.{Names, parent, parent_of}

@@ -1,11 +1,11 @@
 -- Whole trees, by what is tested of them.
-use Rattle.std.proofs.Common.{◌≡◌, ◌≢◌, ◌↔◌, ℕ, zero, suc, ◌+◌, ◌<◌, Bool, true, false, cond, ◌&&◌, List, [], ◌∷◌, ◌++◌, length, map, T, refl, sym, ap, ◌∙◌, subst, arith}
+use Rattle.std.proofs.Common.{◌≡◌, ◌≢◌, ◌↔◌, ℕ, zero, suc, ◌+◌, ◌<◌, Bool, true, false, cond, ◌&&◌, List, [], ◌∷◌, length, map, T, refl, sym, ap, ◌∙◌, subst, arith}
 use Rattle.std.specs.Prelude.{Option, Some, None, IfSome, IsSomeAnd, IsTrue, Result, Ok, Err, IfOk, bytes_eq}
 use Rattle.std.specs.declared.alloc.AllocError.{AllocError}
 use Rattle.std.specs.declared.cmp.Ordering.{Ordering}
 use Rattle.std.specs.declared.cmp.Ordering.TheVariants.{Less, Equal, Greater}
 use Rattle.std.specs.List.{AllByRecursion}
-use Rattle.std.specs.FinMap.{FinMap, get, entries, empty, find, get-entries, entries_sorted, is_sorted}
+use Rattle.std.specs.FinMap.{get, entries, find, get-entries, entries_sorted, is_sorted}
 use Rattle.std.specs.FinMap.Entries.{below_all}
 use Rattle.std.specs.Ordering.{is_eq, is_lt}
 use Rattle.std.proofs.lemmas.Slice.Eq.{bytes_eq-Decides}
@@ -13,7 +13,7 @@ use Rattle.res_path.specs.Paths.{Names, path_cmp, parent, is_prefix}
 use Rattle.res_path.specs.PathLaws.{path_cmp_total}
 use Rattle.res_path.proofs.Prefixes.{path_cmp_exact, path_itself}
 use Rattle.ws_elem.specs.declared.element.Element.{Element}
-use Rattle.ws_elem.specs.declared.kind.Kind.TheVariants.{File, Folder, Project, Root}
+use Rattle.ws_elem.specs.declared.kind.Kind.TheVariants.{File, Project, Root}
 use Rattle.ws_elem.specs.Trees.{Tree, Whole}
 use Rattle.save_elem.proofs.Orders.{to_all}
 use Rattle.save_valid.specs.Places.{IsOpen, IsPlaced}
@@ -223,11 +223,13 @@ whole_from t root h differ = record {
 
 open_parent : (t : Tree) → Whole t → (n : List ℕ) (p : Names) (e : Element) → get t (n ∷ p) ≡ Some e → (x : Option Element) → get t (parent (n ∷ p)) ≡ x → IsSomeAnd x (λ f. f.kind ≢ File) → IsSomeAnd x IsOpen
 open_parent t w n p e is None up h = h
-open_parent t w n p e is (Some f) up h =
-    (h, λ kind. opened_or f.opened (λ shut.
-    let gone = some_if (get t (parent (n ∷ p))) (λ f. f.kind ≡ Project → f.opened ≡ false → is_prefix (parent (n ∷ p)) (n ∷ p) ≡ true → n ∷ p ≢ parent (n ∷ p) → get t (n ∷ p) ≡ None) (w.closed (parent (n ∷ p)) (n ∷ p)) f up in
-    let none = gone kind shut (above (n ∷ p)) (not_own n p) in
-    let no : None ≡ Some e = sym none ∙ is in cc))
+open_parent t w n p e is (Some f) up h = (
+  h,
+  λ kind. opened_or f.opened (λ shut.
+      let gone = some_if (get t (parent (n ∷ p))) (λ f. f.kind ≡ Project → f.opened ≡ false → is_prefix (parent (n ∷ p)) (n ∷ p) ≡ true → n ∷ p ≢ parent (n ∷ p) → get t (n ∷ p) ≡ None) (w.closed (parent (n ∷ p)) (n ∷ p)) f up in
+      let none = gone kind shut (above (n ∷ p)) (not_own n p) in
+      let no : None ≡ Some e = sym none ∙ is in cc),
+)
 
 placed_to : (t : Tree) → Whole t → (p : Names) (e : Element) → get t p ≡ Some e → IsPlaced t p e
 placed_to t w [] e is = λ kind. let one = (some_if (get t []) (λ e. (e.kind ≡ Project) ↔ (length {A = List ℕ} [] ≡ 1)) (w.projects []) e is).0 kind in omega (arith, one)

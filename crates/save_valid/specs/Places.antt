@@ -1,5 +1,5 @@
 -- Where elements may stand.
-use Rattle.std.specs.Prelude.{◌≡◌, ◌≢◌, ◌⊎◌, ◌↔◌, ℕ, ◌≤◌, true, false, List, [], ◌∷◌, length, Option, Some, None, IfSome, IsSomeAnd}
+use Rattle.std.specs.Prelude.{◌≡◌, ◌≢◌, ◌⊎◌, ◌↔◌, ◌≤◌, true, false, [], ◌∷◌, length, IsSomeAnd}
 use Rattle.std.specs.FinMap.{get}
 use Rattle.res_path.specs.Paths.{Names, parent}
 use Rattle.ws_elem.specs.declared.element.Element.{Element}

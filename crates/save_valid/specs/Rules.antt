@@ -1,9 +1,11 @@
 -- What a state that is kept must be besides.
 use Rattle.std.specs.Prelude.{◌≢◌, ℕ, ◌<◌, List, [], ◌∷◌, length, map, IfSome}
+use denote.Ref.{Bor}
 use Rattle.std.specs.List.{AllByRecursion}
 use Rattle.std.specs.FinMap.{get, entries, values}
 use Rattle.res_path.specs.Paths.{Names}
 use Rattle.ws_elem.specs.declared.element.Element.{Element}
+use Rattle.ws_elem.specs.declared.elem_map.ElemMap.{ElemMap}
 use Rattle.ws_elem.specs.Trees.{Tree}
 use Rattle.ws_durable.specs.Saved.{Saved}
 
@@ -37,3 +39,7 @@ AllDiffer (x ∷ xs) = AllByRecursion (λ y. y ≢ x) xs × AllDiffer xs
 -- the node numbers of a tree
 abbrev pub nodes_of : Tree → List ℕ
 nodes_of t = map (λ e. e.1.node) (entries t)
+
+-- the trees that these refer to
+abbrev pub maps_at : List (Bor ElemMap) → List Tree
+maps_at = map (λ m. m.now.map)

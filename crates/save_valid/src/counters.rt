@@ -3,7 +3,6 @@ ghost use Rattle.std.specs.Prelude.{◌↔◌, ◌<◌, IsTrue};
 ghost use Rattle.std.specs.List.{AllByRecursion};
 ghost use Rattle.std.specs.FinMap.{entries, values};
 
-
 use crate::each::Test;
 use mark_set::MarkSet;
 use res_path::Path;

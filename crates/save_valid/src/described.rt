@@ -53,11 +53,7 @@ impl Test for Described {
     }
 }
 
-fn is_described(
-    alloc: Global,
-    project: Option<&str>,
-    attached: &Attached,
-) -> Result<bool, NoMemory>
+fn is_described(alloc: Global, project: Option<&str>, attached: &Attached) -> Result<bool, NoMemory>
     ensures { IfOk result (λ is. IsTrue is ↔ IfSome (option_map (λ name. name.now) project.entry) (λ name. IsName name × IsCanonical name attached.now.desc)) }
 {
     match project {

@@ -5,6 +5,7 @@
 //! - `places`: where elements stand in a tree, and on the shelf.
 #![tactic(auto)]
 
+mod contents;
 mod counters;
 mod described;
 mod each;
@@ -12,6 +13,7 @@ mod numbers;
 mod places;
 mod whole;
 
+pub use contents::do_contents_agree;
 pub use counters::Below;
 pub use described::{Described, are_built_in};
 pub use each::{Test, is_each};

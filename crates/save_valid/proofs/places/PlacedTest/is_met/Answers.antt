@@ -1,4 +1,3 @@
-use Rattle.std.proofs.Common.{◌≡◌, sym, ap, ◌∙◌}
 use Rattle.save_valid.proofs.Parents.{root_placed, below_placed}
 use Rattle.save_valid.proofs.places.PlacedTest.is_met.Goals as goal
 
