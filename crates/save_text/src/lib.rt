@@ -4,7 +4,8 @@
 //!
 //! - `source`: sources of rows, and their changes as they are written.
 //! - `records`: names, built records and kept states.
-//! - `state`: the whole text, its length, and whether it can be written.
+//! - `state`: the whole text, and its length.
+//! - `narrow`: whether it can be written.
 #![tactic(auto)]
 
 mod narrow;

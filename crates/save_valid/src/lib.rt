@@ -3,6 +3,10 @@
 //! - `each`: what holds of each element of a tree.
 //! - `counters`: every number was drawn, and every partner is registered.
 //! - `places`: where elements stand in a tree, and on the shelf.
+//! - `numbers`: node numbers and names that differ.
+//! - `whole`: whole trees.
+//! - `contents`: equal stamps mean equal contents.
+//! - `described`: descriptions of projects, and built records of their commands.
 #![tactic(auto)]
 
 mod contents;
