@@ -1,0 +1,8 @@
+use Rattle.save_format.proofs.Nothing.{nothing_fits}
+use Rattle.save_format.proofs.texts.read_image.Goals as goal
+
+pub read_lawful-requires-clause-base : goal.read_lawful-requires-clause-base
+read_lawful-requires-clause-base c = nothing_fits c.empty-nothing.result.map c.empty-nothing.ensures.map
+
+pub read_lawful-requires-clause-shelf : goal.read_lawful-requires-clause-shelf
+read_lawful-requires-clause-shelf c = nothing_fits c.empty-nothing.result.map c.empty-nothing.ensures.map

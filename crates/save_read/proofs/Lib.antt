@@ -1,0 +1,4 @@
+pub mod Changes
+pub mod Narrow
+pub mod Sayables
+pub mod Whole

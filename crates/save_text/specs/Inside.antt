@@ -1,0 +1,4 @@
+-- What only the code that writes speaks of.
+pub mod Between
+pub mod Spellings
+pub mod Told

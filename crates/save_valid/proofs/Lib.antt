@@ -1,0 +1,5 @@
+pub mod Eaches
+pub mod Labels
+pub mod Parents
+pub mod Stamped
+pub mod Wholes

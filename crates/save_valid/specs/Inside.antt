@@ -1,0 +1,3 @@
+-- What only the crate's own code speaks of.
+pub mod Contents
+pub mod Fresh

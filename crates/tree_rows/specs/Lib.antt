@@ -1,0 +1,4 @@
+pub mod Inside
+pub mod Rows
+pub mod Same
+pub mod Shown
