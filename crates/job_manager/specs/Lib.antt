@@ -3,3 +3,4 @@ pub mod Admission
 pub mod Refusals
 pub mod Effects
 pub mod Batches
+pub mod Ends

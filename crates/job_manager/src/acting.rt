@@ -1,5 +1,6 @@
 //! Any event but an operation.
-ghost use Rattle.std.specs.Prelude.{◌≡◌, true, false, None, IfOk, OnOk, OnErr};
+ghost use Rattle.std.specs.Prelude.{◌≡◌, true, false, None, IfOk, IsOk, OnOk, OnErr};
+ghost use Rattle.job_manager.specs.Ends.{EndsLast};
 ghost use Rattle.core_event.specs.declared.event.Event.TheVariants.{EndBatch, Finish};
 ghost use Rattle.pass_table.specs.Passes.{has_pass, is_quiet};
 ghost use Rattle.job_manager.specs.Batches.{closes, IsRun};
@@ -15,7 +16,7 @@ use std::alloc::{AllocError, Global};
 impl JobManager {
     /// Does the event of the pass, or refuses it with the first cause in the order of its list, and gives the answer. A
     /// refused event changes nothing; an operation is none of these events, and changes nothing either. Where memory
-    /// wants, all is as before.
+    /// wants, all is as before; it never wants where the pass ends the rule that it began last.
     ///
     /// Costs a look at the held rules, and for `Take` one at the jobs that wait, in turn.
     pub fn act(
@@ -28,6 +29,7 @@ impl JobManager {
         requires { has_pass self.old.passes pass ≡ true }
         ensures ok { IfOk result (λ answer. (self.new, answer) ≡ doubled wants_copy (outcome self.old pass event.now)) }
         ensures err { OnErr result (self.new ≡ self.old) }
+        ensures never { EndsLast self.old.passes.rules pass event.now → IsOk result }
         ensures busy { OnOk result (closes event.now ≡ false → is_quiet self.old.passes ≡ false → is_quiet self.new.passes ≡ false) }
     {
         match event {

@@ -1,5 +1,6 @@
 //! The events that concern passes, their rules and their batches.
-ghost use Rattle.std.specs.Prelude.{◌≡◌, true, false, IfOk, OnOk, OnErr};
+ghost use Rattle.std.specs.Prelude.{◌≡◌, true, false, Some, IfOk, IsOk, OnOk, OnErr};
+ghost use Rattle.rule_table.specs.Tables.{last_rule};
 ghost use Rattle.core_event.specs.declared.event.Event.TheVariants.{Leave, Begin, End, Transfer, Batch, EndBatch};
 ghost use Rattle.pass_table.specs.Passes.{has_pass, is_quiet};
 ghost use Rattle.pass_table.specs.Rows.{entered};
@@ -76,6 +77,7 @@ impl JobManager {
     ) -> Result<Twice<Answer>, NoMemory>
         ensures ok { IfOk result (λ answer. (self.new, answer) ≡ doubled wants_copy (outcome self.old pass (End rule.now))) }
         ensures err { OnErr result (self.new ≡ self.old) }
+        ensures never { last_rule pass self.old.passes.rules ≡ Some rule.now → IsOk result }
         ensures quiet { is_quiet self.new.passes ≡ is_quiet self.old.passes }
     {
         match self.passes.end(pass, rule) {

@@ -20,7 +20,8 @@ use Rattle.job_manager.proofs.Ended.{is_last}
 use Rattle.ws_core.specs.States.{Moment}
 use Rattle.ws_core.specs.Refusals.{refusal}
 use Rattle.ws_core.specs.Steps.{acted, act, told, tells, step}
-use Rattle.ws_core.specs.Inside.Rooms.{EndsLast, Fits, HasRoom}
+use Rattle.ws_core.specs.Inside.Rooms.{Fits, HasRoom}
+use Rattle.job_manager.specs.Ends.{EndsLast}
 use Rattle.ws_core.proofs.Stepped.{act_managed}
 
 told_manager : (b : Bool) (s : Moment) (a : Answer) → (told b s a).0.manager ≡ s.manager

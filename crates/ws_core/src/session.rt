@@ -9,7 +9,8 @@ ghost use Rattle.core_event.specs.Twice.{twice};
 ghost use Rattle.ws_core.specs.Steps.{step};
 ghost use Rattle.ws_core.specs.Histories.{entry_of, fresh, has_entered, Legal, notices, replay, told_of, written};
 ghost use Rattle.ws_core.specs.Sessions.{IsConsistent};
-ghost use Rattle.ws_core.specs.Inside.Rooms.{EndsLast, Fits, HasRoom};
+ghost use Rattle.ws_core.specs.Inside.Rooms.{Fits, HasRoom};
+ghost use Rattle.job_manager.specs.Ends.{EndsLast};
 
 use crate::{Entry, Event, History, NoMemory, Reply, State, Twice, WsRule};
 use delta_kind::Delta;
@@ -115,6 +116,7 @@ impl<T: Remembers + Drop> Core<T> {
         ensures reply { IfOk result (λ reply. reply ≡ (step self.old.state pass event).1) }
         ensures history { OnOk result (self.new.history ≡ written self.old.history (entry_of self.old.state pass event)) }
         ensures err { OnErr result (self.new ≡ self.old) }
+        ensures never { EndsLast self.old.state.manager.passes.rules pass event → IsOk result }
     {
         match advance(&mut self.state, &mut self.entries, alloc, pass, event, true)? {
             Some(reply) => Ok(reply),
@@ -129,6 +131,7 @@ impl<T: Remembers + Drop> Core<T> {
         ensures state { OnOk result (self.new.state ≡ (step self.old.state pass event).0) }
         ensures history { OnOk result (self.new.history ≡ written self.old.history (entry_of self.old.state pass event)) }
         ensures err { OnErr result (self.new ≡ self.old) }
+        ensures never { EndsLast self.old.state.manager.passes.rules pass event → IsOk result }
     {
         advance(
             &mut self.state,
@@ -245,6 +248,7 @@ fn advance<T: Remembers + Drop>(
     ensures copy { IfOk result (λ copy. copy ≡ (twice wants_copy (step state.old pass event).1).copy) }
     ensures same { OnErr result (state.new ≡ state.old) }
     ensures no_entry { OnErr result (entries.new.items ≡ entries.old.items) }
+    ensures never { EndsLast state.old.manager.passes.rules pass event → IsOk result }
     ensures fits { Fits state.new.manager.passes.rules (vec_len entries.new) (vec_capacity entries.new) }
 {
     make_room(entries, state.manager().passes.rules(), pass, &event)?;
@@ -263,6 +267,7 @@ fn make_room(
     requires { Fits held.now (vec_len entries.old) (vec_capacity entries.old) }
     ensures items { entries.new.items ≡ entries.old.items }
     ensures room { OnOk result (HasRoom held.now pass event.now (vec_len entries.new) (vec_capacity entries.new)) }
+    ensures never { EndsLast held.now pass event.now → IsOk result }
     ensures fits { Fits held.now (vec_len entries.new) (vec_capacity entries.new) }
 {
     if ends_last(held, pass, event) {
@@ -277,7 +282,8 @@ fn make_room(
 
 /// Whether the event ends the rule that the pass began last.
 fn ends_last(held: &RuleTable<WsAtom>, pass: u64, event: &Event) -> bool
-    ensures { result ≡ true → EndsLast held.now pass event.now }
+    ensures ends { result ≡ true → EndsLast held.now pass event.now }
+    ensures all { EndsLast held.now pass event.now → result ≡ true }
 {
     let Event::End(rule) = event else {
         return false;

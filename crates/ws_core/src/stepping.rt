@@ -1,11 +1,12 @@
 //! One step of a state.
-ghost use Rattle.std.specs.Prelude.{◌≡◌, true, false, IfOk, OnErr, None as nothing};
+ghost use Rattle.std.specs.Prelude.{◌≡◌, true, false, IfOk, IsOk, OnErr, None as nothing};
 ghost use Rattle.op_rule.specs.Rules.{operation_rule};
 ghost use Rattle.core_event.specs.declared.event.Event.TheVariants.{Operation};
 ghost use Rattle.core_event.specs.declared.reply.Answer.TheVariants.{Refused};
 ghost use Rattle.core_event.specs.Events.{is_checkpoint, operation_of};
 ghost use Rattle.core_event.specs.Twice.{doubled, twice};
 ghost use Rattle.job_manager.specs.Admission.{admission};
+ghost use Rattle.job_manager.specs.Ends.{EndsLast};
 ghost use Rattle.job_manager.specs.Batches.{closes, IsRun};
 ghost use Rattle.job_manager.specs.Refusals.{refusal};
 ghost use Rattle.pass_table.specs.Passes.{is_quiet};
@@ -23,7 +24,8 @@ use tree_memory::Remembers;
 impl<T: Remembers + Drop> State<T> {
     /// Does the event of the pass, or refuses it with the first cause in the order of its list, and tells what changed
     /// where it is a telling place: each checkpoint, and each other event that leaves no batch open. A refused event
-    /// changes nothing. Gives the reply, with a copy where one is wanted. Where memory wants, the state stays as it was.
+    /// changes nothing. Gives the reply, with a copy where one is wanted. Where memory wants, the state stays as it was; it never wants where the pass ends the rule that it
+    /// began last.
     ///
     /// An operation costs what `ws_ops::apply` does, and a telling place what was recorded since the one before.
     pub fn step(
@@ -38,6 +40,7 @@ impl<T: Remembers + Drop> State<T> {
         ensures ok { IfOk result (λ r. (self.new, r) ≡ doubled wants_copy (step self.old pass event.now)) }
         ensures sound { IsConsistent self.new }
         ensures err { OnErr result (self.new ≡ self.old) }
+        ensures never { EndsLast self.old.manager.passes.rules pass event.now → IsOk result }
     {
         self.advance(alloc, pass, event, wants_copy)
     }
@@ -53,6 +56,7 @@ impl<T: Remembers + Drop> State<T> {
         requires entered { has_entered pass self.old ≡ true }
         ensures ok { IfOk result (λ r. (self.new, r) ≡ doubled wants_copy (step self.old pass event.now)) }
         ensures err { OnErr result (self.new ≡ self.old) }
+        ensures never { EndsLast self.old.manager.passes.rules pass event.now → IsOk result }
     {
         match event.operation() {
             Some(op) => self.operate(alloc, pass, op, wants_copy),
@@ -113,6 +117,7 @@ impl<T: Remembers + Drop> State<T> {
         requires managed { operation_of event.now ≡ nothing }
         ensures ok { IfOk result (λ r. (self.new, r) ≡ doubled wants_copy (step self.old pass event.now)) }
         ensures err { OnErr result (self.new ≡ self.old) }
+        ensures never { EndsLast self.old.manager.passes.rules pass event.now → IsOk result }
     {
         if self.manager.passes.is_quiet() {
             return self.manage_quiet(alloc, pass, event, wants_copy);
@@ -139,6 +144,7 @@ impl<T: Remembers + Drop> State<T> {
         requires managed { operation_of event.now ≡ nothing }
         ensures ok { IfOk result (λ r. (self.new, r) ≡ doubled wants_copy (step self.old pass event.now)) }
         ensures err { OnErr result (self.new ≡ self.old) }
+        ensures never { EndsLast self.old.manager.passes.rules pass event.now → IsOk result }
     {
         let answer = self.manager.act(alloc, pass, event, wants_copy)?;
         Ok(untold(answer))
@@ -159,6 +165,7 @@ impl<T: Remembers + Drop> State<T> {
         requires managed { operation_of event.now ≡ nothing }
         ensures ok { IfOk result (λ r. (self.new, r) ≡ doubled wants_copy (step self.old pass event.now)) }
         ensures err { OnErr result (self.new ≡ self.old) }
+        ensures never { EndsLast self.old.manager.passes.rules pass event.now → IsOk result }
     {
         let answer = self.manager.act(alloc, pass, event, wants_copy)?;
         Ok(untold(answer))
