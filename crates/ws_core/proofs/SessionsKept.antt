@@ -1,6 +1,8 @@
 -- An open workspace stays one.
 use Rattle.std.proofs.Common.{◌≡◌, ℕ, Bool, true, false, List, [], ◌∷◌, ◌++◌, refl, sym, ap, ◌∙◌, subst}
-use Rattle.std.specs.Prelude.{if◌then◌else◌}
+use Rattle.std.specs.Prelude.{if◌then◌else◌, take}
+use Rattle.sched_rules.specs.Atoms.{atom_contains, atom_conflicts}
+use Rattle.rule_table.specs.Tables.{IsApart}
 use Rattle.ws_elem.specs.Stamps.{SameContents}
 use Rattle.delta_kind.specs.Deltas.{TellsContents}
 use Rattle.delta_kind.specs.declared.node.DeltaNode.{DeltaNode}
@@ -9,8 +11,8 @@ use Rattle.core_event.specs.declared.entry.Entry.{Entry}
 use Rattle.core_event.specs.Replies.{is_attempt}
 use Rattle.ws_core.specs.States.{Moment}
 use Rattle.ws_core.specs.Steps.{step}
-use Rattle.ws_core.specs.Histories.{fresh, has_entered, notices, told_of, written}
-use Rattle.ws_core.specs.Sessions.{Session, IsSession}
+use Rattle.ws_core.specs.Histories.{after, fresh, has_entered, notices, replay, told_of, written}
+use Rattle.ws_core.specs.Sessions.{IsConsistent, Session, IsSession}
 use Rattle.ws_core.proofs.Told.{told_notices}
 use Rattle.ws_core.proofs.Grown.{legal_more, replay_more}
 use Rattle.ws_core.proofs.SoundKept.{fresh_sound, steady, step_sound, step_start}
@@ -26,11 +28,20 @@ pub told_between : (x : Session) (nodes : List DeltaNode) → IsSession x → (S
 told_between x nodes is tells =
     subst (λ t. TellsContents t x.state.resources.tree nodes) is.start (tells (steady x.state is.sound).start_known.tree)
 
+-- at each front of the history the state that it leads to is sound
+replay_sound : (s : Moment) (h : List Entry) → IsConsistent s → IsConsistent (replay s h)
+replay_sound s [] x = x
+replay_sound s (e ∷ h) x = replay_sound (after s e) h (step_sound s e.pass e.event x)
+
+pub fronts_apart : (x : Session) → IsSession x → (n : ℕ) → IsApart atom_contains atom_conflicts (replay x.opened (take n x.history)).manager.passes.rules
+fronts_apart x is n = (replay_sound x.opened (take n x.history) is.opened_sound).apart
+
 fresh_session : IsSession (record { opened = fresh; history = []; state = fresh })
 fresh_session = record {
   opened_start = refl;
   opened_told = refl;
   start = refl;
+  opened_sound = fresh_sound;
   legal = record { replies = refl; entered = refl; events = refl };
   state = refl;
   sound = fresh_sound;
@@ -58,6 +69,7 @@ goes_on x k e is there false tried =
       opened_start = is.opened_start;
       opened_told = is.opened_told;
       start = step_start x.state k e ∙ is.start;
+      opened_sound = is.opened_sound;
       legal = legal_more x.opened x.history entry is.legal (subst (λ z. has_entered k z ≡ true) is.state there) (ap (λ z. (step z k e).1) is.state) tried;
       state = ap (λ z. (step z k e).0) is.state ∙ sym (replay_more x.opened x.history entry);
       sound = step_sound x.state k e is.sound;

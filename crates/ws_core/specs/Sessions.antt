@@ -39,6 +39,7 @@ pub record IsSession (x : Session) : Type 0 where
   pub opened_start : x.opened.remembered.start ≡ x.opened.resources.tree
   pub opened_told : x.opened.remembered.told ≡ x.opened.resources.tree
   pub start : x.state.remembered.start ≡ x.opened.resources.tree
+  pub opened_sound : IsConsistent x.opened
   pub legal : Legal x.opened x.history
   pub state : x.state ≡ replay x.opened x.history
   pub sound : IsConsistent x.state

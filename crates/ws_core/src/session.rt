@@ -1,5 +1,5 @@
 //! An open workspace.
-ghost use Rattle.std.specs.Prelude.{◌≡◌, ◌≤◌, ◌<◌, ◌+◌, ◌-◌, [], length, slice_get, true, IfOk, IsOk, IsErr, Ok, OnOk, OnErr, option_copied, vec_len, vec_capacity};
+ghost use Rattle.std.specs.Prelude.{◌≡◌, ◌≤◌, ◌<◌, ◌+◌, ◌-◌, ℕ, [], take, length, slice_get, true, IfOk, IsOk, IsErr, Ok, OnOk, OnErr, option_copied, vec_len, vec_capacity};
 ghost use Rattle.sched_rules.specs.Atoms.{atom_contains, atom_conflicts};
 ghost use Rattle.rule_table.specs.Tables.{IsApart, outer_rule};
 ghost use Rattle.delta_kind.specs.Deltas.{delta, TellsContents};
@@ -156,6 +156,8 @@ impl<T: Remembers + Drop> Core<T> {
         ensures history { result.now ≡ self.now.history }
         ensures legal { Legal self.now.opened result.now }
         ensures told { told_of result.now ≡ notices self.now.opened result.now }
+        // At each front of the history rules are apart.
+        ensures apart { (n : ℕ) → IsApart atom_contains atom_conflicts (replay self.now.opened (take n result.now)).manager.passes.rules }
     {
         self.entries.as_slice()
     }
