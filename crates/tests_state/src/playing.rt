@@ -1,4 +1,7 @@
 //! Events played on a core, and on two of them: one over a tree with layers, and one over a tree that is copied.
+ghost use Rattle.std.specs.Prelude.{◌≡◌, true};
+ghost use Rattle.ws_core.specs.Histories.{has_entered};
+
 use crate::asserting::{holds, must, put};
 use crate::events::event;
 use crate::replies::{put_delta, put_number, put_reply, put_rule};
@@ -6,7 +9,7 @@ use elem_tree::LayerTree;
 use std::alloc::Global;
 use std::process::Abort;
 use tree_memory::{CopyTree, Remembers};
-use ws_core::{Core, NoMemory};
+use ws_core::{Answer, Core, NoMemory};
 use ws_elem::ElemMap;
 
 /// Two cores in which the same was done.
@@ -44,27 +47,61 @@ fn last_reply<T: Remembers + Drop>(rt: &(impl Abort + AllocGlobal), core: &Core<
     out
 }
 
-/// Does the pass's event, and gives the reply, which is that of the last entry. Where the event leaves no entry it changes
-/// nothing, and that is told.
+/// What changed since the workspace was opened, how many jobs there are, and the pass's rule.
+fn standing<T: Remembers + Drop>(
+    rt: &(impl Abort + AllocGlobal),
+    core: &Core<T>,
+    pass: u64,
+) -> String {
+    let mut out = since_start(rt, core);
+    put(rt, &mut out, jobs(rt, core).as_str());
+    put(rt, &mut out, outer(rt, core, pass).as_str());
+    out
+}
+
+fn is_done(answer: &Answer) -> bool {
+    !matches!(answer, Answer::None | Answer::Refused(_))
+}
+
+/// Does the event of the pass that is there, and gives the reply, which is that of the last entry where the event leaves
+/// one. What isn't done changes nothing.
+fn step<T: Remembers + Drop>(
+    rt: &(impl Abort + AllocGlobal),
+    core: &mut Core<T>,
+    pass: u64,
+    text: &str,
+) -> String
+    requires { has_entered pass core.old.state ≡ true }
+{
+    let before = standing(rt, core, pass);
+    let entries = core.history().len();
+    let reply = must(rt, core.step(rt.alloc(), pass, event(rt, text)));
+    let mut out = String::new(rt.alloc());
+    put_reply(rt, &mut out, &reply);
+    holds(
+        rt,
+        is_done(&reply.answer) || standing(rt, core, pass).as_str() == before.as_str(),
+    );
+    if core.history().len() == entries {
+        put(rt, &mut out, ", no entry");
+    } else {
+        holds(rt, last_reply(rt, core).as_str() == out.as_str());
+    }
+    out
+}
+
+/// The same of any pass.
 fn done<T: Remembers + Drop>(
     rt: &(impl Abort + AllocGlobal),
     core: &mut Core<T>,
     pass: u64,
     text: &str,
 ) -> String {
+    if core.has_entered(pass) {
+        return step(rt, core, pass, text);
+    }
     let mut out = String::new(rt.alloc());
-    if !core.has_entered(pass) {
-        put(rt, &mut out, "gone");
-        return out;
-    }
-    let entries = core.history().len();
-    let reply = must(rt, core.step(rt.alloc(), pass, event(rt, text)));
-    put_reply(rt, &mut out, &reply);
-    if core.history().len() == entries {
-        put(rt, &mut out, ", no entry");
-    } else {
-        holds(rt, last_reply(rt, core).as_str() == out.as_str());
-    }
+    put(rt, &mut out, "gone");
     out
 }
 
