@@ -1,0 +1,9 @@
+pub mod Lists
+pub mod Parts
+pub mod Whole
+pub mod Alone
+pub mod Managed
+pub mod Numbers
+pub mod Quiet
+pub mod Meetings
+pub mod Taken
