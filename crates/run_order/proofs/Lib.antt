@@ -1,6 +1,7 @@
 pub mod Lists
 pub mod Parts
 pub mod Whole
+pub mod Counted
 pub mod Alone
 pub mod Managed
 pub mod Numbers
