@@ -1,5 +1,5 @@
 -- A job is taken at most as often as it was scheduled.
-use Rattle.std.proofs.Common.{◌≡◌, ◌<◌, ◌≤◌, ◌+◌, ℕ, Bool, true, false, cond, if◌then◌else◌, ◌&&◌, List, [], ◌∷◌, ◌++◌, map, refl, ap, sym, ◌∙◌, subst, arith}
+use Rattle.std.proofs.Common.{◌≡◌, ◌<◌, ◌≤◌, ◌+◌, inl, inr, ℕ, Bool, true, false, cond, if◌then◌else◌, ◌&&◌, List, [], ◌∷◌, ◌++◌, map, refl, ap, sym, ◌∙◌, subst, arith}
 use Rattle.std.specs.Prelude.{Option, Some, None as nothing}
 use Rattle.std.specs.Option.{option_map}
 use Rattle.std.specs.Ordering.{eq_by_cmp}
@@ -18,17 +18,25 @@ use Rattle.job_queue.proofs.Named.{name_cmp_total, name_cmp_exact}
 use Rattle.job_queue.proofs.Found.{same_key, not_Some}
 use Rattle.job_queue.proofs.Nexts.{may_next}
 use Rattle.pass_table.specs.Passes.{job_of}
+use Rattle.op_kind.specs.declared.answer.OpAnswer.{OpAnswer}
+use Rattle.op_kind.specs.declared.answer.OpAnswer.TheVariants as op_answers
 use Rattle.op_kind.specs.declared.op.Op.{Op}
+use Rattle.op_kind.specs.Effects as ops
 use Rattle.core_event.specs.declared.entry.Entry.{Entry}
 use Rattle.core_event.specs.declared.event.Event.{Event}
 use Rattle.core_event.specs.declared.event.Event.TheVariants.{Enter, Leave, Schedule, Sleep, Wake, Cancel, Take, Finish, Begin, TryBegin, End, Transfer, Batch, EndBatch, Checkpoint, Operation}
-use Rattle.core_event.specs.declared.reply.Answer.{Answer}
 use Rattle.core_event.specs.declared.reply.Refusal.{Refusal}
+use Rattle.core_event.specs.declared.reply.Reply.{Reply}
+use Rattle.core_event.specs.Events.{operation_of}
+use Rattle.core_event.specs.Replies.{answered}
 use Rattle.job_manager.specs.declared.manager.JobManager.{JobManager}
 use Rattle.job_manager.specs.Refusals.{refusal, by_job}
 use Rattle.job_manager.specs.Effects.{effect, taken, job_done, next_job, decided, outcome}
 use Rattle.ws_core.specs.States.{Moment}
-use Rattle.run_order.specs.Counts.{one_if, is_name, schedules_in, taken_in, still}
+use Rattle.ws_core.specs.Steps.{step}
+use Rattle.ws_core.specs.Histories.{after, replay, replies}
+use Rattle.run_order.specs.Counts.{one_if, is_name, schedules_in, schedules_of, taken_in, takes_of, still, pending}
+use Rattle.run_order.proofs.Managed.{step_manager, step_answer, operation_answer, only_operation}
 
 -- ---- one job whose state changes
 
@@ -170,3 +178,48 @@ outcome_still name m k e = by (refusal m k e) refl
     by : (r : Option Refusal) → refusal m k e ≡ r → jobs_still name (decided r m k e).0 + taken_in name (decided r m k e).1 ≤ jobs_still name m + schedules_in name e
     by nothing h = effect_still name m k e h
     by (Some r) h = omega arith
+
+answered_none : (name : List ℕ) (a : OpAnswer) → taken_in name (answered a) ≡ 0
+answered_none name op_answers.Done = refl
+answered_none name (op_answers.Id id) = refl
+answered_none name (op_answers.Count count) = refl
+answered_none name (op_answers.Seen entries partners) = refl
+
+operation_none : (name : List ℕ) (s : Moment) (k : ℕ) (op : Op) → taken_in name (step s k (Operation op)).1.answer ≡ 0
+operation_none name s k op = elim (operation_answer s k op) [
+  | inl refused ↦ ap (taken_in name) refused.1
+  | inr done ↦ ap (taken_in name) done ∙ answered_none name (ops.effect s.resources op).1
+]
+
+-- what one event takes and leaves was there before, or is scheduled
+pub step_pending : (name : List ℕ) (s : Moment) (k : ℕ) (e : Event) → pending name (step s k e).0 + taken_in name (step s k e).1.answer ≤ pending name s + schedules_in name e
+step_pending name s k e = by (operation_of e) refl
+  where
+    out : jobs_still name (outcome s.manager k e).0 + taken_in name (outcome s.manager k e).1 ≤ jobs_still name s.manager + schedules_in name e
+    out = outcome_still name s.manager k e
+
+    same : pending name (step s k e).0 ≡ jobs_still name (outcome s.manager k e).0
+    same = ap (jobs_still name) (step_manager s k e)
+
+    by : (o : Option Op) → operation_of e ≡ o → pending name (step s k e).0 + taken_in name (step s k e).1.answer ≤ pending name s + schedules_in name e
+    by nothing none = let answer = ap (taken_in name) (step_answer s k e none) in omega (arith, out, same, answer)
+    by (Some op) is = let none = subst (λ x. taken_in name (step s k x).1.answer ≡ 0) (sym (only_operation e op is)) (operation_none name s k op) in omega (arith, out, same, none)
+
+-- ---- a history
+
+abbrev head_or : Reply → List Reply → Reply
+head_or d [] = d
+head_or d (r ∷ rs) = r
+
+abbrev tail_of : List Reply → List Reply
+tail_of [] = []
+tail_of (r ∷ rs) = rs
+
+-- of a legal history: a job is taken at most as often as it was scheduled or was there to be taken
+pub taken_at_most : (name : List ℕ) (s : Moment) (h : List Entry) → map (λ (x : Entry). x.reply) h ≡ replies s h → pending name (replay s h) + takes_of name h ≤ pending name s + schedules_of name h
+taken_at_most name s [] e = omega arith
+taken_at_most name s (x ∷ h) e =
+    let a = taken_at_most name (after s x) h (ap tail_of e) in
+    let b = step_pending name s x.pass x.event in
+    let c = ap (λ r. taken_in name (head_or x.reply r).answer) e in
+    omega (arith, a, b, c)
