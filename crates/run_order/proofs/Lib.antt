@@ -8,3 +8,4 @@ pub mod Numbers
 pub mod Quiet
 pub mod Meetings
 pub mod Taken
+pub mod Cancelling

@@ -57,7 +57,7 @@ no_more false = refl
 
 -- what becomes of the job of one name, where that of another changes
 module _ {A : Type 0} where
-  put_other : (m : Jobs A) (n name : List ℕ) (o : Option (Job A)) → is_name name n ≡ false → get (put_if m n o) name ≡ get m name
+  pub put_other : (m : Jobs A) (n name : List ℕ) (o : Option (Job A)) → is_name name n ≡ false → get (put_if m n o) name ≡ get m name
   put_other m n name nothing e = refl
   put_other m n name (Some job) e = get-insert name_cmp_total m n job name ∙ ap (λ b. cond b (Some job) (get m name)) e
 

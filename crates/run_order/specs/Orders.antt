@@ -27,9 +27,13 @@ abbrev pub is_asleep : Option JobState → Bool
 is_asleep None = false
 is_asleep (Some state) = is_sleeping state
 
+-- the job of this name sleeps
+abbrev pub sleeps : Moment → List ℕ → Bool
+sleeps s name = is_asleep (state_of s.manager.jobs name)
+
 -- the jobs that sleep, in text order
 abbrev pub sleepers : {C : Type 0} → Moment → Phase C → Phase C
-sleepers s jobs = filter (λ (job : JobPlan _). is_asleep (state_of s.manager.jobs job.name)) jobs
+sleepers s jobs = filter (λ (job : JobPlan _). sleeps s job.name) jobs
 
 -- from the state on, a phase: each job is scheduled, the workers make their parts until no job waits or is run, and the
 -- jobs that sleep are cancelled
