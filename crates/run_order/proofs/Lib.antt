@@ -9,3 +9,4 @@ pub mod Quiet
 pub mod Meetings
 pub mod Taken
 pub mod Cancelling
+pub mod Once
