@@ -61,7 +61,7 @@ module _ {A : Type 0} where
   put_other m n name nothing e = refl
   put_other m n name (Some job) e = get-insert name_cmp_total m n job name ∙ ap (λ b. cond b (Some job) (get m name)) e
 
-  put_same : (m : Jobs A) (n name : List ℕ) (change : Job A → Job A) (o : Option (Job A)) → get m n ≡ o → is_name name n ≡ true → get (put_if m n (option_map change o)) name ≡ option_map change o
+  pub put_same : (m : Jobs A) (n name : List ℕ) (change : Job A → Job A) (o : Option (Job A)) → get m n ≡ o → is_name name n ≡ true → get (put_if m n (option_map change o)) name ≡ option_map change o
   put_same m n name change nothing is e = subst (λ k. get m k ≡ nothing) (sym (same_key name_cmp_exact name n e)) is
   put_same m n name change (Some job) is e = get-insert name_cmp_total m n (change job) name ∙ ap (λ b. cond b (Some (change job)) (get m name)) e
 
