@@ -10,3 +10,4 @@ pub mod Meetings
 pub mod Taken
 pub mod Cancelling
 pub mod Once
+pub mod Single
