@@ -11,3 +11,4 @@ pub mod Taken
 pub mod Cancelling
 pub mod Once
 pub mod Single
+pub mod Idle

@@ -48,7 +48,7 @@ all_fewer : (all : List (Held WsAtom)) → AllOfOne all → AllOfOne (without_la
 all_fewer [] p = tt
 all_fewer (x ∷ all) p = elim (is_of 1 x && not (list_any (is_of 1) all)) as (λ (b : Bool). AllOfOne (if b then all else x ∷ without_last 1 all)) [ true ↦ p.1 | false ↦ (p.0, all_fewer all p.1) ]
 
-none_without : (all : List (Held WsAtom)) → AllOfOne all → without 1 all ≡ []
+pub none_without : (all : List (Held WsAtom)) → AllOfOne all → without 1 all ≡ []
 none_without [] p = refl
 none_without (x ∷ all) p =
     let yes : (x.holder == 1) ≡ true = grind (arith, p.0) in
