@@ -23,7 +23,7 @@ use Rattle.pass_table.specs.Passes.{Passes, has_pass, job_of, job_in, batches_in
 use Rattle.pass_table.specs.Rows as rows
 use Rattle.proj_desc.specs.FirstCause.{when}
 use Rattle.core_event.specs.declared.event.Event.{Event}
-use Rattle.core_event.specs.declared.event.Event.TheVariants.{Enter, Take, Finish, Schedule, Cancel}
+use Rattle.core_event.specs.declared.event.Event.TheVariants.{Enter, Leave, Schedule, Sleep, Wake, Cancel, Take, Finish, Begin, TryBegin, End, Transfer, Batch, EndBatch, Checkpoint, Operation}
 use Rattle.core_event.specs.declared.reply.Answer.TheVariants as answers
 use Rattle.core_event.specs.declared.reply.Refusal.{Refusal}
 use Rattle.core_event.specs.declared.reply.Refusal.TheVariants as refusals
@@ -34,7 +34,7 @@ use Rattle.ws_core.specs.States.{Moment}
 use Rattle.ws_core.specs.Steps.{step}
 use Rattle.ws_core.specs.Histories.{fresh, has_entered}
 use Rattle.run_order.proofs.Managed.{step_manager, step_answer}
-use Rattle.run_order.proofs.Single.{AllOfOne, IsSingle, step_single, none_without}
+use Rattle.run_order.proofs.Single.{AllOfOne, IsSingle, IsPlain, step_single, none_without, table_put, batches_job, job_given, finished_single, first_other, over_other, put_runs, changed_runs}
 
 -- ---- jobs of a queue
 
@@ -128,3 +128,127 @@ may_take m i = ap (λ b. when b refusals.PassBusy) (none ∙ free)
 
     free : ((false || is_some (job_in (get m.passes.there 1))) || not (batches_in (get m.passes.there 1) == 0)) ≡ false
     free = ap (λ p. (false || is_some (job_in p)) || not (batches_in p == 0)) i.there
+
+-- ---- a job is taken, run and finished
+
+-- pass 1 runs this job
+pub record IsBusy (name : List ℕ) (m : JobManager) : Type 0 where
+  pub single : IsSingle m
+  pub job : job_of m.passes 1 ≡ Some name
+
+-- an event that a command may be
+abbrev pub IsCommand : Event → Type 0
+IsCommand Enter = ⊥
+IsCommand Leave = ⊥
+IsCommand (Transfer to) = ⊥
+IsCommand Take = ⊥
+IsCommand Finish = ⊥
+IsCommand event = Unit {0}
+
+there_of : (o : Option Pass) (name : List ℕ) → job_in o ≡ Some name → is_some o ≡ true
+there_of None name h = cc
+there_of (Some pass) name h = refl
+
+is_there : (m : JobManager) (name : List ℕ) → job_of m.passes 1 ≡ Some name → has_pass m.passes 1 ≡ true
+is_there m name h = there_of (get m.passes.there 1) name h
+
+-- what is left where no job comes, or the job is taken
+pub take_gives : (s : Moment) → IsIdle s.manager
+    → ((name : List ℕ) × ((step s 1 Take).1.answer ≡ answers.Job name) × IsBusy name (step s 1 Take).0.manager) ⊎ (((step s 1 Take).1.answer ≡ answers.None) × (live s.manager.jobs ≡ 0))
+take_gives s i = by (next_job s.manager) refl
+  where
+    takes : outcome s.manager 1 Take ≡ taken s.manager 1 (next_job s.manager)
+    takes = ap (λ r. decided r s.manager 1 Take) (may_take s.manager i)
+
+    there : has_pass s.manager.passes 1 ≡ true
+    there = ap is_some i.there
+
+    by : (n : Option (List ℕ)) → next_job s.manager ≡ n
+        → ((name : List ℕ) × ((step s 1 Take).1.answer ≡ answers.Job name) × IsBusy name (step s 1 Take).0.manager) ⊎ (((step s 1 Take).1.answer ≡ answers.None) × (live s.manager.jobs ≡ 0))
+    by None is = inr (step_answer s 1 Take refl ∙ (ap (λ d. d.1) takes ∙ ap (λ n. (taken s.manager 1 n).1) is), idle_over s.manager i is)
+    by (Some name) is = inl (
+      name,
+      step_answer s 1 Take refl ∙ (ap (λ d. d.1) takes ∙ ap (λ n. (taken s.manager 1 n).1) is),
+      record {
+        single = step_single s 1 Take there refl (idle_single s.manager i);
+        job = ap (λ (m : JobManager). job_of m.passes 1) (step_manager s 1 Take ∙ (ap (λ d. d.0) takes ∙ ap (λ n. (taken s.manager 1 n).0) is)) ∙ job_given s.manager.passes.there name there;
+      },
+    )
+
+effect_job : (m : JobManager) (e : Event) → IsCommand e → job_of (effect m 1 e).0.passes 1 ≡ job_of m.passes 1
+effect_job m Enter c = absurd c
+effect_job m Leave c = absurd c
+effect_job m (Schedule n p u a) c = refl
+effect_job m (Sleep n) c = refl
+effect_job m (Wake n) c = refl
+effect_job m (Cancel n) c = refl
+effect_job m Take c = absurd c
+effect_job m Finish c = absurd c
+effect_job m (Begin u) c = refl
+effect_job m (TryBegin u) c = refl
+effect_job m (End u) c = refl
+effect_job m (Transfer to) c = absurd c
+effect_job m Batch c = batches_job m.passes (λ pass. rows.with_batches (pass.batches + 1) pass) (λ _. refl)
+effect_job m EndBatch c = batches_job m.passes (λ pass. rows.with_batches (pass.batches - 1) pass) (λ _. refl)
+effect_job m Checkpoint c = refl
+effect_job m (Operation op) c = refl
+
+plain_command : (e : Event) → IsCommand e → IsPlain 1 e
+plain_command Enter c = c
+plain_command Leave c = c
+plain_command (Schedule n p u a) c = tt
+plain_command (Sleep n) c = tt
+plain_command (Wake n) c = tt
+plain_command (Cancel n) c = tt
+plain_command Take c = absurd c
+plain_command Finish c = absurd c
+plain_command (Begin u) c = refl
+plain_command (TryBegin u) c = refl
+plain_command (End u) c = refl
+plain_command (Transfer to) c = c
+plain_command Batch c = refl
+plain_command EndBatch c = refl
+plain_command Checkpoint c = tt
+plain_command (Operation op) c = tt
+
+-- a command leaves the pass its job
+pub command_keeps : (s : Moment) (e : Event) (name : List ℕ) → IsCommand e → IsBusy name s.manager → IsBusy name (step s 1 e).0.manager
+command_keeps s e name c b = record {
+  single = step_single s 1 e (is_there s.manager name b.job) (plain_command e c) b.single;
+  job = ap (λ (m : JobManager). job_of m.passes 1) (step_manager s 1 e) ∙ (by (refusal s.manager 1 e) ∙ b.job);
+}
+  where
+    by : (r : Option Refusal) → job_of (decided r s.manager 1 e).0.passes 1 ≡ job_of s.manager.passes 1
+    by None = effect_job s.manager e c
+    by (Some r) = refl
+
+-- Finish leaves it nothing
+pub finish_idles : (s : Moment) (name : List ℕ) → IsBusy name s.manager → IsIdle (step s 1 Finish).0.manager
+finish_idles s name b = subst IsIdle (sym (step_manager s 1 Finish ∙ ap (λ r. (decided r s.manager 1 Finish).0) none)) (record {
+  rules = none_without s.manager.passes.rules b.single.held;
+  there = table_put s.manager.passes.there (λ _. idle) (get s.manager.passes.there 1) refl ∙ made (get s.manager.passes.there 1) (is_there s.manager name b.job);
+  runs = λ other is. finished_single s.manager (job_of s.manager.passes 1) refl (ap is_none b.job) b.single other is;
+})
+  where
+    none : refusal s.manager 1 Finish ≡ None
+    none = ap (λ o. when (is_none o) (refusals.WrongState states.None)) b.job
+
+    made : (o : Option Pass) → is_some o ≡ true → option_map (λ _. idle) o ≡ Some idle
+    made None h = cc
+    made (Some pass) h = refl
+
+-- ---- pass 0 between parts
+
+pub schedule_keeps : (s : Moment) (k : ℕ) (name : List ℕ) (priority : ℕ) (rule : List WsAtom) (asleep : Bool) → IsIdle s.manager → IsIdle (step s k (Schedule name priority rule asleep)).0.manager
+schedule_keeps s k name priority rule asleep i = subst IsIdle (sym (step_manager s k (Schedule name priority rule asleep))) (by (refusal s.manager k (Schedule name priority rule asleep)))
+  where
+    by : (r : Option Refusal) → IsIdle (decided r s.manager k (Schedule name priority rule asleep)).0
+    by None = record { rules = i.rules; there = i.there; runs = λ other is. i.runs other (put_runs s.manager.jobs.jobs name other _ (first_other asleep) is) }
+    by (Some r) = i
+
+pub cancel_keeps : (s : Moment) (k : ℕ) (name : List ℕ) → IsIdle s.manager → IsIdle (step s k (Cancel name)).0.manager
+cancel_keeps s k name i = subst IsIdle (sym (step_manager s k (Cancel name))) (by (refusal s.manager k (Cancel name)))
+  where
+    by : (r : Option Refusal) → IsIdle (decided r s.manager k (Cancel name)).0
+    by None = record { rules = i.rules; there = i.there; runs = λ other is. i.runs other (changed_runs s.manager.jobs.jobs name other over (λ _. over_other) is).0 }
+    by (Some r) = i

@@ -69,12 +69,12 @@ pub step_answer : (s : Moment) (k : ℕ) (e : Event) → operation_of e ≡ None
 step_answer s k e none = told_answer (tells e (act s k e).0) (act s k e).0 (act s k e).1 ∙ ap (λ (d : Moment × Answer). d.1) (act_managed s k e none)
 
 -- an operation is refused, or answered as operations are
-pub operation_answer : (s : Moment) (k : ℕ) (op : Op) → ((r : Refusal) × ((step s k (Operation op)).1.answer ≡ Refused r)) ⊎ ((step s k (Operation op)).1.answer ≡ answered (ops.effect s.resources op).1)
+pub operation_answer : (s : Moment) (k : ℕ) (op : Op) → ((r : Refusal) × (refusal s k (Operation op) ≡ Some r) × ((step s k (Operation op)).1.answer ≡ Refused r)) ⊎ ((step s k (Operation op)).1.answer ≡ answered (ops.effect s.resources op).1)
 operation_answer s k op = by (refusal s k (Operation op)) refl
   where
     told_so : (step s k (Operation op)).1.answer ≡ (act s k (Operation op)).1
     told_so = told_answer (tells (Operation op) (act s k (Operation op)).0) (act s k (Operation op)).0 (act s k (Operation op)).1
 
-    by : (r : Option Refusal) → refusal s k (Operation op) ≡ r → ((r : Refusal) × ((step s k (Operation op)).1.answer ≡ Refused r)) ⊎ ((step s k (Operation op)).1.answer ≡ answered (ops.effect s.resources op).1)
+    by : (r : Option Refusal) → refusal s k (Operation op) ≡ r → ((r : Refusal) × (refusal s k (Operation op) ≡ Some r) × ((step s k (Operation op)).1.answer ≡ Refused r)) ⊎ ((step s k (Operation op)).1.answer ≡ answered (ops.effect s.resources op).1)
     by None is = inr (told_so ∙ ap (λ r. (acted r s k (Operation op)).1) is)
-    by (Some r) is = inl (r, told_so ∙ ap (λ r. (acted r s k (Operation op)).1) is)
+    by (Some r) is = inl (r, is, told_so ∙ ap (λ r. (acted r s k (Operation op)).1) is)

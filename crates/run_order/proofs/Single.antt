@@ -61,7 +61,7 @@ module _ {A : Type 0} where
   state_at m name = option_map (λ (job : Job A). job.state) (get m name)
 
   -- where a job's state is changed to another one, those that are run were so
-  changed_runs : (m : Jobs A) (n name : List ℕ) (change : Job A → Job A) → ((job : Job A) → (change job).state ≢ states.Running)
+  pub changed_runs : (m : Jobs A) (n name : List ℕ) (change : Job A → Job A) → ((job : Job A) → (change job).state ≢ states.Running)
       → state_at (changed change n m) name ≡ Some states.Running → (state_at m name ≡ Some states.Running) × (is_name name n ≡ false)
   changed_runs m n name change other is = by (is_name name n) refl
     where
@@ -74,7 +74,7 @@ module _ {A : Type 0} where
       by true e = absurd (none (get m n) (sym (ap (option_map (λ (job : Job A). job.state)) (put_same m n name change (get m n) refl e)) ∙ is))
 
   -- and where one is put in another state
-  put_runs : (m : Jobs A) (n name : List ℕ) (job : Job A) → job.state ≢ states.Running → state_at (insert m n job) name ≡ Some states.Running → state_at m name ≡ Some states.Running
+  pub put_runs : (m : Jobs A) (n name : List ℕ) (job : Job A) → job.state ≢ states.Running → state_at (insert m n job) name ≡ Some states.Running → state_at m name ≡ Some states.Running
   put_runs m n name job other is = by (is_name name n) (sym (ap (option_map (λ (j : Job A). j.state)) (get-insert name_cmp_total m n job name)) ∙ is)
     where
       by : (b : Bool) → option_map (λ (j : Job A). j.state) (cond b (Some job) (get m name)) ≡ Some states.Running → state_at m name ≡ Some states.Running
@@ -112,7 +112,7 @@ IsPlain k event = Unit {0}
 
 -- ---- the passes
 
-table_put : (t : Table) (change : Pass → Pass) (o : Option Pass) → get t 1 ≡ o → get (put_if t 1 (option_map change o)) 1 ≡ option_map change o
+pub table_put : (t : Table) (change : Pass → Pass) (o : Option Pass) → get t 1 ≡ o → get (put_if t 1 (option_map change o)) 1 ≡ option_map change o
 table_put t change None is = is
 table_put t change (Some pass) is = get-insert nat_cmp_total t 1 (change pass) 1 ∙ ap (λ b. cond b (Some (change pass)) (get t 1)) (itself nat_cmp_total 1)
 
@@ -120,10 +120,10 @@ same_job : (o : Option Pass) (change : Pass → Pass) → ((pass : Pass) → (ch
 same_job None change same = refl
 same_job (Some pass) change same = same pass
 
-batches_job : (p : Passes WsAtom) (change : Pass → Pass) → ((pass : Pass) → (change pass).job ≡ pass.job) → job_in (get (changed change 1 p.there) 1) ≡ job_of p 1
+pub batches_job : (p : Passes WsAtom) (change : Pass → Pass) → ((pass : Pass) → (change pass).job ≡ pass.job) → job_in (get (changed change 1 p.there) 1) ≡ job_of p 1
 batches_job p change same = ap job_in (table_put p.there change (get p.there 1) refl) ∙ same_job (get p.there 1) change same
 
-job_given : (t : Table) (name : List ℕ) → is_some (get t 1) ≡ true → job_in (get (changed (rows.with_job (Some name)) 1 t) 1) ≡ Some name
+pub job_given : (t : Table) (name : List ℕ) → is_some (get t 1) ≡ true → job_in (get (changed (rows.with_job (Some name)) 1 t) 1) ≡ Some name
 job_given t name there = ap job_in (table_put t (rows.with_job (Some name)) (get t 1) refl) ∙ given (get t 1) there
   where
     given : (o : Option Pass) → is_some o ≡ true → job_in (option_map (rows.with_job (Some name)) o) ≡ Some name
@@ -149,7 +149,7 @@ no_job (Some name) h = cc
 free_of_jobs : (m : JobManager) (k : ℕ) → refusal m k Take ≡ None → job_of m.passes k ≡ None
 free_of_jobs m k r = no_job (job_of m.passes k) (either (is_some (last_rule k m.passes.rules)) (is_some (job_of m.passes k)) (not (batches_of m.passes k == 0)) (unless (is_busy m.passes k) refusals.PassBusy r))
 
-first_other : (asleep : Bool) → queue.first_state asleep ≢ states.Running
+pub first_other : (asleep : Bool) → queue.first_state asleep ≢ states.Running
 first_other true h = cc
 first_other false h = cc
 
@@ -159,7 +159,7 @@ sleeping_other h = cc
 waiting_other : states.Waiting ≢ states.Running
 waiting_other h = cc
 
-over_other : states.None ≢ states.Running
+pub over_other : states.None ≢ states.Running
 over_other h = cc
 
 taken_single : (m : JobManager) → has_pass m.passes 1 ≡ true → job_of m.passes 1 ≡ None → IsSingle m → IsSingle (taken m 1 (next_job m)).0
@@ -175,7 +175,7 @@ taken_single m there free s = by (next_job m)
       ];
     }
 
-finished_single : (m : JobManager) (o : Option (List ℕ)) → job_of m.passes 1 ≡ o → is_none o ≡ false → IsSingle m → (name : List ℕ) → state_of (job_done m.jobs o) name ≡ Some states.Running → ⊥
+pub finished_single : (m : JobManager) (o : Option (List ℕ)) → job_of m.passes 1 ≡ o → is_none o ≡ false → IsSingle m → (name : List ℕ) → state_of (job_done m.jobs o) name ≡ Some states.Running → ⊥
 finished_single m None at some s name is = cc
 finished_single m (Some n) at some s name is =
     let was = changed_runs m.jobs.jobs n name queue.over (λ _. over_other) is in

@@ -187,7 +187,7 @@ answered_none name (op_answers.Seen entries partners) = refl
 
 operation_none : (name : List ℕ) (s : Moment) (k : ℕ) (op : Op) → taken_in name (step s k (Operation op)).1.answer ≡ 0
 operation_none name s k op = elim (operation_answer s k op) [
-  | inl refused ↦ ap (taken_in name) refused.1
+  | inl refused ↦ ap (taken_in name) refused.2
   | inr done ↦ ap (taken_in name) done ∙ answered_none name (ops.effect s.resources op).1
 ]
 
