@@ -12,3 +12,4 @@ pub mod Cancelling
 pub mod Once
 pub mod Single
 pub mod Idle
+pub mod Waiting
