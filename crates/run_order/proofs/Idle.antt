@@ -33,8 +33,9 @@ use Rattle.job_manager.specs.Effects.{effect, taken, next_job, decided, outcome}
 use Rattle.ws_core.specs.States.{Moment}
 use Rattle.ws_core.specs.Steps.{step}
 use Rattle.ws_core.specs.Histories.{fresh, has_entered}
+use Rattle.run_order.specs.Alone.{AllOfOne, IsSingle, IsPlain, IsIdle, IsBusy, IsCommand}
 use Rattle.run_order.proofs.Managed.{step_manager, step_answer}
-use Rattle.run_order.proofs.Single.{AllOfOne, IsSingle, IsPlain, step_single, none_without, table_put, batches_job, job_given, finished_single, first_other, over_other, put_runs, changed_runs}
+use Rattle.run_order.proofs.Single.{step_single, none_without, table_put, batches_job, job_given, finished_single, first_other, over_other, put_runs, changed_runs}
 
 -- ---- jobs of a queue
 
@@ -85,12 +86,6 @@ none_next q held name job none is =
 
 -- ---- between parts
 
--- pass 1 has nothing, and no job is run
-pub record IsIdle (m : JobManager) : Type 0 where
-  pub rules : m.passes.rules ≡ []
-  pub there : get m.passes.there 1 ≡ Some idle
-  pub runs : (name : List ℕ) → state_of m.jobs name ≢ Some states.Running
-
 pub idle_single : (m : JobManager) → IsIdle m → IsSingle m
 idle_single m i = record { held = subst AllOfOne (sym i.rules) tt; runs = λ name is. absurd (i.runs name is) }
 
@@ -130,20 +125,6 @@ may_take m i = ap (λ b. when b refusals.PassBusy) (none ∙ free)
     free = ap (λ p. (false || is_some (job_in p)) || not (batches_in p == 0)) i.there
 
 -- ---- a job is taken, run and finished
-
--- pass 1 runs this job
-pub record IsBusy (name : List ℕ) (m : JobManager) : Type 0 where
-  pub single : IsSingle m
-  pub job : job_of m.passes 1 ≡ Some name
-
--- an event that a command may be
-abbrev pub IsCommand : Event → Type 0
-IsCommand Enter = ⊥
-IsCommand Leave = ⊥
-IsCommand (Transfer to) = ⊥
-IsCommand Take = ⊥
-IsCommand Finish = ⊥
-IsCommand event = Unit {0}
 
 there_of : (o : Option Pass) (name : List ℕ) → job_in o ≡ Some name → is_some o ≡ true
 there_of None name h = cc

@@ -13,3 +13,4 @@ pub mod Once
 pub mod Single
 pub mod Idle
 pub mod Waiting
+pub mod Staying

@@ -32,13 +32,11 @@ use Rattle.ws_core.specs.States.{Moment}
 use Rattle.ws_core.specs.Steps.{step}
 use Rattle.ws_core.specs.Histories.{has_entered}
 use Rattle.run_order.specs.Counts.{is_name}
+use Rattle.run_order.specs.Alone.{AllOfOne, IsSingle, IsPlain}
 use Rattle.run_order.proofs.Managed.{step_manager}
 use Rattle.run_order.proofs.Taken.{put_other, put_same}
 
 -- ---- rules of one pass
-
-abbrev pub AllOfOne : List (Held WsAtom) → Type 0
-AllOfOne all = AllByRecursion (λ (held : Held WsAtom). held.holder ≡ 1) all
 
 all_more : (all : List (Held WsAtom)) (held : Held WsAtom) → held.holder ≡ 1 → AllOfOne all → AllOfOne (all ++ held ∷ [])
 all_more [] held is p = (is, tt)
@@ -88,27 +86,6 @@ module _ {A : Type 0} where
       by : (b : Bool) → is_name name n ≡ b → (name ≡ n) ⊎ (state_at m name ≡ Some states.Running)
       by true e = inl (same_key name_cmp_exact name n e)
       by false e = inr (sym (ap (option_map (λ (job : Job A). job.state)) (put_other m n name (option_map (queue.in_state states.Running) (get m n)) e)) ∙ is)
-
--- ---- what holds
-
--- all rules are pass 1's, and a job that is run is the one that it runs
-pub record IsSingle (m : JobManager) : Type 0 where
-  pub held : AllOfOne m.passes.rules
-  pub runs : (name : List ℕ) → state_of m.jobs name ≡ Some states.Running → job_of m.passes 1 ≡ Some name
-
--- what pass 0 does between parts, and pass 1 in its own
-abbrev pub IsPlain : ℕ → Event → Type 0
-IsPlain k Enter = ⊥
-IsPlain k Leave = ⊥
-IsPlain k (Transfer to) = ⊥
-IsPlain k Take = k ≡ 1
-IsPlain k Finish = k ≡ 1
-IsPlain k (Begin rule) = k ≡ 1
-IsPlain k (TryBegin rule) = k ≡ 1
-IsPlain k (End rule) = k ≡ 1
-IsPlain k Batch = k ≡ 1
-IsPlain k EndBatch = k ≡ 1
-IsPlain k event = Unit {0}
 
 -- ---- the passes
 

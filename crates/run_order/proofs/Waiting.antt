@@ -39,8 +39,7 @@ use Rattle.ws_core.specs.Refusals as core
 use Rattle.ws_core.specs.Steps.{step}
 use Rattle.ws_core.specs.Histories.{entry_of, only_tried}
 use Rattle.run_order.proofs.Managed.{step_answer, operation_answer, only_operation}
-use Rattle.run_order.proofs.Single.{AllOfOne, IsSingle}
-use Rattle.run_order.proofs.Idle.{IsCommand}
+use Rattle.run_order.specs.Alone.{AllOfOne, IsSingle, IsCommand}
 use Rattle.job_queue.proofs.Found.{same_Some}
 
 -- ---- rules

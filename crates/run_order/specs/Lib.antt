@@ -4,3 +4,4 @@ pub mod Parts
 pub mod Orders
 pub mod Fronts
 pub mod Counts
+pub mod Alone
