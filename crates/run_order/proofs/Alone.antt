@@ -1,13 +1,13 @@
 -- One worker: what pass 0 and pass 1 made, one after another.
-use Rattle.std.proofs.Common.{◌≡◌, ◌≢◌, ◌<◌, ◌≤◌, ◌⊎◌, inl, inr, ◌+◌, ℕ, zero, suc, List, [], ◌∷◌, ◌++◌, map, refl, ap, sym, ◌∙◌, subst, arith}
+use Rattle.std.proofs.Common.{◌≡◌, ◌≢◌, ◌<◌, ◌⊎◌, inl, inr, ℕ, List, [], ◌∷◌, ◌++◌, map, refl, ap, sym, ◌∙◌, subst, arith}
 use Rattle.job_queue.specs.Queues.{live}
 use Rattle.core_event.specs.declared.entry.Entry.{Entry}
 use Rattle.core_event.specs.declared.event.Event.{Event}
-use Rattle.core_event.specs.declared.event.Event.TheVariants.{Take, Finish}
+use Rattle.core_event.specs.declared.event.Event.TheVariants.{Finish}
 use Rattle.ws_core.specs.States.{Moment}
 use Rattle.ws_core.specs.Histories.{replay}
 use Rattle.run_order.specs.Lists.{entry, own, acts, Cut, InTurn}
-use Rattle.run_order.specs.Plans.{JobPlan, Phase, commands_of}
+use Rattle.run_order.specs.Plans.{Phase, commands_of}
 use Rattle.run_order.specs.Parts.{Making, IsPart, Parts, Middle, OneEvent}
 use Rattle.run_order.specs.Orders.{scheduled, cancelled, sleepers, IsPhase, IsCutPhase}
 use Rattle.run_order.proofs.Lists.{own_yes, own_no}

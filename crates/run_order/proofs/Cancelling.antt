@@ -1,6 +1,6 @@
 -- Jobs that sleep are cancelled one by one: each still sleeps when it is its turn.
 use Rattle.std.proofs.Common.{◌≡◌, ◌≢◌, ◌<◌, ◌≤◌, ◌+◌, ℕ, zero, suc, Bool, true, false, if◌then◌else◌, List, [], ◌∷◌, ◌++◌, length, take, drop, get_or, map, refl, ap, sym, ◌∙◌, subst, arith, append-nil}
-use Rattle.std.specs.Prelude.{Option, Some, None, filter}
+use Rattle.std.specs.Prelude.{Option, Some, None}
 use Rattle.std.specs.List.{AllByRecursion}
 use Rattle.std.proofs.lemmas.List.{take_more, take-append-drop}
 use Rattle.job_queue.specs.Queues.{state_of}
@@ -8,7 +8,6 @@ use Rattle.job_queue.specs.Queues as queue
 use Rattle.job_queue.specs.declared.job.Job.{Job}
 use Rattle.job_queue.proofs.Named.{name_cmp_exact}
 use Rattle.job_queue.proofs.Found.{same_key}
-use Rattle.job_queue.specs.Changed.{changed}
 use Rattle.sched_rules.specs.declared.ws_atom.WsAtom.{WsAtom}
 use Rattle.std.specs.FinMap.{get}
 use Rattle.std.specs.Option.{option_map}

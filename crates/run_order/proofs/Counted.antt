@@ -1,11 +1,11 @@
 -- What was made, by how many of a list were done: as loops know it.
-use Rattle.std.proofs.Common.{◌≡◌, ◌<◌, ◌≤◌, ◌+◌, ℕ, List, [], ◌∷◌, ◌++◌, length, take, drop, get_or, map, refl, ap, sym, ◌∙◌, subst, arith, append_assoc}
+use Rattle.std.proofs.Common.{◌≡◌, ◌<◌, ◌+◌, ℕ, List, [], ◌∷◌, ◌++◌, length, take, drop, get_or, map, refl, ap, sym, ◌∙◌, subst, append_assoc}
 use Rattle.std.proofs.lemmas.List.{take_more, take-append-drop}
 use Rattle.core_event.specs.declared.entry.Entry.{Entry}
 use Rattle.core_event.specs.declared.event.Event.{Event}
 use Rattle.ws_core.specs.States.{Moment}
 use Rattle.ws_core.specs.Histories.{replay}
-use Rattle.run_order.specs.Lists.{acts, Cut, Grew, InTurn}
+use Rattle.run_order.specs.Lists.{acts, Cut, InTurn}
 use Rattle.run_order.specs.Plans.{Phase}
 use Rattle.run_order.specs.Parts.{Making}
 use Rattle.run_order.specs.Orders.{IsPhase, IsCutPhase, Phases, Enters, Leaves, IsCutRun}

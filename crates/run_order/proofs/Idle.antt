@@ -1,9 +1,8 @@
 -- One worker alone, between its parts: it has nothing, so it may take a job, and where it gets none, none is left.
-use Rattle.std.proofs.Common.{◌≡◌, ◌≢◌, ◌⊎◌, inl, inr, ◌<◌, ℕ, zero, suc, ◌+◌, ◌-◌, Bool, true, false, cond, not, ◌&&◌, ◌||◌, ◌==◌, if◌then◌else◌, List, [], ◌∷◌, ◌++◌, length, refl, ap, sym, ◌∙◌, subst, arith}
+use Rattle.std.proofs.Common.{◌≡◌, ◌⊎◌, inl, inr, ℕ, ◌+◌, ◌-◌, Bool, true, false, cond, not, ◌&&◌, ◌||◌, ◌==◌, if◌then◌else◌, List, [], ◌∷◌, length, refl, ap, sym, ◌∙◌, subst, arith}
 use Rattle.std.specs.Prelude.{Option, Some, None, is_some, is_none, filter, find}
 use Rattle.std.specs.Option.{option_map}
-use Rattle.std.specs.Ordering.{nat_cmp}
-use Rattle.std.specs.FinMap.{get, insert, entries, entries_sorted, get-insert, get-empty, get-entries}
+use Rattle.std.specs.FinMap.{get, entries, entries_sorted, get-insert, get-empty, get-entries}
 use Rattle.std.proofs.lemmas.Cmp.{nat_cmp_total}
 use Rattle.sched_rules.specs.Atoms.{atom_conflicts}
 use Rattle.sched_rules.specs.declared.ws_atom.WsAtom.{WsAtom}
@@ -12,14 +11,13 @@ use Rattle.rule_table.specs.Tables.{last_rule}
 use Rattle.job_queue.specs.declared.state.JobState.{JobState}
 use Rattle.job_queue.specs.declared.state.JobState.TheVariants as states
 use Rattle.job_queue.specs.declared.job.Job.{Job}
-use Rattle.job_queue.specs.Changed.{changed}
 use Rattle.job_queue.specs.States.{is_live, is_waiting}
-use Rattle.job_queue.specs.Queues.{Jobs, Queue, name_cmp, state_of, live, may_start, earliest, earlier, next_name, over}
+use Rattle.job_queue.specs.Queues.{Jobs, Queue, name_cmp, live, may_start, earliest, earlier, next_name, over}
 use Rattle.job_queue.proofs.Named.{name_cmp_total, name_cmp_exact}
 use Rattle.job_queue.proofs.Found.{differ, itself, not_Some, find_some}
 use Rattle.job_queue.proofs.Counted.{bit, bit_at, count_insert}
 use Rattle.pass_table.specs.declared.pass.Pass.{Pass}
-use Rattle.pass_table.specs.Passes.{Passes, has_pass, job_of, job_in, batches_in, idle, is_busy}
+use Rattle.pass_table.specs.Passes.{has_pass, job_of, job_in, batches_in, idle, is_busy}
 use Rattle.pass_table.specs.Rows as rows
 use Rattle.proj_desc.specs.FirstCause.{when}
 use Rattle.core_event.specs.declared.event.Event.{Event}
@@ -32,7 +30,7 @@ use Rattle.job_manager.specs.Refusals.{refusal}
 use Rattle.job_manager.specs.Effects.{effect, taken, next_job, decided, outcome}
 use Rattle.ws_core.specs.States.{Moment}
 use Rattle.ws_core.specs.Steps.{step}
-use Rattle.ws_core.specs.Histories.{fresh, has_entered}
+use Rattle.ws_core.specs.Histories.{fresh}
 use Rattle.run_order.specs.Alone.{AllOfOne, IsSingle, IsPlain, IsIdle, IsBusy, IsCommand}
 use Rattle.run_order.proofs.Managed.{step_manager, step_answer}
 use Rattle.run_order.proofs.Single.{step_single, none_without, table_put, batches_job, job_given, finished_single, first_other, over_other, put_runs, changed_runs}

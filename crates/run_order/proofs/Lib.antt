@@ -14,3 +14,4 @@ pub mod Single
 pub mod Idle
 pub mod Waiting
 pub mod Staying
+pub mod Written

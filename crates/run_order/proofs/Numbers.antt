@@ -5,18 +5,17 @@ use Rattle.std.specs.Ordering.{nat_cmp, eq_by_cmp}
 use Rattle.std.specs.Option.{option_map}
 use Rattle.std.specs.FinMap.{nat_cmp-IsAntisymmetric, get, insert, remove, empty, contains_key, get-insert, get-remove, get-empty}
 use Rattle.std.proofs.lemmas.Cmp.{nat_cmp_total}
-use Rattle.sched_rules.specs.declared.ws_atom.WsAtom.{WsAtom}
 use Rattle.job_queue.specs.Changed.{put_if, changed}
 use Rattle.job_queue.proofs.Found.{same_key}
 use Rattle.pass_table.specs.declared.pass.Pass.{Pass}
-use Rattle.pass_table.specs.Passes.{Passes, Table, has_pass, first_pass, idle}
+use Rattle.pass_table.specs.Passes.{Table, idle}
 use Rattle.core_event.specs.declared.entry.Entry.{Entry}
 use Rattle.core_event.specs.declared.event.Event.{Event}
 use Rattle.core_event.specs.declared.event.Event.TheVariants.{Enter, Leave, Schedule, Sleep, Wake, Cancel, Take, Finish, Begin, TryBegin, End, Transfer, Batch, EndBatch, Checkpoint, Operation}
 use Rattle.core_event.specs.declared.reply.Refusal.{Refusal}
 use Rattle.job_manager.specs.declared.manager.JobManager.{JobManager}
 use Rattle.job_manager.specs.Refusals.{refusal}
-use Rattle.job_manager.specs.Effects.{effect, taken, next_job, decided, outcome}
+use Rattle.job_manager.specs.Effects.{effect, taken, next_job, decided}
 use Rattle.ws_core.specs.States.{Moment}
 use Rattle.ws_core.specs.Steps.{step}
 use Rattle.ws_core.specs.Histories.{after, has_entered, entered}

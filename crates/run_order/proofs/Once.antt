@@ -1,5 +1,5 @@
 -- A phase takes its own jobs, each at most as often as it names it, and leaves none that may still be taken.
-use Rattle.std.proofs.Common.{◌≡◌, ◌<◌, ◌≤◌, ◌⊎◌, inl, inr, ◌+◌, ℕ, zero, suc, Bool, true, false, if◌then◌else◌, List, [], ◌∷◌, ◌++◌, length, map, refl, ap, sym, ◌∙◌, subst, arith, nat_eq}
+use Rattle.std.proofs.Common.{◌≡◌, ◌<◌, ◌≤◌, ◌⊎◌, inl, inr, ◌+◌, ℕ, zero, suc, Bool, true, false, if◌then◌else◌, List, [], ◌∷◌, ◌++◌, length, map, refl, ap, sym, ◌∙◌, arith, nat_eq}
 use Rattle.std.specs.Prelude.{Option, Some, None}
 use Rattle.std.specs.Option.{option_map}
 use Rattle.std.specs.FinMap.{get, get-empty}
@@ -16,7 +16,6 @@ use Rattle.job_queue.proofs.Counted.{bit, bit_at, count_insert}
 use Rattle.core_event.specs.declared.entry.Entry.{Entry}
 use Rattle.core_event.specs.declared.event.Event.{Event}
 use Rattle.core_event.specs.declared.event.Event.TheVariants.{Enter, Finish, Cancel}
-use Rattle.core_event.specs.declared.reply.Reply.{Reply}
 use Rattle.core_event.specs.declared.reply.Refusal.{Refusal}
 use Rattle.job_manager.specs.declared.manager.JobManager.{JobManager}
 use Rattle.job_manager.specs.Refusals.{refusal, by_job}
@@ -26,7 +25,7 @@ use Rattle.ws_core.specs.Steps.{step}
 use Rattle.ws_core.specs.Histories.{after, fresh, replay, replies}
 use Rattle.ws_core.proofs.Grown.{replay_append}
 use Rattle.run_order.specs.Lists.{entry, own, acts, InTurn}
-use Rattle.run_order.specs.Plans.{JobPlan, Phase, commands_of}
+use Rattle.run_order.specs.Plans.{Phase, commands_of}
 use Rattle.run_order.specs.Parts.{Making, IsPart, Parts, Middle, OneEvent}
 use Rattle.run_order.specs.Orders.{scheduled, cancelled, is_asleep, sleeps, sleepers, Enters, IsPhase, Phases}
 use Rattle.run_order.specs.Counts.{one_if, is_name, schedules_in, schedules_of, takes_of, still, pending, named}

@@ -1,11 +1,11 @@
 -- How a worker's pass comes to whole parts, and to a cut one.
-use Rattle.std.proofs.Common.{◌≡◌, ℕ, List, [], ◌∷◌, ◌++◌, refl, ap, sym, ◌∙◌, subst, append_assoc, append-nil}
+use Rattle.std.proofs.Common.{◌≡◌, ℕ, List, [], ◌∷◌, ◌++◌, refl, ap, sym, append_assoc}
 use Rattle.core_event.specs.declared.entry.Entry.{Entry}
 use Rattle.core_event.specs.declared.event.Event.{Event}
 use Rattle.core_event.specs.declared.event.Event.TheVariants.{Take, Finish}
 use Rattle.core_event.specs.declared.reply.Answer.TheVariants.{Job}
 use Rattle.core_event.specs.declared.reply.Reply.{Reply}
-use Rattle.run_order.specs.Lists.{entry, Cut, Grew, InTurn}
+use Rattle.run_order.specs.Lists.{entry, Cut, InTurn}
 use Rattle.run_order.specs.Plans.{Phase, commands_of}
 use Rattle.run_order.specs.Parts.{Making, IsPart, Parts, OneEvent}
 use Rattle.run_order.proofs.Lists.{some_reply, cut_whole, cut_on, turn_append, turn_one}

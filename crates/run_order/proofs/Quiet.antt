@@ -1,10 +1,10 @@
 -- What a phase makes lets nobody in.
-use Rattle.std.proofs.Common.{◌≡◌, ◌+◌, ℕ, List, [], ◌∷◌, ◌++◌, map, refl, ap, sym, ◌∙◌, arith}
+use Rattle.std.proofs.Common.{◌≡◌, ◌+◌, ℕ, List, [], ◌∷◌, map, refl, ap, ◌∙◌, arith}
 use Rattle.core_event.specs.declared.entry.Entry.{Entry}
 use Rattle.core_event.specs.declared.event.Event.{Event}
-use Rattle.core_event.specs.declared.event.Event.TheVariants.{Take, Finish}
-use Rattle.run_order.specs.Lists.{entry, acts, Cut, InTurn}
-use Rattle.run_order.specs.Plans.{JobPlan, Phase, commands_of}
+use Rattle.core_event.specs.declared.event.Event.TheVariants.{Finish}
+use Rattle.run_order.specs.Lists.{entry, acts, Cut}
+use Rattle.run_order.specs.Plans.{Phase, commands_of}
 use Rattle.run_order.specs.Parts.{Making, IsPart, Parts, OneEvent}
 use Rattle.run_order.specs.Orders.{scheduled, cancelled}
 use Rattle.run_order.specs.Fronts.{lets_in, enters}

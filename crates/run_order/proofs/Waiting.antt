@@ -1,13 +1,13 @@
 -- One worker alone never waits: no other pass has a rule that may be in its way.
-use Rattle.std.proofs.Common.{◌≡◌, ◌⊎◌, inl, inr, ℕ, Bool, true, false, cond, not, ◌&&◌, ◌||◌, ◌==◌, if◌then◌else◌, List, [], ◌∷◌, refl, ap, sym, ◌∙◌, subst, arith}
-use Rattle.std.specs.Prelude.{Option, Some, None, is_some, is_none}
+use Rattle.std.proofs.Common.{◌≡◌, inl, inr, ℕ, Bool, true, false, not, ◌&&◌, ◌==◌, if◌then◌else◌, List, [], ◌∷◌, refl, ap, sym, ◌∙◌, subst, arith}
+use Rattle.std.specs.Prelude.{Option, Some, None}
 use Rattle.std.specs.Option.{option_map, option_or}
-use Rattle.std.specs.List.{AllByRecursion, list_any, filter}
+use Rattle.std.specs.List.{AllByRecursion, filter}
 use Rattle.sched_rules.specs.Atoms.{atom_contains, atom_conflicts}
-use Rattle.sched_rules.specs.Rules.{rule_contains, rule_conflicts, meets}
+use Rattle.sched_rules.specs.Rules.{rule_contains, rule_conflicts}
 use Rattle.sched_rules.specs.declared.ws_atom.WsAtom.{WsAtom}
 use Rattle.rule_table.specs.declared.held.Held.{Held}
-use Rattle.rule_table.specs.Tables.{is_null, is_outer, newest, outer_rule, first_conflict, lowest, last_rule, rules_held}
+use Rattle.rule_table.specs.Tables.{is_null, is_outer, newest, lowest, last_rule, rules_held}
 use Rattle.rule_table.proofs.Kept.{none_passes}
 use Rattle.job_queue.specs.declared.error.JobError.{JobError}
 use Rattle.job_queue.specs.declared.error.JobError.TheVariants as errors
@@ -24,8 +24,6 @@ use Rattle.op_kind.specs.declared.refusal.OpRefusal.{OpRefusal}
 use Rattle.op_rule.specs.Rules.{operation_rule}
 use Rattle.core_event.specs.declared.event.Event.{Event}
 use Rattle.core_event.specs.declared.event.Event.TheVariants.{Enter, Leave, Schedule, Sleep, Wake, Cancel, Take, Finish, Begin, TryBegin, End, Transfer, Batch, EndBatch, Checkpoint, Operation}
-use Rattle.core_event.specs.declared.reply.Answer.{Answer}
-use Rattle.core_event.specs.declared.reply.Answer.TheVariants.{Refused}
 use Rattle.core_event.specs.declared.reply.Refusal.{Refusal}
 use Rattle.core_event.specs.declared.reply.Refusal.TheVariants as refusals
 use Rattle.core_event.specs.Events.{operation_of, waits}
@@ -33,10 +31,9 @@ use Rattle.core_event.specs.Replies.{answered, is_attempt, is_conflict}
 use Rattle.job_manager.specs.declared.manager.JobManager.{JobManager}
 use Rattle.job_manager.specs.Admission.{admission, refused_under, conflict_with}
 use Rattle.job_manager.specs.Refusals.{refusal, by_job, end_refusal}
-use Rattle.job_manager.specs.Effects.{effect, decided, outcome}
+use Rattle.job_manager.specs.Effects.{effect, decided}
 use Rattle.ws_core.specs.States.{Moment}
 use Rattle.ws_core.specs.Refusals as core
-use Rattle.ws_core.specs.Steps.{step}
 use Rattle.ws_core.specs.Histories.{entry_of, only_tried}
 use Rattle.run_order.proofs.Managed.{step_answer, operation_answer, only_operation}
 use Rattle.run_order.specs.Alone.{AllOfOne, IsSingle, IsCommand}
@@ -83,14 +80,14 @@ admits_alone all rule r p h = by (newest (is_outer 1) all) refl h
 
 -- ---- refusals
 
-job_refusal : (o : Option JobError) (r : Refusal) → by_job o ≡ Some r → is_conflict r ≡ false
+pub job_refusal : (o : Option JobError) (r : Refusal) → by_job o ≡ Some r → is_conflict r ≡ false
 job_refusal None r h = cc
 job_refusal (Some errors.UnknownJob) r h = ap is_conflict (sym (same_Some refusals.UnknownJob r h))
 job_refusal (Some (errors.WrongState state)) r h = ap is_conflict (sym (same_Some (refusals.WrongState state) r h))
 job_refusal (Some errors.NumbersUsed) r h = ap is_conflict (sym (same_Some refusals.NumbersUsed r h))
 job_refusal (Some errors.Memory) r h = cc
 
-when_refusal : (b : Bool) (cause r : Refusal) → is_conflict cause ≡ false → when b cause ≡ Some r → is_conflict r ≡ false
+pub when_refusal : (b : Bool) (cause r : Refusal) → is_conflict cause ≡ false → when b cause ≡ Some r → is_conflict r ≡ false
 when_refusal true cause r none h = ap is_conflict (sym (same_Some cause r h)) ∙ none
 when_refusal false cause r none h = cc
 
@@ -98,7 +95,7 @@ ended_refusal : (last : Option (List WsAtom)) (held : ℕ) (rule : List WsAtom) 
 ended_refusal None held rule r h = ap is_conflict (sym (same_Some refusals.HoldsNothing r h))
 ended_refusal (Some last) held rule r h = when_refusal _ (refusals.NotLast held) r refl h
 
-both_false : (a b : Bool) → a ≡ false → (a && b) ≡ false
+pub both_false : (a b : Bool) → a ≡ false → (a && b) ≡ false
 both_false true b h = cc
 both_false false b h = refl
 

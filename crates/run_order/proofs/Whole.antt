@@ -1,5 +1,5 @@
 -- Phases one after another, and whole histories.
-use Rattle.std.proofs.Common.{◌≡◌, ◌<◌, ◌≤◌, inl, inr, ℕ, List, [], ◌∷◌, ◌++◌, length, refl, ap, sym, subst, arith, append-nil}
+use Rattle.std.proofs.Common.{◌<◌, ◌≤◌, inl, inr, ℕ, List, [], ◌∷◌, ◌++◌, length, refl, ap, sym, subst, arith, append-nil}
 use Rattle.core_event.specs.declared.entry.Entry.{Entry}
 use Rattle.ws_core.specs.States.{Moment}
 use Rattle.ws_core.specs.Histories.{replay}

@@ -6,11 +6,11 @@ use Rattle.job_queue.specs.States.{may_be_cancelled}
 use Rattle.job_queue.specs.declared.state.JobState.{JobState}
 use Rattle.core_event.specs.declared.entry.Entry.{Entry}
 use Rattle.core_event.specs.declared.event.Event.{Event}
-use Rattle.core_event.specs.declared.event.Event.TheVariants.{Schedule, Take}
+use Rattle.core_event.specs.declared.event.Event.TheVariants.{Schedule}
 use Rattle.core_event.specs.declared.reply.Answer.{Answer}
 use Rattle.core_event.specs.declared.reply.Answer.TheVariants.{Job}
 use Rattle.ws_core.specs.States.{Moment}
-use Rattle.run_order.specs.Plans.{JobPlan, Phase}
+use Rattle.run_order.specs.Plans.{Phase}
 
 abbrev pub one_if : Bool → ℕ
 one_if is = if is then 1 else 0
