@@ -1,0 +1,17 @@
+pub mod Lists
+pub mod Parts
+pub mod Whole
+pub mod Counted
+pub mod Alone
+pub mod Managed
+pub mod Numbers
+pub mod Quiet
+pub mod Meetings
+pub mod Taken
+pub mod Cancelling
+pub mod Once
+pub mod Single
+pub mod Idle
+pub mod Waiting
+pub mod Staying
+pub mod Written
