@@ -1,5 +1,5 @@
 -- Jobs that sleep are cancelled one by one: each still sleeps when it is its turn.
-use Rattle.std.proofs.Common.{◌≡◌, ◌≢◌, ◌<◌, ◌≤◌, ◌+◌, ℕ, zero, suc, Bool, true, false, if◌then◌else◌, List, [], ◌∷◌, ◌++◌, length, take, drop, get_or, map, refl, ap, sym, ◌∙◌, subst, arith, append-nil}
+use Rattle.std.proofs.Common.{◌≡◌, ◌≢◌, ◌<◌, ◌≤◌, ◌+◌, ℕ, zero, suc, Bool, true, false, if◌then◌else◌, List, [], ◌∷◌, ◌++◌, length, take, drop, get_or, map, refl, ap, sym, ◌∙◌, subst, arith}
 use Rattle.std.specs.Prelude.{Option, Some, None}
 use Rattle.std.specs.List.{AllByRecursion}
 use Rattle.std.proofs.lemmas.List.{take_more, take-append-drop}
@@ -22,9 +22,9 @@ use Rattle.ws_core.specs.States.{Moment}
 use Rattle.ws_core.specs.Steps.{step}
 use Rattle.ws_core.specs.Histories.{after, replay}
 use Rattle.run_order.specs.Lists.{acts, Cut}
-use Rattle.run_order.specs.Plans.{JobPlan, Phase, HaveOwnNames}
+use Rattle.run_order.specs.Plans.{JobPlan, Phase, HaveOwnNames, is_name}
 use Rattle.run_order.specs.Orders.{cancelled, is_asleep, sleeps, sleepers}
-use Rattle.run_order.specs.Counts.{one_if, is_name, named}
+use Rattle.run_order.specs.Counts.{one_if, named}
 use Rattle.run_order.proofs.Lists.{acts_append, acts_cut}
 use Rattle.run_order.proofs.Managed.{step_manager}
 use Rattle.run_order.proofs.Taken.{put_other}
@@ -114,22 +114,12 @@ module _ {C : Type 0} where
       → map cancelled (sleepers s (take (i + 1) js)) ≡ map cancelled (sleepers s (take i js)) ++ map cancelled (sleepers s (get_or js i d ∷ []))
   next_is js i d s lt = ap (λ l. map cancelled (sleepers s l)) (take_more js i d lt) ∙ (ap (map cancelled) (sleepers_append s (take i js) (get_or js i d ∷ [])) ∙ cancelled_append (sleepers s (take i js)) (sleepers s (get_or js i d ∷ [])))
 
-  -- the next job sleeps, and is cancelled
-  pub cancels_next : (js : Phase C) (i : ℕ) (d : JobPlan C) (s : Moment) (a : List Entry) (x : Entry) → i < length js → HaveOwnNames js → acts a ≡ map cancelled (sleepers s (take i js))
-      → sleeps (replay s a) (get_or js i d).name ≡ true → (x.pass, x.event) ≡ cancelled (get_or js i d) → acts (a ++ x ∷ []) ≡ map cancelled (sleepers s (take (i + 1) js))
-  cancels_next js i d s a x lt own e asleep is =
-      let was = sym (sleeps_still js i d s a lt own e) ∙ asleep in
-      let one : map cancelled (sleepers s (get_or js i d ∷ [])) ≡ cancelled (get_or js i d) ∷ [] = ap (λ b. map cancelled (if b then get_or js i d ∷ [] else [])) was in
-      acts_append a (x ∷ []) ∙ (ap (λ l. l ++ (x.pass, x.event) ∷ []) e ∙ (ap (λ y. map cancelled (sleepers s (take i js)) ++ y ∷ []) is
-      ∙ (ap (λ l. map cancelled (sleepers s (take i js)) ++ l) (sym one) ∙ sym (next_is js i d s lt))))
-
-  -- the next job doesn't sleep, and is let be
-  pub cancels_none : (js : Phase C) (i : ℕ) (d : JobPlan C) (s : Moment) (a : List Entry) → i < length js → HaveOwnNames js → acts a ≡ map cancelled (sleepers s (take i js))
-      → sleeps (replay s a) (get_or js i d).name ≡ false → acts a ≡ map cancelled (sleepers s (take (i + 1) js))
-  cancels_none js i d s a lt own e asleep =
-      let was = sym (sleeps_still js i d s a lt own e) ∙ asleep in
-      let one : map cancelled (sleepers s (get_or js i d ∷ [])) ≡ [] = ap (λ b. map cancelled (if b then get_or js i d ∷ [] else [])) was in
-      e ∙ (sym (append-nil (map cancelled (sleepers s (take i js)))) ∙ (ap (λ l. map cancelled (sleepers s (take i js)) ++ l) (sym one) ∙ sym (next_is js i d s lt)))
+  -- the next job is cancelled where it sleeps now
+  pub cancels_one : (js : Phase C) (i : ℕ) (d : JobPlan C) (s : Moment) (a l : List Entry) → i < length js → HaveOwnNames js → acts a ≡ map cancelled (sleepers s (take i js))
+      → acts l ≡ map cancelled (sleepers (replay s a) (get_or js i d ∷ [])) → acts (a ++ l) ≡ map cancelled (sleepers s (take (i + 1) js))
+  cancels_one js i d s a l lt own e f =
+      let same : map cancelled (sleepers (replay s a) (get_or js i d ∷ [])) ≡ map cancelled (sleepers s (get_or js i d ∷ [])) = ap (λ b. map cancelled (if b then get_or js i d ∷ [] else [])) (sleeps_still js i d s a lt own e) in
+      acts_append a l ∙ (ap (λ z. z ++ acts l) e ∙ (ap (λ z. map cancelled (sleepers s (take i js)) ++ z) (f ∙ same) ∙ sym (next_is js i d s lt)))
 
   -- so far some were cancelled, and the others are still to be
   pub cancels_begun : (js : Phase C) (i : ℕ) (s : Moment) (a : List Entry) → acts a ≡ map cancelled (sleepers s (take i js)) → Cut (λ l. acts l ≡ map cancelled (sleepers s js)) a

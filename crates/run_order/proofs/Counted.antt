@@ -40,8 +40,8 @@ module _ {A : Type 0} (act : A → ℕ × Event) where
   map_append (x ∷ xs) ys = ap (λ l. act x ∷ l) (map_append xs ys)
 
   -- one more is made
-  pub acts_next : (xs : List A) (i : ℕ) (d : A) (a : List Entry) (x : Entry) → i < length xs → acts a ≡ map act (take i xs) → (x.pass, x.event) ≡ act (get_or xs i d) → acts (a ++ x ∷ []) ≡ map act (take (i + 1) xs)
-  acts_next xs i d a x lt p q = acts_append a (x ∷ []) ∙ (ap (λ l. l ++ (x.pass, x.event) ∷ []) p ∙ (ap (λ y. map act (take i xs) ++ y ∷ []) q
+  pub acts_next : (xs : List A) (i : ℕ) (d : A) (a l : List Entry) → i < length xs → acts a ≡ map act (take i xs) → acts l ≡ act (get_or xs i d) ∷ [] → acts (a ++ l) ≡ map act (take (i + 1) xs)
+  acts_next xs i d a l lt p q = acts_append a l ∙ (ap (λ z. z ++ acts l) p ∙ (ap (λ z. map act (take i xs) ++ z) q
       ∙ (sym (map_append (take i xs) (get_or xs i d ∷ [])) ∙ ap (map act) (sym (take_more xs i d lt)))))
 
   -- no other is made

@@ -128,12 +128,12 @@ there_of : (o : Option Pass) (name : List ℕ) → job_in o ≡ Some name → is
 there_of None name h = cc
 there_of (Some pass) name h = refl
 
-is_there : (m : JobManager) (name : List ℕ) → job_of m.passes 1 ≡ Some name → has_pass m.passes 1 ≡ true
+pub is_there : (m : JobManager) (name : List ℕ) → job_of m.passes 1 ≡ Some name → has_pass m.passes 1 ≡ true
 is_there m name h = there_of (get m.passes.there 1) name h
 
 -- what is left where no job comes, or the job is taken
 pub take_gives : (s : Moment) → IsIdle s.manager
-    → ((name : List ℕ) × ((step s 1 Take).1.answer ≡ answers.Job name) × IsBusy name (step s 1 Take).0.manager) ⊎ (((step s 1 Take).1.answer ≡ answers.None) × (live s.manager.jobs ≡ 0))
+    → ((name : List ℕ) × ((step s 1 Take).1.answer ≡ answers.Job name) × IsBusy name (step s 1 Take).0.manager) ⊎ (((step s 1 Take).1.answer ≡ answers.None) × (live s.manager.jobs ≡ 0) × IsIdle (step s 1 Take).0.manager)
 take_gives s i = by (next_job s.manager) refl
   where
     takes : outcome s.manager 1 Take ≡ taken s.manager 1 (next_job s.manager)
@@ -143,8 +143,8 @@ take_gives s i = by (next_job s.manager) refl
     there = ap is_some i.there
 
     by : (n : Option (List ℕ)) → next_job s.manager ≡ n
-        → ((name : List ℕ) × ((step s 1 Take).1.answer ≡ answers.Job name) × IsBusy name (step s 1 Take).0.manager) ⊎ (((step s 1 Take).1.answer ≡ answers.None) × (live s.manager.jobs ≡ 0))
-    by None is = inr (step_answer s 1 Take refl ∙ (ap (λ d. d.1) takes ∙ ap (λ n. (taken s.manager 1 n).1) is), idle_over s.manager i is)
+        → ((name : List ℕ) × ((step s 1 Take).1.answer ≡ answers.Job name) × IsBusy name (step s 1 Take).0.manager) ⊎ (((step s 1 Take).1.answer ≡ answers.None) × (live s.manager.jobs ≡ 0) × IsIdle (step s 1 Take).0.manager)
+    by None is = inr (step_answer s 1 Take refl ∙ (ap (λ d. d.1) takes ∙ ap (λ n. (taken s.manager 1 n).1) is), idle_over s.manager i is, subst IsIdle (sym (step_manager s 1 Take ∙ (ap (λ d. d.0) takes ∙ ap (λ n. (taken s.manager 1 n).0) is))) i)
     by (Some name) is = inl (
       name,
       step_answer s 1 Take refl ∙ (ap (λ d. d.1) takes ∙ ap (λ n. (taken s.manager 1 n).1) is),

@@ -25,10 +25,10 @@ use Rattle.ws_core.specs.Steps.{step}
 use Rattle.ws_core.specs.Histories.{after, fresh, replay, replies}
 use Rattle.ws_core.proofs.Grown.{replay_append}
 use Rattle.run_order.specs.Lists.{entry, own, acts, InTurn}
-use Rattle.run_order.specs.Plans.{Phase, commands_of}
+use Rattle.run_order.specs.Plans.{Phase, commands_of, is_name}
 use Rattle.run_order.specs.Parts.{Making, IsPart, Parts, Middle, OneEvent}
 use Rattle.run_order.specs.Orders.{scheduled, cancelled, is_asleep, sleeps, sleepers, Enters, IsPhase, Phases}
-use Rattle.run_order.specs.Counts.{one_if, is_name, schedules_in, schedules_of, takes_of, still, pending, named}
+use Rattle.run_order.specs.Counts.{one_if, schedules_in, schedules_of, takes_of, still, pending, named}
 use Rattle.run_order.proofs.Lists.{own_yes}
 use Rattle.run_order.proofs.Taken.{put_same, step_pending, taken_at_most}
 use Rattle.run_order.proofs.Managed.{step_manager}

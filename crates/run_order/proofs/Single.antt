@@ -30,7 +30,7 @@ use Rattle.job_manager.specs.Effects.{effect, taken, job_done, next_job, decided
 use Rattle.ws_core.specs.States.{Moment}
 use Rattle.ws_core.specs.Steps.{step}
 use Rattle.ws_core.specs.Histories.{has_entered}
-use Rattle.run_order.specs.Counts.{is_name}
+use Rattle.run_order.specs.Plans.{is_name}
 use Rattle.run_order.specs.Alone.{AllOfOne, IsSingle, IsPlain}
 use Rattle.run_order.proofs.Managed.{step_manager}
 use Rattle.run_order.proofs.Taken.{put_other, put_same}

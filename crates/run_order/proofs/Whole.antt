@@ -7,6 +7,7 @@ use Rattle.run_order.specs.Lists.{Cut, Grew}
 use Rattle.run_order.specs.Plans.{Phase}
 use Rattle.run_order.specs.Parts.{Making}
 use Rattle.run_order.specs.Orders.{IsPhase, IsCutPhase, Phases, Enters, Leaves, IsRun, IsCutRun, Shuffle, CutShuffle}
+use Rattle.run_order.proofs.Lists.{cut_whole}
 
 module _ {C : Type 0} (Made : Making C) where
   -- one more phase
@@ -89,6 +90,15 @@ module _ {C : Type 0} (Made : Making C) where
     stop = inl refl;
     leave = leave;
   }
+
+  -- a run that came to its end is one that was stopped after it
+  cut_of_run : (s : Moment) (phases : List (Phase C)) (n : ℕ) (h : List Entry) → IsRun Made s phases n h → IsCutRun Made s phases n h
+  cut_of_run s phases n h r = subst (IsCutRun Made s phases n) (sym r.are) (subst (λ ps. IsCutRun Made s ps n (r.front ++ r.leaves)) (append-nil phases)
+      (cut_between s phases [] n r.enters r.front r.leaves r.enter r.run (cut_whole (Leaves n) r.leaves r.leave)))
+
+  pub cut_of_shuffle : (s : Moment) (phases : List (Phase C)) (n : ℕ) (h : List Entry) → Shuffle Made s phases n h → CutShuffle Made s phases n h
+  cut_of_shuffle s [] n h run = run
+  cut_of_shuffle s (p ∷ ps) n h run = cut_of_run s (p ∷ ps) n h run
 
   pub cut_shuffle_of : (s : Moment) (phases : List (Phase C)) (n : ℕ) (h : List Entry) → 0 < length phases → IsCutRun Made s phases n h → CutShuffle Made s phases n h
   cut_shuffle_of s [] n h some run = absurd (omega (arith, some))

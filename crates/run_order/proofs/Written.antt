@@ -1,5 +1,5 @@
 -- What one event adds to the history, as the core writes it.
-use Rattle.std.proofs.Common.{◌≡◌, ◌==◌, ◌&&◌, ℕ, Bool, true, false, List, [], ◌∷◌, ◌++◌, refl, ap, sym, ◌∙◌, if◌then◌else◌}
+use Rattle.std.proofs.Common.{◌≡◌, ℕ, Bool, true, false, List, [], ◌∷◌, ◌++◌, refl, ap, ◌∙◌, if◌then◌else◌}
 use Rattle.std.specs.Prelude.{Option, Some, None, is_none}
 use Rattle.job_queue.specs.declared.state.JobState.TheVariants as states
 use Rattle.job_queue.specs.Queues as queue
@@ -14,7 +14,6 @@ use Rattle.core_event.specs.declared.reply.Refusal.{Refusal}
 use Rattle.core_event.specs.declared.reply.Refusal.TheVariants as refusals
 use Rattle.core_event.specs.Events.{operation_of}
 use Rattle.core_event.specs.Replies.{is_attempt, is_conflict}
-use Rattle.job_manager.specs.declared.manager.JobManager.{JobManager}
 use Rattle.job_manager.specs.Refusals.{refusal}
 use Rattle.job_manager.specs.Effects.{effect, decided}
 use Rattle.ws_core.specs.States.{Moment}

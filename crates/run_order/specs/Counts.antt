@@ -1,7 +1,7 @@
 -- How often a job was scheduled, and how often it was taken.
-use Rattle.std.specs.Prelude.{ℕ, ◌+◌, Bool, if◌then◌else◌, List, [], ◌∷◌, Option, Some, None}
-use Rattle.std.specs.Ordering.{eq_by_cmp}
-use Rattle.job_queue.specs.Queues.{name_cmp, state_of}
+use Rattle.std.specs.Prelude.{ℕ, ◌+◌, Bool, if◌then◌else◌, List, [], ◌∷◌, Option, Some, None, filter, length}
+use Rattle.std.specs.FinMap.{entries}
+use Rattle.job_queue.specs.Queues.{state_of}
 use Rattle.job_queue.specs.States.{may_be_cancelled}
 use Rattle.job_queue.specs.declared.state.JobState.{JobState}
 use Rattle.core_event.specs.declared.entry.Entry.{Entry}
@@ -10,27 +10,31 @@ use Rattle.core_event.specs.declared.event.Event.TheVariants.{Schedule}
 use Rattle.core_event.specs.declared.reply.Answer.{Answer}
 use Rattle.core_event.specs.declared.reply.Answer.TheVariants.{Job}
 use Rattle.ws_core.specs.States.{Moment}
-use Rattle.run_order.specs.Plans.{Phase}
+use Rattle.run_order.specs.Plans.{Phase, is_name}
 
 abbrev pub one_if : Bool → ℕ
 one_if is = if is then 1 else 0
 
--- two names are one
-abbrev pub is_name : List ℕ → List ℕ → Bool
-is_name a b = eq_by_cmp name_cmp a b
+-- what an event counts by the job that it schedules
+abbrev pub scheduling : (List ℕ → ℕ) → Event → ℕ
+scheduling count (Schedule other priority rule asleep) = count other
+scheduling count event = 0
 
 abbrev pub schedules_in : List ℕ → Event → ℕ
-schedules_in name (Schedule other priority rule asleep) = one_if (is_name name other)
-schedules_in name event = 0
+schedules_in name event = scheduling (λ other. one_if (is_name name other)) event
 
 -- how many entries schedule the job of this name
 abbrev pub schedules_of : List ℕ → List Entry → ℕ
 schedules_of name [] = 0
 schedules_of name (x ∷ h) = schedules_in name x.event + schedules_of name h
 
+-- what an answer counts by the job that it gives
+abbrev pub giving : (List ℕ → ℕ) → Answer → ℕ
+giving count (Job other) = count other
+giving count answer = 0
+
 abbrev pub taken_in : List ℕ → Answer → ℕ
-taken_in name (Job other) = one_if (is_name name other)
-taken_in name answer = 0
+taken_in name answer = giving (λ other. one_if (is_name name other)) answer
 
 -- how many entries give the job of this name to a pass
 abbrev pub takes_of : List ℕ → List Entry → ℕ
@@ -44,6 +48,10 @@ still (Some state) = one_if (may_be_cancelled state)
 -- 1 where the job of this name waits or sleeps, and so may still be taken
 abbrev pub pending : List ℕ → Moment → ℕ
 pending name s = still (state_of s.manager.jobs name)
+
+-- how many jobs wait or sleep
+abbrev pub left : Moment → ℕ
+left s = length (filter (λ e. may_be_cancelled e.1.state) (entries s.manager.jobs.jobs))
 
 -- how many jobs of the phase have this name
 abbrev pub named : {C : Type 0} → List ℕ → Phase C → ℕ

@@ -1,6 +1,8 @@
 -- What a run is to make: phases, each of jobs, each of commands.
-use Rattle.std.specs.Prelude.{◌≢◌, ℕ, Bool, List, [], ◌∷◌, if◌then◌else◌, bytes_eq}
+use Rattle.std.specs.Prelude.{◌≢◌, ℕ, Bool, List, [], ◌∷◌, if◌then◌else◌}
 use Rattle.std.specs.List.{AllByRecursion}
+use Rattle.std.specs.Ordering.{eq_by_cmp}
+use Rattle.job_queue.specs.Queues.{name_cmp}
 use Rattle.sched_rules.specs.declared.ws_atom.WsAtom.{WsAtom}
 
 -- a job with its commands, which may be of any kind
@@ -21,7 +23,11 @@ abbrev pub HaveOwnNames : {C : Type 0} → Phase C → Type 0
 HaveOwnNames [] = Unit {0}
 HaveOwnNames (job ∷ jobs) = AllByRecursion (λ (other : JobPlan _). job.name ≢ other.name) jobs × HaveOwnNames jobs
 
+-- two names are one
+abbrev pub is_name : List ℕ → List ℕ → Bool
+is_name a b = eq_by_cmp name_cmp a b
+
 -- the commands of the first job of this name
 abbrev pub commands_of : {C : Type 0} → Phase C → List ℕ → List C
 commands_of [] name = []
-commands_of (job ∷ jobs) name = if bytes_eq job.name name then job.commands else commands_of jobs name
+commands_of (job ∷ jobs) name = if is_name name job.name then job.commands else commands_of jobs name

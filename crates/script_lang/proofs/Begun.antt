@@ -1,36 +1,42 @@
 -- Lines by the verbs that they begin with.
-use Rattle.std.proofs.Common.{◌≡◌, ◌≢◌, ℕ, ◌-◌, ◌<◌, ◌≤◌, Option, Some, None, List, [], ◌∷◌, map, length, take, drop, get_or, refl, sym, ◌∙◌, ap, subst, arith}
-use Rattle.std.specs.Prelude.{MatchOption}
+use Rattle.std.proofs.Common.{◌≡◌, ◌≢◌, ℕ, ◌-◌, ◌<◌, ◌≤◌, Bool, true, false, Option, Some, None, List, [], ◌∷◌, ◌++◌, map, length, take, drop, get_or, refl, sym, ◌∙◌, ap, subst, arith}
+use Rattle.std.specs.Prelude.{MatchOption, codes, if◌then◌else◌}
+use Rattle.std.specs.Str.{bytes_eq}
 use Rattle.std.proofs.Math.Seq.{take-length}
 use Rattle.sched_rules.specs.declared.ws_atom.WsAtom.{WsAtom}
+use Rattle.sched_rules.specs.declared.ws_atom.WsAtom.TheVariants.{Path, Mutex, Lines}
 use Rattle.script_lang.specs.declared.script.Command.TheVariants as command
 use Rattle.script_lang.specs.declared.script.Priority.{Priority}
 use Rattle.script_lang.specs.declared.line.Line.{Line}
 use Rattle.script_lang.specs.declared.line.Line.TheVariants.{BeginPhase, BeginJob, InJob, EndJob, EndPhase}
 use Rattle.script_ops.specs.declared.verb.Verb.{Verb}
-use Rattle.script_ops.specs.declared.verb.Verb.TheVariants.{Phase, EndPhase as EndPhaseVerb, Job, EndJob as EndJobVerb, Batch, EndBatch, Checkpoint, Begin, TryBegin, End}
+use Rattle.script_ops.specs.declared.verb.Verb.TheVariants.{Phase, EndPhase as EndPhaseVerb, Job, EndJob as EndJobVerb, Batch, EndBatch, Checkpoint, Begin, TryBegin, End, Sleep, Wake, Cancel}
 use Rattle.script_words.specs.declared.words.Token.{Token}
 use Rattle.script_words.specs.Words.{Word}
 use Rattle.script_parts.specs.Parts.{Part, keyword, a_name, FitsPart, FitsParts, rule_parts}
-use Rattle.script_lang.specs.Commands.{FitsLine, priority_word, line_parts, line_read}
-use Rattle.script_lang.specs.Inside.Reading.{IsLineOf}
-use Rattle.script_parts.specs.Inside.Found.{IsRuleFound}
+use Rattle.script_lang.specs.Commands.{FitsLine, asleep_parts, priority_word, line_parts, line_read}
+use Rattle.script_lang.specs.Inside.Reading.{IsLineOf, IsStartFound, IsSleepFound}
+use Rattle.script_parts.specs.Inside.Found.{IsRuleFound, FitsFront}
 use Rattle.script_ops.specs.Inside.Verbs.{verb_word, begun_with}
 use Rattle.script_parts.proofs.Fitting.{fit_size}
-use Rattle.script_lang.proofs.Coded.{line_at, known}
+use Rattle.script_parts.proofs.Values.{nth, atoms_at}
+use Rattle.script_lang.proofs.Coded.{line_at, priority_at, known}
 use Rattle.script_ops.proofs.Begun.{HasVerb, with_verb, op_verb}
 
 -- ---- each line begins with a verb
 
 line_verb : (line : Line) → HasVerb (line_parts line)
 line_verb BeginPhase = with_verb Phase []
-line_verb (BeginJob name priority rule) = with_verb Job (drop 1 (line_parts (BeginJob name priority rule)))
+line_verb (BeginJob name priority asleep rule) = with_verb Job (drop 1 (line_parts (BeginJob name priority asleep rule)))
 line_verb (InJob command.Batch) = with_verb Batch []
 line_verb (InJob command.EndBatch) = with_verb EndBatch []
 line_verb (InJob command.Checkpoint) = with_verb Checkpoint []
 line_verb (InJob (command.Begin rule)) = with_verb Begin (rule_parts rule)
 line_verb (InJob (command.TryBegin rule)) = with_verb TryBegin (rule_parts rule)
 line_verb (InJob (command.End rule)) = with_verb End (rule_parts rule)
+line_verb (InJob (command.Sleep name)) = with_verb Sleep (a_name name ∷ [])
+line_verb (InJob (command.Wake name)) = with_verb Wake (a_name name ∷ [])
+line_verb (InJob (command.Cancel name)) = with_verb Cancel (a_name name ∷ [])
 line_verb (InJob (command.Operation x)) = op_verb x
 line_verb EndJob = with_verb EndJobVerb []
 line_verb EndPhase = with_verb EndPhaseVerb []
@@ -77,32 +83,90 @@ tries_rule rest rule r = record { written = InJob (command.TryBegin r.0); read =
 pub ends_rule : (rest : List Token) (rule : List WsAtom) → IsRuleFound rest (Some rule) → FitsLine (begun_with End rest) (InJob (command.End rule))
 ends_rule rest rule r = record { written = InJob (command.End r.0); read = ap (λ (rule : List WsAtom). InJob (command.End rule)) r.1; fits = ((refl, refl), r.2) }
 
+-- ---- lines with a name
+
+-- the line of a verb that has one line alone, which goes on with a name
+pub named_found : (verb : Verb) (make : List ℕ → Line) (rest : List Token) (name : List ℕ) → FitsParts rest (a_name name ∷ [])
+    → line_parts (make name) ≡ keyword (verb_word verb) ∷ a_name name ∷ [] → line_read (make name) ≡ make name → FitsLine (begun_with verb rest) (make name)
+named_found verb make rest name h parts read =
+    record { written = make name; read = read; fits = subst (FitsParts (begun_with verb rest)) (sym parts) ((refl, refl), h) }
+
 -- ---- a job's line
+
+all_behind : (t u : Token) (rest : List Token) → take (length (t ∷ u ∷ rest) - 2) rest ≡ rest
+all_behind t u rest =
+    let size : length (t ∷ u ∷ rest) - 2 ≡ length rest = omega arith in
+    ap (λ (n : ℕ). take n rest) size ∙ take-length rest
+
+-- what its words stand for
+pub record IsJobLine (rest : List Token) : Type 0 where
+  pub name : List ℕ
+  pub priority : Priority
+  pub asleep : Bool
+  pub atoms : List WsAtom
+  pub fits : FitsParts rest (a_name name ∷ keyword (priority_word priority) ∷ (asleep_parts asleep ++ rule_parts atoms))
+
+pub job_line_of : (rest : List Token) (line : Line) → FitsLine (begun_with Job rest) line → IsJobLine rest
+job_line_of rest line h = either (bytes_eq (nth 0 start) (codes "asleep")) (known (begun_with Job rest) h.written h.fits)
+  where
+    start : List Word
+    start = drop 2 (map (λ (t : Token). t.word) rest)
+
+    name : List ℕ
+    name = nth 0 (map (λ (t : Token). t.word) rest)
+
+    priority : Priority
+    priority = priority_at (nth 1 (map (λ (t : Token). t.word) rest))
+
+    made : (asleep : Bool) (atoms : List WsAtom) → h.written ≡ BeginJob name priority asleep atoms → IsJobLine rest
+    made asleep atoms e =
+        let fits : FitsParts (begun_with Job rest) (line_parts (BeginJob name priority asleep atoms)) = subst (λ (line : Line). FitsParts (begun_with Job rest) (line_parts line)) e h.fits in
+        record { name = name; priority = priority; asleep = asleep; atoms = atoms; fits = fits.1 }
+
+    either : (b : Bool) → h.written ≡ (if b then BeginJob name priority true (atoms_at (drop 1 start)) else BeginJob name priority false (atoms_at start)) → IsJobLine rest
+    either true e = made true (atoms_at (drop 1 start)) e
+    either false e = made false (atoms_at start) e
 
 -- it has a name and a priority
 pub job_long : (rest : List Token) (line : Line) → FitsLine (begun_with Job rest) line → length rest < 2 → ⊥
 job_long rest line h l =
-    let same = known (begun_with Job rest) h.written h.fits in
-    let size = fit_size (begun_with Job rest) (line_parts (line_at (map (λ (t : Token). t.word) (begun_with Job rest))))
-    (subst (λ (x : Line). FitsParts (begun_with Job rest) (line_parts x)) same h.fits) in
+    let job = job_line_of rest line h in
+    let size = fit_size rest (a_name job.name ∷ keyword (priority_word job.priority) ∷ (asleep_parts job.asleep ++ rule_parts job.atoms)) job.fits in
     omega (arith, l, size)
 
-pub job_found : (rest : List Token) (name number : Token) (text : List ℕ) (priority : Priority) (rule : List WsAtom) → name ≡ get_or rest 0 name → number ≡ get_or rest 1 number → 2 ≤ length rest
-    → FitsPart name (a_name text) → FitsPart number (keyword (priority_word priority)) → IsRuleFound (take (length rest - 2) (drop 2 rest)) (Some rule)
-    → FitsLine (begun_with Job rest) (BeginJob text priority rule)
-job_found [] name number text priority rule e f l h k r = absurd (omega (arith, l))
-job_found (t ∷ []) name number text priority rule e f l h k r = absurd (omega (arith, l))
-job_found (t ∷ u ∷ rest) name number text priority rule e f l h k r =
-    let size : length (t ∷ u ∷ rest) - 2 ≡ length rest = omega arith in
-    let whole : take (length (t ∷ u ∷ rest) - 2) rest ≡ rest = ap (λ (n : ℕ). take n rest) size ∙ take-length rest in
-    record {
-      written = BeginJob text priority r.0;
-      read = ap (BeginJob text priority) r.1;
-      fits = (
-        (refl, refl),
-        (
-          subst (λ (token : Token). FitsPart token (a_name text)) e h,
-          (subst (λ (token : Token). FitsPart token (keyword (priority_word priority))) f k, subst (λ (tokens : List Token). FitsParts tokens (rule_parts r.0)) whole r.2),
-        ),
-      );
-    }
+pub job_found : (rest : List Token) (name number : Token) (text : List ℕ) (priority : Priority) (asleep : Bool) (rule : List WsAtom)
+    → name ≡ get_or rest 0 name → number ≡ get_or rest 1 number → 2 ≤ length rest
+    → FitsPart name (a_name text) → FitsPart number (keyword (priority_word priority)) → IsStartFound (take (length rest - 2) (drop 2 rest)) (Some (asleep, rule))
+    → FitsLine (begun_with Job rest) (BeginJob text priority asleep rule)
+job_found [] name number text priority asleep rule e f l h k r = absurd (omega (arith, l))
+job_found (t ∷ []) name number text priority asleep rule e f l h k r = absurd (omega (arith, l))
+job_found (t ∷ u ∷ rest) name number text priority asleep rule e f l h k r = record {
+  written = BeginJob text priority asleep r.0;
+  read = ap (BeginJob text priority asleep) r.1;
+  fits = (
+    (refl, refl),
+    (
+      subst (λ (token : Token). FitsPart token (a_name text)) e h,
+      (
+        subst (λ (token : Token). FitsPart token (keyword (priority_word priority))) f k,
+        subst (λ (tokens : List Token). FitsParts tokens (asleep_parts asleep ++ rule_parts r.0)) (all_behind t u rest) r.2,
+      ),
+    ),
+  );
+}
+
+-- ---- the start of a job
+
+pub no_start : (tokens rest : List Token) (found : Bool) → IsSleepFound tokens found rest → IsRuleFound rest None → IsStartFound tokens None
+no_start tokens rest false s r true atoms h = wakes tokens h s.1
+  where
+    wakes : (tokens : List Token) → FitsParts tokens (keyword (codes "asleep") ∷ rule_parts atoms) → ((more : List Token) → FitsFront tokens (keyword (codes "asleep") ∷ []) more → ⊥) → ⊥
+    wakes [] h n = absurd h
+    wakes (token ∷ tokens) h n = n tokens (h.0, refl)
+no_start tokens rest false s r false atoms h = r atoms (subst (λ (tokens : List Token). FitsParts tokens (rule_parts atoms)) s.0 h)
+no_start [] rest true s r asleep atoms h = absurd s
+no_start (token ∷ tokens) rest true s r true atoms h = r atoms (subst (λ (tokens : List Token). FitsParts tokens (rule_parts atoms)) s.1 h.1)
+no_start (token ∷ tokens) rest true s r false [] h = let both : codes "asleep" ≡ codes "null" = sym s.0.1 ∙ h.0.1 in cc
+no_start (token ∷ tokens) rest true s r false (Path p ∷ atoms) h = let both : codes "asleep" ≡ codes "path" = sym s.0.1 ∙ h.0.1 in cc
+no_start (token ∷ tokens) rest true s r false (Mutex m ∷ atoms) h = let both : codes "asleep" ≡ codes "mutex" = sym s.0.1 ∙ h.0.1 in cc
+no_start (token ∷ tokens) rest true s r false (Lines f a b ∷ atoms) h = let both : codes "asleep" ≡ codes "lines" = sym s.0.1 ∙ h.0.1 in cc

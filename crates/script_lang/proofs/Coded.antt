@@ -1,11 +1,13 @@
 -- The line that some words are.
-use Rattle.std.proofs.Common.{◌≡◌, Some, None, List, [], ◌∷◌, map, drop, refl, sym, ◌∙◌, ap}
-use Rattle.std.specs.Prelude.{codes}
+use Rattle.std.proofs.Common.{◌≡◌, true, false, Some, None, List, [], ◌∷◌, map, drop, refl, sym, ◌∙◌, ap}
+use Rattle.std.specs.Prelude.{codes, if◌then◌else◌}
+use Rattle.std.specs.Str.{bytes_eq}
 use Rattle.sched_rules.specs.declared.ws_atom.WsAtom.{WsAtom}
+use Rattle.sched_rules.specs.declared.ws_atom.WsAtom.TheVariants.{Path, Mutex, Lines}
 use Rattle.op_kind.specs.declared.op.Op.{Op}
 use Rattle.op_kind.specs.declared.op.Op.TheVariants.{Sync, Read}
 use Rattle.op_kind.specs.declared.op.Want.TheVariants.{Show, Cat, Tree, Digest}
-use Rattle.script_lang.specs.declared.script.Command.TheVariants.{Operation, Batch, EndBatch, Checkpoint, Begin, TryBegin, End}
+use Rattle.script_lang.specs.declared.script.Command.TheVariants.{Operation, Batch, EndBatch, Checkpoint, Begin, TryBegin, End, Sleep, Wake, Cancel}
 use Rattle.script_lang.specs.declared.script.Priority.{Priority}
 use Rattle.script_lang.specs.declared.script.Priority.TheVariants.{Interactive, Short, Long, Build, Decorate}
 use Rattle.script_lang.specs.declared.line.Line.{Line}
@@ -18,7 +20,7 @@ use Rattle.script_parts.proofs.Values.{chosen, nth, atoms_at, words_of, AreNamed
 use Rattle.script_ops.proofs.Coded.{op_at, op_back}
 use Rattle.script_ops.specs.Operations.{operation_parts}
 
-abbrev priority_at : Word → Priority
+abbrev pub priority_at : Word → Priority
 priority_at word = chosen word ((codes "10", Interactive) ∷ (codes "20", Short) ∷ (codes "30", Long) ∷ (codes "40", Build) ∷ []) Decorate
 
 priority_back : (p : Priority) → priority_at (priority_word p) ≡ p
@@ -28,12 +30,17 @@ priority_back Long = refl
 priority_back Build = refl
 priority_back Decorate = refl
 
+-- the line of a job that the words behind its priority are the start of
+abbrev pub job_at : Word → Word → List Word → Line
+job_at name priority start =
+    if bytes_eq (nth 0 start) (codes "asleep") then BeginJob name (priority_at priority) true (atoms_at (drop 1 start)) else BeginJob name (priority_at priority) false (atoms_at start)
+
 -- the line that the words are, where they are one
 abbrev pub line_at : List Word → Line
 line_at words = chosen (nth 0 words) (
     (codes "phase", BeginPhase)
     ∷ (codes "endphase", EndPhase)
-    ∷ (codes "job", BeginJob (nth 1 words) (priority_at (nth 2 words)) (atoms_at (drop 3 words)))
+    ∷ (codes "job", job_at (nth 1 words) (nth 2 words) (drop 3 words))
     ∷ (codes "endjob", EndJob)
     ∷ (codes "batch", InJob Batch)
     ∷ (codes "endbatch", InJob EndBatch)
@@ -41,6 +48,9 @@ line_at words = chosen (nth 0 words) (
     ∷ (codes "begin", InJob (Begin (atoms_at (drop 1 words))))
     ∷ (codes "trybegin", InJob (TryBegin (atoms_at (drop 1 words))))
     ∷ (codes "end", InJob (End (atoms_at (drop 1 words))))
+    ∷ (codes "sleep", InJob (Sleep (nth 1 words)))
+    ∷ (codes "wake", InJob (Wake (nth 1 words)))
+    ∷ (codes "cancel", InJob (Cancel (nth 1 words)))
     ∷ []) (InJob (Operation (op_at words)))
 
 -- an operation's words are no other line
@@ -57,13 +67,20 @@ line_back : (line : Line) → AreNamed (line_parts line) → line_at (words_of (
 line_back BeginPhase h = refl
 line_back EndPhase h = refl
 line_back EndJob h = refl
-line_back (BeginJob name priority rule) h = λ i. BeginJob name (priority_back priority i) (rule_back rule h.1.1.1 i)
+line_back (BeginJob name priority true rule) h = λ i. BeginJob name (priority_back priority i) true (rule_back rule h.1.1.1.1 i)
+line_back (BeginJob name priority false []) h = λ i. BeginJob name (priority_back priority i) false []
+line_back (BeginJob name priority false (Path p ∷ atoms)) h = λ i. BeginJob name (priority_back priority i) false (rule_back (Path p ∷ atoms) h.1.1.1 i)
+line_back (BeginJob name priority false (Mutex m ∷ atoms)) h = λ i. BeginJob name (priority_back priority i) false (rule_back (Mutex m ∷ atoms) h.1.1.1 i)
+line_back (BeginJob name priority false (Lines f a b ∷ atoms)) h = λ i. BeginJob name (priority_back priority i) false (rule_back (Lines f a b ∷ atoms) h.1.1.1 i)
 line_back (InJob Batch) h = refl
 line_back (InJob EndBatch) h = refl
 line_back (InJob Checkpoint) h = refl
 line_back (InJob (Begin rule)) h = ap (λ (rule : List WsAtom). InJob (Begin rule)) (rule_back rule h.1)
 line_back (InJob (TryBegin rule)) h = ap (λ (rule : List WsAtom). InJob (TryBegin rule)) (rule_back rule h.1)
 line_back (InJob (End rule)) h = ap (λ (rule : List WsAtom). InJob (End rule)) (rule_back rule h.1)
+line_back (InJob (Sleep name)) h = refl
+line_back (InJob (Wake name)) h = refl
+line_back (InJob (Cancel name)) h = refl
 line_back (InJob (Operation x)) h = op_line x ∙ ap (λ (x : Op). InJob (Operation x)) (op_back x h)
 
 -- the line that was written is known from the tokens' words

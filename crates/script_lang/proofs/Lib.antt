@@ -1,6 +1,7 @@
 mod Worked
 pub mod Coded
 pub mod Begun
+pub mod Named
 pub mod Runs
 pub mod Spelling
 pub mod Whole

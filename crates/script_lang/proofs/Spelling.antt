@@ -3,7 +3,7 @@ use Rattle.std.proofs.Common.{◌≡◌, ◌⊎◌, inl, inr, ℕ, ◌+◌, Bool
 use Rattle.std.specs.Prelude.{◌≢◌, Some, None, codes}
 use Rattle.op_kind.specs.declared.op.Op.TheVariants.{Delete, Sync, Read}
 use Rattle.op_kind.specs.declared.op.Want.TheVariants.{Show, Cat, Tree, Digest}
-use Rattle.script_lang.specs.declared.script.Command.TheVariants.{Operation, Batch, EndBatch, Checkpoint, Begin, TryBegin, End}
+use Rattle.script_lang.specs.declared.script.Command.TheVariants.{Operation, Batch, EndBatch, Checkpoint, Begin, TryBegin, End, Sleep, Wake, Cancel}
 use Rattle.script_lang.specs.declared.line.Line.{Line}
 use Rattle.script_lang.specs.declared.line.Line.TheVariants.{BeginPhase, BeginJob, InJob, EndJob, EndPhase}
 use Rattle.script_words.specs.declared.words.Token.{Token}
@@ -76,7 +76,7 @@ line_tokens line = map printed (map part_word (line_parts line))
 
 some_parts : (line : Line) → map part_word (line_parts line) ≢ []
 some_parts BeginPhase = λ e. cc
-some_parts (BeginJob name priority rule) = λ e. cc
+some_parts (BeginJob name priority asleep rule) = λ e. cc
 some_parts EndJob = λ e. cc
 some_parts EndPhase = λ e. cc
 some_parts (InJob Batch) = λ e. cc
@@ -85,6 +85,9 @@ some_parts (InJob Checkpoint) = λ e. cc
 some_parts (InJob (Begin rule)) = λ e. cc
 some_parts (InJob (TryBegin rule)) = λ e. cc
 some_parts (InJob (End rule)) = λ e. cc
+some_parts (InJob (Sleep name)) = λ e. cc
+some_parts (InJob (Wake name)) = λ e. cc
+some_parts (InJob (Cancel name)) = λ e. cc
 some_parts (InJob (Operation (Delete p))) = λ e. cc
 some_parts (InJob (Operation (Sync p name None))) = λ e. cc
 some_parts (InJob (Operation (Sync p name (Some bytes)))) = λ e. cc
@@ -95,7 +98,7 @@ printed_kept verb parts h g = line_kept verb (map part_word parts) h g
 
 text_kept : (line : Line) → is_skipped (line_text line) ≡ false
 text_kept BeginPhase = refl
-text_kept (BeginJob name priority rule) = refl
+text_kept (BeginJob name priority asleep rule) = refl
 text_kept EndJob = refl
 text_kept EndPhase = refl
 text_kept (InJob Batch) = refl
@@ -104,6 +107,9 @@ text_kept (InJob Checkpoint) = refl
 text_kept (InJob (Begin rule)) = printed_kept (codes "begin") (rule_parts rule) refl refl
 text_kept (InJob (TryBegin rule)) = printed_kept (codes "trybegin") (rule_parts rule) refl refl
 text_kept (InJob (End rule)) = printed_kept (codes "end") (rule_parts rule) refl refl
+text_kept (InJob (Sleep name)) = refl
+text_kept (InJob (Wake name)) = refl
+text_kept (InJob (Cancel name)) = refl
 text_kept (InJob (Operation (Sync p name None))) = refl
 text_kept (InJob (Operation (Sync p name (Some bytes)))) = refl
 text_kept (InJob (Operation (Read p Show))) = refl

@@ -11,7 +11,7 @@ use Rattle.script_lang.specs.declared.line.Line.{Line}
 use Rattle.script_lang.specs.declared.line.Line.TheVariants.{BeginPhase, BeginJob, InJob, EndJob, EndPhase}
 use Rattle.script_words.specs.Lines.{lines_of, SpellsLines}
 use Rattle.script_lang.specs.Commands.{line_parts}
-use Rattle.script_lang.specs.Scripts.{HasOneJob, job_lines, phase_lines, script_lines, script_text, line_text, IsScript, ended}
+use Rattle.script_lang.specs.Scripts.{HasOwnNames, job_lines, phase_lines, script_lines, script_text, line_text, IsScript, ended}
 use Rattle.script_parts.specs.Parts.{part_word}
 use Rattle.script_lang.specs.Inside.Printed.{IsLine, AreLines}
 use Rattle.script_words.proofs.Printed.{has_no_line_feed, line_no_feed, lines_back}
@@ -43,16 +43,16 @@ lines_commands (command ∷ commands) h = (h.0, lines_commands commands h.1)
 
 -- a job's text is that of its first line, of its commands and of its last line
 pub job_text : (job : Job) → ended (job_lines job)
-    ≡ ((line_text (BeginJob job.name job.priority job.rule) ++ 10 ∷ []) ++ flat_map (λ (command : Command). line_text (InJob command) ++ 10 ∷ []) job.commands) ++ ended (EndJob ∷ [])
+    ≡ ((line_text (BeginJob job.name job.priority job.asleep job.rule) ++ 10 ∷ []) ++ flat_map (λ (command : Command). line_text (InJob command) ++ 10 ∷ []) job.commands) ++ ended (EndJob ∷ [])
 job_text job =
-    ended-append (BeginJob job.name job.priority job.rule ∷ map InJob job.commands) (EndJob ∷ [])
-    ∙ ap (λ (rest : List ℕ). ((line_text (BeginJob job.name job.priority job.rule) ++ 10 ∷ []) ++ rest) ++ ended (EndJob ∷ [])) (ended_commands job.commands)
+    ended-append (BeginJob job.name job.priority job.asleep job.rule ∷ map InJob job.commands) (EndJob ∷ [])
+    ∙ ap (λ (rest : List ℕ). ((line_text (BeginJob job.name job.priority job.asleep job.rule) ++ 10 ∷ []) ++ rest) ++ ended (EndJob ∷ [])) (ended_commands job.commands)
 
-pub job_built : (old begun within new : List ℕ) (job : Job) (commands : List Command) → begun ≡ old ++ (line_text (BeginJob job.name job.priority job.rule) ++ 10 ∷ [])
+pub job_built : (old begun within new : List ℕ) (job : Job) (commands : List Command) → begun ≡ old ++ (line_text (BeginJob job.name job.priority job.asleep job.rule) ++ 10 ∷ [])
     → within ≡ begun ++ flat_map (λ (command : Command). line_text (InJob command) ++ 10 ∷ []) commands → commands ≡ job.commands → new ≡ within ++ ended (EndJob ∷ [])
     → new ≡ old ++ ended (job_lines job)
 job_built old begun within new job commands h g e f =
-    let head = line_text (BeginJob job.name job.priority job.rule) ++ 10 ∷ [] in
+    let head = line_text (BeginJob job.name job.priority job.asleep job.rule) ++ 10 ∷ [] in
     let each = λ (command : Command). line_text (InJob command) ++ 10 ∷ [] in
     let body = flat_map each job.commands in
     f ∙ ap (λ (front : List ℕ). front ++ ended (EndJob ∷ [])) (g ∙ (λ i. h i ++ flat_map each (e i)))
@@ -60,7 +60,7 @@ job_built old begun within new job commands h g e f =
     ∙ append_assoc old (head ++ body) (ended (EndJob ∷ []))
     ∙ ap (λ (rest : List ℕ). old ++ rest) (sym (job_text job))
 
-pub job_parts : (job : Job) → IsLine (BeginJob job.name job.priority job.rule) → AllByRecursion (λ (command : Command). IsLine (InJob command)) job.commands → AreLines (job_lines job)
+pub job_parts : (job : Job) → IsLine (BeginJob job.name job.priority job.asleep job.rule) → AllByRecursion (λ (command : Command). IsLine (InJob command)) job.commands → AreLines (job_lines job)
 job_parts job h g = (h, lines_append (map InJob job.commands) (EndJob ∷ []) (lines_commands job.commands g) (((refl, tt), refl), tt))
 
 pub phase_text : (phase : Phase) → ended (phase_lines phase) ≡ (ended (BeginPhase ∷ []) ++ flat_map (λ (job : Job). ended (job_lines job)) phase.jobs) ++ ended (EndPhase ∷ [])
@@ -97,12 +97,12 @@ no_feeds (line ∷ lines) = (line_no_feed (map part_word (line_parts line)), no_
 lines_again : (lines : List Line) → lines_of (ended lines) ≡ map line_text lines
 lines_again lines = ap lines_of (texts_of lines) ∙ lines_back (map line_text lines) (no_feeds lines)
 
-pub reads_back : (bytes : List ℕ) (script : Script) → bytes ≡ script_text script → AllByRecursion HasOneJob script.phases
+pub reads_back : (bytes : List ℕ) (script : Script) → bytes ≡ script_text script → AllByRecursion HasOwnNames script.phases
     → AllByRecursion (λ (phase : Phase). AreLines (phase_lines phase)) script.phases → IsScript bytes script
 reads_back bytes script e h g =
     let lines = script_lines script in
     let parts = lines_each phase_lines script.phases g in record {
-      jobs = h;
+      names = h;
       tokens = map line_tokens lines;
       spelled = subst (λ (texts : List (List ℕ)). SpellsLines texts (map line_tokens lines)) (sym (ap lines_of e ∙ lines_again lines)) (spells_printed lines parts);
       fitting = says_printed lines parts;

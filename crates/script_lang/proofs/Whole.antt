@@ -1,27 +1,26 @@
 -- What the reading of a text shows of its scripts and of its first bad line.
-use Rattle.std.proofs.Common.{◌≡◌, ◌⊎◌, inl, inr, ℕ, ◌+◌, ◌-◌, Bool, true, false, List, [], ◌∷◌, ◌++◌, map, length, take, Some, None, Result, Err, refl, sym, ◌∙◌, ap, subst, append_assoc, append-nil, arith, lit<}
+use Rattle.std.proofs.Common.{◌≡◌, ◌⊎◌, inl, inr, ℕ, ◌+◌, ◌-◌, Bool, true, false, List, [], ◌∷◌, ◌++◌, map, length, take, Some, None, Result, Err, refl, sym, ◌∙◌, ap, subst, append_assoc, append-nil, arith}
 use Rattle.std.specs.Prelude.{MatchResult}
 use Rattle.std.specs.List.{flat_map, AllByRecursion}
 use Rattle.std.proofs.lemmas.List.{length-append}
 use Rattle.std.proofs.Math.Seq.{take-append_seam, take-length}
-use Rattle.res_path.specs.Names.{IsName}
 use Rattle.script_lang.specs.declared.script.Phase.{Phase}
 use Rattle.script_lang.specs.declared.script.Script.{Script}
 use Rattle.script_words.specs.declared.error.ScriptError.{ScriptError}
 use Rattle.script_words.specs.declared.error.ScriptError.TheVariants.{BadLine, Memory}
 use Rattle.script_lang.specs.declared.line.Line.{Line}
 use Rattle.script_lang.specs.declared.progress.Place.{Place}
-use Rattle.script_lang.specs.declared.progress.Place.TheVariants.{Outside, BeforeJob, WithinJob, AfterJob}
+use Rattle.script_lang.specs.declared.progress.Place.TheVariants.{Outside, WithinPhase, WithinJob}
 use Rattle.script_lang.specs.declared.progress.Progress.{Progress}
 use Rattle.script_words.specs.declared.words.Token.{Token}
 use Rattle.script_words.specs.Words.{SpellsLine}
 use Rattle.script_words.specs.Lines.{lines_of, unskipped, SpellsEach, SpellsLines}
 use Rattle.script_words.specs.Inside.Passing.{TakesLine, next_number, Skips}
 use Rattle.script_lang.specs.Commands.{FitsLine}
-use Rattle.script_lang.specs.Scripts.{FitsLines, HasOneJob, phase_lines, script_lines, IsScriptOf, IsBeginning, IsFirstBad, line_text}
+use Rattle.script_lang.specs.Scripts.{FitsLines, HasOwnNames, phase_lines, script_lines, IsScriptOf, IsBeginning, IsFirstBad, line_text}
 use Rattle.script_lang.specs.Inside.Reading.{goes, SaysNext, Steps, IsStuck, IsWhole}
 use Rattle.script_lang.specs.Inside.Printed.{AreLines}
-use Rattle.script_lang.proofs.Runs.{place_lines, read_lines, runs, begun, runs-append, runs_script, runs_read, read_more, jobs_kept, same_some, closing, closes}
+use Rattle.script_lang.proofs.Runs.{place_lines, read_lines, runs, begun, runs-append, runs_script, runs_read, read_more, names_kept, same_some, AreNamed, closing, closes}
 use Rattle.script_lang.proofs.Coded.{same_line}
 use Rattle.script_words.proofs.Lined.{keeps_line, unskipped_append}
 use Rattle.script_words.proofs.Taking.{taken_kept, taken_tokens, spells_append, spells_rest, spells_none}
@@ -37,14 +36,14 @@ pub record HasRead (lines rest : List (List ℕ)) (number : ℕ) (progress : Pro
   pub tokens : List (List Token)
   pub spelled : SpellsLines front tokens
   pub fitting : FitsLines tokens (read_lines progress)
-  pub jobs : AllByRecursion HasOneJob progress.phases
+  pub names : AreNamed progress
 
 pub read_none : (lines : List (List ℕ)) (number : ℕ) (phases : List Phase) (place : Place) → number ≡ 0 → phases ≡ [] → place ≡ Outside
     → HasRead lines lines number (record { phases = phases; place = place })
 read_none lines number phases place n e f =
     let at : begun ≡ record { phases = phases; place = place } = λ i. record { phases = sym e i; place = sym f i } in
     subst (λ (progress : Progress). HasRead lines lines number progress) at
-    (record { front = []; lines_are = refl; number_is = n; tokens = []; spelled = tt; fitting = tt; jobs = tt })
+    (record { front = []; lines_are = refl; number_is = n; tokens = []; spelled = tt; fitting = tt; names = record { phases = tt; place = tt } })
 
 -- skipped lines were passed
 pub read_skips : (lines : List (List ℕ)) (old new : List ℕ) (m n : ℕ) (progress : Progress) → HasRead lines (lines_of old) m progress → Skips old new
@@ -58,7 +57,7 @@ read_skips lines old new m n progress h s e =
       tokens = h.tokens ++ [];
       spelled = spells_append h.front s.passed h.tokens [] h.spelled (spells_none s.passed s.skipped);
       fitting = subst (λ (tokens : List (List Token)). FitsLines tokens (read_lines progress)) (sym (append-nil h.tokens)) h.fitting;
-      jobs = h.jobs;
+      names = h.names;
     }
 
 pub read_step : (lines old new : List (List ℕ)) (m n : ℕ) (before after : Progress) → HasRead lines old m before → Steps old new before after
@@ -80,7 +79,7 @@ read_step lines old new m n before after h s e =
           (sym (unskipped_append s.says.taken.passed (s.says.taken.line ∷ []) ∙ (λ i. s.says.taken.skipped i ++ kept i))) (s.says.taken.spelled, tt));
       fitting = subst (FitsLines (h.tokens ++ s.says.tokens ∷ [])) (sym (read_more before s.line after s.goes_to))
           (fits_append h.tokens (s.says.tokens ∷ []) (read_lines before) (s.line ∷ []) h.fitting (s.says.fits, tt));
-      jobs = jobs_kept before s.line after s.goes_to h.jobs;
+      names = names_kept before s.line after s.goes_to h.names;
     }
 
 -- ---- a whole script
@@ -91,7 +90,7 @@ whole_lines progress e = ap (λ (place : Place). flat_map phase_lines progress.p
 pub whole_script : (lines rest : List (List ℕ)) (number : ℕ) (progress : Progress) → HasRead lines rest number progress → IsWhole rest progress
     → IsScriptOf lines (record { phases = progress.phases })
 whole_script lines rest number progress h w = record {
-  jobs = h.jobs;
+  names = h.names.phases;
   tokens = h.tokens ++ [];
   spelled = subst (λ (lines : List (List ℕ)). SpellsLines lines (h.tokens ++ [])) (sym h.lines_are) (spells_append h.front rest h.tokens [] h.spelled (spells_none rest w.1));
   fitting = subst (λ (tokens : List (List Token)). FitsLines tokens (flat_map phase_lines progress.phases)) (sym (append-nil h.tokens))
@@ -116,7 +115,7 @@ goes_on lines rest number progress script h s =
     record { tokens = spelled.0; lines = says.0; lines_are = says.1; spelled = spelled.2; fitting = says.2 }
 
 -- where its lines lead
-leads : (progress : Progress) (script : Script) (lines : List Line) → AllByRecursion HasOneJob progress.phases → AllByRecursion HasOneJob script.phases
+leads : (progress : Progress) (script : Script) (lines : List Line) → AreNamed progress → AllByRecursion HasOwnNames script.phases
     → script_lines script ≡ read_lines progress ++ lines → Some (record { phases = script.phases; place = Outside }) ≡ runs lines (Some progress)
 leads progress script lines h g e =
     sym (runs_script script.phases g) ∙ ap (λ (lines : List Line). runs lines (Some begun)) e
@@ -142,7 +141,7 @@ ends : (lines rest : List (List ℕ)) (number : ℕ) (progress : Progress) (scri
 ends lines rest number progress script h e s =
     let on = goes_on lines rest number progress script h s in
     let none = no_lines on.tokens on.lines (no_tokens rest on.tokens e on.spelled) on.fitting in
-    leads progress script on.lines h.jobs s.jobs on.lines_are ∙ ap (λ (lines : List Line). runs lines (Some progress)) none
+    leads progress script on.lines h.names s.names on.lines_are ∙ ap (λ (lines : List Line). runs lines (Some progress)) none
 
 pub whole_alone : (lines rest : List (List ℕ)) (number : ℕ) (progress : Progress) (script : Script) → HasRead lines rest number progress → IsWhole rest progress
     → IsScriptOf lines script → record { phases = progress.phases } ≡ script
@@ -166,7 +165,7 @@ pub blocked_none : (lines rest more : List (List ℕ)) (next : List ℕ) (number
     → IsBlocked progress next → (script : Script) → IsScriptOf lines script → ⊥
 blocked_none lines rest more next number progress h e b script s =
     let on = goes_on lines rest number progress script h s in
-    by on.tokens on.lines (subst (λ (lines : List (List ℕ)). SpellsEach lines on.tokens) e on.spelled) on.fitting (leads progress script on.lines h.jobs s.jobs on.lines_are)
+    by on.tokens on.lines (subst (λ (lines : List (List ℕ)). SpellsEach lines on.tokens) e on.spelled) on.fitting (leads progress script on.lines h.names s.names on.lines_are)
   where
     none : (lines : List Line) → runs lines None ≡ None
     none [] = refl
@@ -182,25 +181,20 @@ blocked_none lines rest more next number progress h e b script s =
 
 -- ---- the first bad line
 
-a_name_is : IsName (97 ∷ [])
-unfolding lib.Utf8.encode
-a_name_is = record { utf8 = (97 ∷ [], (refl, refl)); form = refl }
-
 closing_parts : (place : Place) → AreLines (closing place)
 closing_parts Outside = tt
-closing_parts BeforeJob = (((refl, ((a_name_is, (lit< tt, tt)), (refl, (refl, tt)))), refl), (((refl, tt), refl), (((refl, tt), refl), tt)))
-closing_parts (WithinJob job) = (((refl, tt), refl), (((refl, tt), refl), tt))
-closing_parts (AfterJob job) = (((refl, tt), refl), tt)
+closing_parts (WithinPhase jobs) = (((refl, tt), refl), tt)
+closing_parts (WithinJob jobs job) = (((refl, tt), refl), (((refl, tt), refl), tt))
 
 -- the lines in front are a beginning, whatever is left
 begins : (lines rest : List (List ℕ)) (number : ℕ) (progress : Progress) (passed : List (List ℕ)) → (h : HasRead lines rest number progress) → unskipped passed ≡ [] → IsBeginning (h.front ++ passed)
 begins lines rest number progress passed h e =
-    let closed = closes progress.phases progress.place h.jobs in
+    let closed = closes progress.phases progress.place h.names in
     let more = closing progress.place in record {
       more = map line_text more;
       script = record { phases = closed.phases };
       spelled = record {
-        jobs = closed.jobs;
+        names = closed.names;
         tokens = (h.tokens ++ []) ++ map line_tokens more;
         spelled = spells_append (h.front ++ passed) (map line_text more) (h.tokens ++ []) (map line_tokens more)
             (spells_append h.front passed h.tokens [] h.spelled (spells_none passed e)) (spells_printed more (closing_parts progress.place));
@@ -222,7 +216,7 @@ elsewhere lines rest other number progress h = record {
   tokens = h.tokens;
   spelled = h.spelled;
   fitting = h.fitting;
-  jobs = h.jobs;
+  names = h.names;
 }
 
 bad_at : (text : List ℕ) (rest : List (List ℕ)) (read number : ℕ) (progress : Progress) → HasRead (lines_of text) rest read progress → IsStuck read rest progress number

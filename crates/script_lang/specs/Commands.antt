@@ -1,7 +1,7 @@
 -- The lines of a script: what each says, and the words that say it.
-use Rattle.std.specs.Prelude.{◌≡◌, ℕ, List, [], ◌∷◌, codes}
+use Rattle.std.specs.Prelude.{◌≡◌, ℕ, Bool, true, false, List, [], ◌∷◌, ◌++◌, codes}
 use Rattle.script_lang.specs.declared.script.Command.{Command}
-use Rattle.script_lang.specs.declared.script.Command.TheVariants.{Operation, Batch, EndBatch, Checkpoint, Begin, TryBegin, End}
+use Rattle.script_lang.specs.declared.script.Command.TheVariants.{Operation, Batch, EndBatch, Checkpoint, Begin, TryBegin, End, Sleep, Wake, Cancel}
 use Rattle.script_lang.specs.declared.script.Priority.{Priority}
 use Rattle.script_lang.specs.declared.script.Priority.TheVariants.{Interactive, Short, Long, Build, Decorate}
 use Rattle.script_lang.specs.declared.line.Line.{Line}
@@ -19,6 +19,9 @@ command_parts Checkpoint = keyword (codes "checkpoint") ∷ []
 command_parts (Begin rule) = keyword (codes "begin") ∷ rule_parts rule
 command_parts (TryBegin rule) = keyword (codes "trybegin") ∷ rule_parts rule
 command_parts (End rule) = keyword (codes "end") ∷ rule_parts rule
+command_parts (Sleep name) = keyword (codes "sleep") ∷ a_name name ∷ []
+command_parts (Wake name) = keyword (codes "wake") ∷ a_name name ∷ []
+command_parts (Cancel name) = keyword (codes "cancel") ∷ a_name name ∷ []
 
 abbrev pub priority_number : Priority → ℕ
 priority_number Interactive = 10
@@ -34,10 +37,15 @@ priority_word Long = codes "30"
 priority_word Build = codes "40"
 priority_word Decorate = codes "50"
 
+-- the word of a job that is scheduled asleep
+abbrev pub asleep_parts : Bool → List Part
+asleep_parts true = keyword (codes "asleep") ∷ []
+asleep_parts false = []
+
 -- the parts of a line
 abbrev pub line_parts : Line → List Part
 line_parts BeginPhase = keyword (codes "phase") ∷ []
-line_parts (BeginJob name priority rule) = keyword (codes "job") ∷ a_name name ∷ keyword (priority_word priority) ∷ rule_parts rule
+line_parts (BeginJob name priority asleep rule) = keyword (codes "job") ∷ a_name name ∷ keyword (priority_word priority) ∷ (asleep_parts asleep ++ rule_parts rule)
 line_parts (InJob command) = command_parts command
 line_parts EndJob = keyword (codes "endjob") ∷ []
 line_parts EndPhase = keyword (codes "endphase") ∷ []
@@ -52,11 +60,14 @@ command_read Checkpoint = Checkpoint
 command_read (Begin atoms) = Begin (rule_read atoms)
 command_read (TryBegin atoms) = TryBegin (rule_read atoms)
 command_read (End atoms) = End (rule_read atoms)
+command_read (Sleep name) = Sleep name
+command_read (Wake name) = Wake name
+command_read (Cancel name) = Cancel name
 
 -- the line that is read where this one is written, whose rule may be any atoms
 abbrev pub line_read : Line → Line
 line_read BeginPhase = BeginPhase
-line_read (BeginJob name priority atoms) = BeginJob name priority (rule_read atoms)
+line_read (BeginJob name priority asleep atoms) = BeginJob name priority asleep (rule_read atoms)
 line_read (InJob command) = InJob (command_read command)
 line_read EndJob = EndJob
 line_read EndPhase = EndPhase

@@ -10,12 +10,13 @@ use Rattle.script_lang.specs.declared.line.Line.TheVariants.{BeginPhase, BeginJo
 use Rattle.script_words.specs.declared.words.Token.{Token}
 use Rattle.script_words.specs.Lines.{lines_of, SpellsLines}
 use Rattle.script_lang.specs.Commands.{FitsLine, line_parts, command_parts}
+use Rattle.script_lang.specs.Names.{HaveOwnNames}
 use Rattle.script_parts.specs.Parts.{parts_text}
 
 -- ---- the lines of a script
 
 abbrev pub job_lines : Job → List Line
-job_lines job = BeginJob job.name job.priority job.rule ∷ (map InJob job.commands ++ EndJob ∷ [])
+job_lines job = BeginJob job.name job.priority job.asleep job.rule ∷ (map InJob job.commands ++ EndJob ∷ [])
 
 abbrev pub phase_lines : Phase → List Line
 phase_lines phase = BeginPhase ∷ (flat_map job_lines phase.jobs ++ EndPhase ∷ [])
@@ -32,12 +33,13 @@ FitsLines (tokens ∷ more) (line ∷ lines) = FitsLine tokens line × FitsLines
 FitsLines [] (line ∷ lines) = ⊥
 FitsLines (tokens ∷ more) [] = ⊥
 
-abbrev pub HasOneJob : Phase → Type 0
-HasOneJob phase = length phase.jobs ≡ 1
+-- the names of jobs in one phase differ; they may come again in another
+abbrev pub HasOwnNames : Phase → Type 0
+HasOwnNames phase = HaveOwnNames phase.jobs
 
--- the lines spell the script, each of whose phases has one job
+-- the lines spell the script
 pub record IsScriptOf (lines : List (List ℕ)) (script : Script) : Type 0 where
-  pub jobs : AllByRecursion HasOneJob script.phases
+  pub names : AllByRecursion HasOwnNames script.phases
   pub tokens : List (List Token)
   pub spelled : SpellsLines lines tokens
   pub fitting : FitsLines tokens (script_lines script)

@@ -2,7 +2,7 @@
 ghost use Rattle.std.specs.Prelude.{◌≡◌, ◌≢◌, [], true, IfOk, MatchOption};
 ghost use Rattle.script_lang.specs.declared.line.Line.TheVariants.{InJob};
 ghost use Rattle.script_lang.specs.declared.script.Command.TheVariants.{Operation};
-ghost use Rattle.script_lang.specs.Inside.Reading.{IsLineOf};
+ghost use Rattle.script_lang.specs.Inside.Reading.{IsLineOf, IsStartFound, IsSleepFound};
 ghost use Rattle.script_lang.specs.Commands.{priority_word};
 ghost use Rattle.script_parts.specs.Parts.{keyword};
 ghost use Rattle.script_parts.specs.Inside.Found.{IsPartFound};
@@ -13,7 +13,7 @@ use crate::line::Line;
 use crate::script::{Command, Priority};
 use op_kind::Op;
 use script_ops::{Verb, operation_with, verb_of};
-use script_parts::{is_key, name_of, rule_of};
+use script_parts::{ScriptRule, is_key, name_alone, name_of, rule_of};
 use script_words::Token;
 use std::alloc::Global;
 
@@ -39,6 +39,9 @@ fn line_with(alloc: Global, verb: Verb, rest: &mut [Token]) -> Result<Option<Lin
         Verb::Begin => begin_line(alloc, rest),
         Verb::TryBegin => try_begin_line(alloc, rest),
         Verb::End => end_line(alloc, rest),
+        Verb::Sleep => Ok(sleep_line(rest)),
+        Verb::Wake => Ok(wake_line(rest)),
+        Verb::Cancel => Ok(cancel_line(rest)),
         Verb::Phase
         | Verb::EndPhase
         | Verb::EndJob
@@ -86,7 +89,7 @@ fn alone(rest: &[Token], line: Line) -> Option<Line>
 fn job_line(alloc: Global, rest: &[Token]) -> Result<Option<Line>, NoMemory>
     ensures { IfOk result (IsLineOf (begun_with Verb.Job rest.now)) }
 {
-    let [name, priority, rule @ ..] = rest else {
+    let [name, priority, start @ ..] = rest else {
         return Ok(None);
     };
     let Some(priority) = priority_of(priority) else {
@@ -95,9 +98,34 @@ fn job_line(alloc: Global, rest: &[Token]) -> Result<Option<Line>, NoMemory>
     let Some(name) = name_of(name)? else {
         return Ok(None);
     };
-    match rule_of(alloc, rule)? {
+    match start_of(alloc, start)? {
         None => Ok(None),
-        Some(rule) => Ok(Some(Line::BeginJob(name, priority, rule))),
+        Some((asleep, rule)) => Ok(Some(Line::BeginJob(name, priority, asleep, rule))),
+    }
+}
+
+/// Whether a job is scheduled asleep, and its rule.
+fn start_of(alloc: Global, tokens: &[Token]) -> Result<Option<(bool, ScriptRule)>, NoMemory>
+    ensures { IfOk result (IsStartFound tokens.now) }
+{
+    let (asleep, rest) = sleep_of(tokens);
+    match rule_of(alloc, rest)? {
+        None => Ok(None),
+        Some(rule) => Ok(Some((asleep, rule))),
+    }
+}
+
+/// Whether the tokens begin with `asleep`, and those behind it.
+fn sleep_of(tokens: &[Token]) -> (bool, &[Token])
+    ensures { IsSleepFound tokens.now result.0 result.1.now }
+{
+    let [first, rest @ ..] = tokens else {
+        return (false, tokens);
+    };
+    if is_key(first, b"asleep") {
+        (true, rest)
+    } else {
+        (false, tokens)
     }
 }
 
@@ -125,6 +153,33 @@ fn end_line(alloc: Global, rest: &[Token]) -> Result<Option<Line>, NoMemory>
     match rule_of(alloc, rest)? {
         None => Ok(None),
         Some(rule) => Ok(Some(Line::InJob(Command::End(rule)))),
+    }
+}
+
+fn sleep_line(rest: &mut [Token]) -> Option<Line>
+    ensures { IsLineOf (begun_with Verb.Sleep rest.old) result }
+{
+    match name_alone(rest) {
+        None => None,
+        Some(name) => Some(Line::InJob(Command::Sleep(name))),
+    }
+}
+
+fn wake_line(rest: &mut [Token]) -> Option<Line>
+    ensures { IsLineOf (begun_with Verb.Wake rest.old) result }
+{
+    match name_alone(rest) {
+        None => None,
+        Some(name) => Some(Line::InJob(Command::Wake(name))),
+    }
+}
+
+fn cancel_line(rest: &mut [Token]) -> Option<Line>
+    ensures { IsLineOf (begun_with Verb.Cancel rest.old) result }
+{
+    match name_alone(rest) {
+        None => None,
+        Some(name) => Some(Line::InJob(Command::Cancel(name))),
     }
 }
 

@@ -20,11 +20,12 @@ use std::alloc::Global;
 
 /// The script that the text spells. Refused with the number of the first bad line where it spells none: the first
 /// one at which no continuation could make the lines so far the beginning of a script; one past the last where the
-/// text ends too early. Lines are counted from 1, also those that are skipped.
+/// text ends too early. A job whose name another of its phase has is bad at its own line. Lines are counted from 1, also
+/// those that are skipped.
 ///
 /// The words share the text's bytes but for those with escapes, for a few common ones before a space, which take no
-/// memory, and for the texts of markers, which are copied. Costs one pass over the text, and for each atom of a rule one
-/// over the rule of the atoms before it.
+/// memory, and for the texts of markers, which are copied. Costs one pass over the text, for each job two look-ups among
+/// the ordered names of its phase, and for each atom of a rule one pass over the rule of the atoms before it.
 pub fn parse_shared(alloc: Global, text: Bytes) -> Result<Script, ScriptError>
     ensures found { IfOk result (IsScript text) }
     ensures all { (script : Script) → IsScript text script → MatchResult result (λ found. found ≡ script) (λ e. e ≡ Memory) }

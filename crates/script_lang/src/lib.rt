@@ -4,6 +4,7 @@
 //! - `script_copy`: equal scripts.
 //! - `line`: what one line of a script says.
 //! - `command`: which line the words of a line are.
+//! - `open_phase`: a phase that is being read.
 //! - `progress`: how far a script is read.
 //! - `grammar`: the script that a text spells.
 //! - `printing`: the text of a script.
@@ -12,6 +13,7 @@
 mod command;
 mod grammar;
 mod line;
+mod open_phase;
 mod printing;
 mod progress;
 mod script;

@@ -8,8 +8,8 @@ use script_parts::ScriptRule;
 pub enum Line {
     /// A phase begins.
     BeginPhase,
-    /// A job of this name, priority and rule begins.
-    BeginJob(Name, Priority, ScriptRule),
+    /// A job of this name and priority begins, asleep or not, and asks for this rule.
+    BeginJob(Name, Priority, bool, ScriptRule),
     /// A command of a job.
     InJob(Command),
     /// The job ends.

@@ -2,16 +2,16 @@
 ghost use Rattle.std.specs.Prelude.{◌≡◌, ◌++◌, [], ◌∷◌, IfOk, OnOk};
 ghost use Rattle.script_lang.specs.declared.line.Line.TheVariants.{BeginJob, InJob};
 ghost use Rattle.script_words.specs.Words.{Grows};
-ghost use Rattle.script_lang.specs.Commands.{command_parts, command_read, priority_word};
-ghost use Rattle.script_lang.specs.Scripts.{IsScript, script_text, command_text, line_text, phase_lines, job_lines, HasOneJob, ended};
+ghost use Rattle.script_lang.specs.Commands.{asleep_parts, command_parts, command_read, priority_word};
+ghost use Rattle.script_lang.specs.Scripts.{IsScript, script_text, command_text, line_text, phase_lines, job_lines, HasOwnNames, ended};
 ghost use Rattle.script_parts.specs.Parts.{keyword, parts_text, rule_parts, rule_read};
 ghost use Rattle.script_lang.specs.Inside.Printed.{AreLines, IsLine};
-ghost use Rattle.script_parts.specs.Inside.Printed.{AreParts};
+ghost use Rattle.script_parts.specs.Inside.Printed.{AreParts, spaced};
 
 use crate::script::{Command, Job, Phase, Priority, Script};
 use crate::{NoMemory, ScriptRule};
 use script_ops::put_doing;
-use script_parts::{name_word, put_rule, put_three};
+use script_parts::{name_word, put_next, put_rule, put_three, put_two};
 use script_words::{put_bytes, put_word};
 use std::alloc::Global;
 
@@ -30,7 +30,7 @@ pub fn print(alloc: Global, script: &Script) -> Result<Vec<u8>, NoMemory>
 fn put_phase(out: &mut Vec<u8>, phase: &Phase) -> Result<(), NoMemory>
     ensures text { OnOk result (out.new.items ≡ out.old.items ++ ended (phase_lines phase.now)) }
     ensures parts { OnOk result (AreLines (phase_lines phase.now)) }
-    ensures single { OnOk result (HasOneJob phase.now) }
+    ensures names { OnOk result (HasOwnNames phase.now) }
 {
     put_bytes(out, b"phase\n")?;
     for job in phase.jobs.as_slice() {
@@ -54,8 +54,8 @@ fn put_job(out: &mut Vec<u8>, job: &Job) -> Result<(), NoMemory>
 
 /// Appends the first line of a job.
 fn put_head(out: &mut Vec<u8>, job: &Job) -> Result<(), NoMemory>
-    ensures text { OnOk result (out.new.items ≡ out.old.items ++ (line_text (BeginJob job.now.name job.now.priority job.now.rule) ++ 10 ∷ [])) }
-    ensures parts { OnOk result (IsLine (BeginJob job.now.name job.now.priority job.now.rule)) }
+    ensures text { OnOk result (out.new.items ≡ out.old.items ++ (line_text (BeginJob job.now.name job.now.priority job.now.asleep job.now.rule) ++ 10 ∷ [])) }
+    ensures parts { OnOk result (IsLine (BeginJob job.now.name job.now.priority job.now.asleep job.now.rule)) }
 {
     put_three(
         out,
@@ -63,9 +63,30 @@ fn put_head(out: &mut Vec<u8>, job: &Job) -> Result<(), NoMemory>
         name_word(&job.name),
         priority_word(job.priority),
     )?;
-    put_rule(out, &job.rule)?;
+    put_start(out, job.asleep, &job.rule)?;
     put_bytes(out, b"\n")?;
     Ok(())
+}
+
+/// Appends whether a job is scheduled asleep, and its rule, with a space in front of each word.
+fn put_start(out: &mut Vec<u8>, asleep: bool, rule: &ScriptRule) -> Result<(), NoMemory>
+    ensures text { OnOk result (out.new.items ≡ out.old.items ++ spaced (asleep_parts asleep ++ rule_parts rule.now)) }
+    ensures parts { OnOk result (AreParts (asleep_parts asleep ++ rule_parts rule.now)) }
+    ensures same { OnOk result (rule_read rule.now ≡ rule.now) }
+{
+    put_asleep(out, asleep)?;
+    put_rule(out, rule)
+}
+
+fn put_asleep(out: &mut Vec<u8>, asleep: bool) -> Result<(), NoMemory>
+    ensures text { OnOk result (out.new.items ≡ out.old.items ++ spaced (asleep_parts asleep)) }
+    ensures parts { AreParts (asleep_parts asleep) }
+{
+    if asleep {
+        put_next(out, b"asleep")
+    } else {
+        Ok(())
+    }
 }
 
 /// Appends a command's line.
@@ -100,6 +121,9 @@ fn put_commanding(out: &mut Vec<u8>, command: &Command) -> Result<(), NoMemory>
         Command::Begin(rule) => put_ruled(out, b"begin", rule),
         Command::TryBegin(rule) => put_ruled(out, b"trybegin", rule),
         Command::End(rule) => put_ruled(out, b"end", rule),
+        Command::Sleep(name) => put_two(out, b"sleep", name_word(name)),
+        Command::Wake(name) => put_two(out, b"wake", name_word(name)),
+        Command::Cancel(name) => put_two(out, b"cancel", name_word(name)),
     }
 }
 

@@ -1,12 +1,14 @@
 //! How far a script is read.
-ghost use Rattle.std.specs.Prelude.{◌≡◌, IfOk, IsTrue, ◌↔◌, [], if◌then◌else◌, Some, None};
-ghost use Rattle.script_lang.specs.declared.progress.Place.TheVariants.{Outside, BeforeJob, WithinJob, AfterJob};
-ghost use Rattle.script_lang.specs.Inside.Reading.{goes};
+ghost use Rattle.std.specs.Prelude.{◌≡◌, IfOk, IsTrue, ◌↔◌, [], ◌∷◌, ◌++◌, if◌then◌else◌, Some, None};
+ghost use Rattle.std.specs.Option.{option_map};
+ghost use Rattle.script_lang.specs.declared.progress.Place.TheVariants.{Outside, WithinPhase, WithinJob};
+ghost use Rattle.script_lang.specs.Inside.Reading.{goes, job_begun, with_job};
 ghost use Rattle.script_lang.specs.declared.line.Line.TheVariants.{InJob};
 
 use crate::NoMemory;
 use crate::line::Line;
-use crate::script::{Command, Commands, Job, Jobs, Phase, Phases};
+use crate::open_phase::OpenPhase;
+use crate::script::{Command, Commands, Job, Phase, Phases};
 use std::alloc::Global;
 use std::mem;
 
@@ -15,12 +17,10 @@ use std::mem;
 pub enum Place {
     /// A phase, or the end.
     Outside,
-    /// The job of a phase.
-    BeforeJob,
-    /// A command of this job, or its end.
-    WithinJob(Job),
-    /// The end of the phase of this job.
-    AfterJob(Job),
+    /// A job, or the end of the phase of these jobs.
+    WithinPhase(OpenPhase),
+    /// A command of this job, or its end; the others are the jobs before it in its phase.
+    WithinJob(OpenPhase, Job),
 }
 
 /// How far a script is read.
@@ -69,7 +69,7 @@ impl Progress {
         ensures { IfOk result (λ goes_on. goes self.old (InJob command) ≡ (if goes_on then Some self.new else None)) }
     {
         match &mut self.place {
-            Place::WithinJob(job) => {
+            Place::WithinJob(_, job) => {
                 job.commands.push(command)?;
                 Ok(true)
             }
@@ -97,45 +97,82 @@ impl Progress {
     {
         let Progress { phases, place } = self;
         match place {
-            Place::Outside => Ok(after_phases(phases, line)),
-            Place::BeforeJob => Ok(after_phase(alloc, phases, line)),
-            Place::WithinJob(job) => after_command(phases, job, line),
-            Place::AfterJob(job) => after_job(alloc, phases, job, line),
+            Place::Outside => Ok(after_phases(alloc, phases, line)),
+            Place::WithinPhase(jobs) => after_jobs(alloc, phases, jobs, line),
+            Place::WithinJob(jobs, job) => after_command(phases, jobs, job, line),
         }
     }
 }
 
-fn after_phases(phases: Phases, line: Line) -> Option<Progress>
+fn after_phases(alloc: Global, phases: Phases, line: Line) -> Option<Progress>
     ensures { result ≡ goes (record { phases = phases; place = Outside }) line }
 {
     match line {
         Line::BeginPhase => Some(Progress {
             phases,
-            place: Place::BeforeJob,
+            place: Place::WithinPhase(OpenPhase::new(alloc)),
         }),
         _ => None,
     }
 }
 
-fn after_phase(alloc: Global, phases: Phases, line: Line) -> Option<Progress>
-    ensures { result ≡ goes (record { phases = phases; place = BeforeJob }) line }
+fn after_jobs(
+    alloc: Global,
+    phases: Phases,
+    jobs: OpenPhase,
+    line: Line,
+) -> Result<Option<Progress>, NoMemory>
+    ensures { IfOk result (λ next. next ≡ goes (record { phases = phases; place = WithinPhase jobs }) line) }
 {
     match line {
-        Line::BeginJob(name, priority, rule) => Some(Progress {
-            phases,
-            place: Place::WithinJob(Job {
+        Line::BeginJob(name, priority, asleep, rule) => {
+            let job = Job {
                 name,
                 priority,
+                asleep,
                 rule,
                 commands: Commands::new(alloc),
-            }),
-        }),
-        _ => None,
+            };
+            Ok(begin_job(phases, jobs, job))
+        }
+        Line::EndPhase => end_phase(phases, jobs),
+        _ => Ok(None),
     }
 }
 
-fn after_command(phases: Phases, job: Job, line: Line) -> Result<Option<Progress>, NoMemory>
-    ensures { IfOk result (λ next. next ≡ goes (record { phases = phases; place = WithinJob job }) line) }
+/// The job begins, unless one of the jobs before it has its name.
+fn begin_job(phases: Phases, jobs: OpenPhase, job: Job) -> Option<Progress>
+    ensures { result ≡ option_map (λ place. record { phases = phases; place = place }) (job_begun jobs job) }
+{
+    if jobs.has(&job.name) {
+        return None;
+    }
+    Some(Progress {
+        phases,
+        place: Place::WithinJob(jobs, job),
+    })
+}
+
+/// The phase of these jobs ends.
+fn end_phase(phases: Phases, jobs: OpenPhase) -> Result<Option<Progress>, NoMemory>
+    ensures { IfOk result (λ next. next ≡ Some (record { phases = phases ++ (record { jobs = jobs }) ∷ []; place = Outside })) }
+{
+    let mut phases = phases;
+    let jobs = jobs.close();
+    phases.push(Phase { jobs })?;
+    Ok(Some(Progress {
+        phases,
+        place: Place::Outside,
+    }))
+}
+
+fn after_command(
+    phases: Phases,
+    jobs: OpenPhase,
+    job: Job,
+    line: Line,
+) -> Result<Option<Progress>, NoMemory>
+    ensures { IfOk result (λ next. next ≡ goes (record { phases = phases; place = WithinJob jobs job }) line) }
 {
     let mut job = job;
     match line {
@@ -143,35 +180,23 @@ fn after_command(phases: Phases, job: Job, line: Line) -> Result<Option<Progress
             job.commands.push(command)?;
             Ok(Some(Progress {
                 phases,
-                place: Place::WithinJob(job),
+                place: Place::WithinJob(jobs, job),
             }))
         }
-        Line::EndJob => Ok(Some(Progress {
-            phases,
-            place: Place::AfterJob(job),
-        })),
+        Line::EndJob => end_job(phases, jobs, job),
         _ => Ok(None),
     }
 }
 
-fn after_job(
-    alloc: Global,
-    phases: Phases,
-    job: Job,
-    line: Line,
-) -> Result<Option<Progress>, NoMemory>
-    ensures { IfOk result (λ next. next ≡ goes (record { phases = phases; place = AfterJob job }) line) }
+/// The job ends, unless one of the jobs before it has its name; none has where `begin_job` let it begin.
+fn end_job(phases: Phases, jobs: OpenPhase, job: Job) -> Result<Option<Progress>, NoMemory>
+    ensures { IfOk result (λ next. next ≡ option_map (λ more. record { phases = phases; place = WithinPhase more }) (with_job jobs job)) }
 {
-    let mut phases = phases;
-    match line {
-        Line::EndPhase => {
-            let jobs = Jobs::one(alloc, job)?;
-            phases.push(Phase { jobs })?;
-            Ok(Some(Progress {
-                phases,
-                place: Place::Outside,
-            }))
-        }
-        _ => Ok(None),
+    match jobs.with(job)? {
+        None => Ok(None),
+        Some(jobs) => Ok(Some(Progress {
+            phases,
+            place: Place::WithinPhase(jobs),
+        })),
     }
 }

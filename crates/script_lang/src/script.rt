@@ -1,6 +1,7 @@
 //! Scripts: phases of jobs of commands.
-ghost use Rattle.std.specs.Prelude.{◌≡◌, ◌++◌, ◌∷◌, [], length, IfOk, OnOk, OnErr};
+ghost use Rattle.std.specs.Prelude.{◌≡◌, ◌++◌, ◌∷◌, [], IfOk, OnOk, OnErr};
 ghost use Rattle.script_lang.specs.Commands.{priority_number};
+ghost use Rattle.script_lang.specs.Names.{HaveOwnNames};
 
 use crate::NoMemory;
 use op_kind::Op;
@@ -26,6 +27,12 @@ pub enum Command {
     TryBegin(ScriptRule),
     /// The rule that was begun last ends (`IJobManager.endRule`).
     End(ScriptRule),
+    /// The job of this name is put to sleep (`Job.sleep`).
+    Sleep(Name),
+    /// The job of this name is woken (`Job.wakeUp`).
+    Wake(Name),
+    /// The job of this name is cancelled (`Job.cancel`).
+    Cancel(Name),
 }
 
 /// Commands in the order in which they are run. A contract sees the list.
@@ -117,46 +124,47 @@ impl Priority {
     }
 }
 
-/// A job: its name, its priority, the rule that it asks for and its commands.
+/// A job: its name, its priority, whether it is scheduled asleep, the rule that it asks for and its commands.
 #[derive(Drop)]
 pub struct Job {
     pub name: Name,
     pub priority: Priority,
+    pub asleep: bool,
     pub rule: ScriptRule,
     pub commands: Commands,
 }
 
-/// The jobs of a phase, in the order in which they are scheduled: one job. A contract sees the list.
+/// The jobs of a phase, in the order in which they are scheduled. Their names differ. A contract sees the list.
 #[derive(Drop)]
 pub struct Jobs {
     items: Vec<Job>,
 }
 
 impl Model for Jobs {
-    ghost use Rattle.std.specs.Prelude.{◌≡◌, List, length};
+    ghost use Rattle.std.specs.Prelude.{List};
     ghost use Rattle.script_lang.specs.declared.script.Job.{Job};
+    ghost use Rattle.script_lang.specs.Names.{HaveOwnNames};
 
     ghost Value = { List Job };
 
     ghost view = { λ j. j.items.items };
 
-    ghost invariant = { λ j. length j.items.items ≡ 1 };
+    ghost invariant = { λ j. HaveOwnNames j.items.items };
 }
 
 impl Jobs {
-    /// This job alone.
-    pub fn one(alloc: Global, job: Job) -> Result<Jobs, NoMemory>
-        ensures { IfOk result (λ jobs. jobs ≡ job ∷ []) }
+    /// These jobs, in this order. It takes no memory.
+    pub fn of(items: Vec<Job>) -> Jobs
+        requires { HaveOwnNames items.items }
+        ensures { result ≡ items.items }
     {
-        let mut items = Vec::new(alloc);
-        items.push(job)?;
-        Ok(Jobs { items })
+        Jobs { items }
     }
 
     /// The jobs, in order.
     pub fn as_slice(&self) -> &[Job]
         ensures jobs { result.now ≡ self.now }
-        ensures single { length self.now ≡ 1 }
+        ensures names { HaveOwnNames self.now }
     {
         self.items.as_slice()
     }
@@ -164,7 +172,7 @@ impl Jobs {
     /// The jobs, in order, each to be taken.
     pub fn into_vec(self) -> Vec<Job>
         ensures jobs { result.items ≡ self }
-        ensures single { length self ≡ 1 }
+        ensures names { HaveOwnNames self }
     {
         let Jobs { items } = self;
         items

@@ -17,6 +17,9 @@ impl Command {
             Command::Begin(rule) => Ok(Command::Begin(rule.copy()?)),
             Command::TryBegin(rule) => Ok(Command::TryBegin(rule.copy()?)),
             Command::End(rule) => Ok(Command::End(rule.copy()?)),
+            Command::Sleep(name) => Ok(Command::Sleep(name.copy()?)),
+            Command::Wake(name) => Ok(Command::Wake(name.copy()?)),
+            Command::Cancel(name) => Ok(Command::Cancel(name.copy()?)),
         }
     }
 }
@@ -37,6 +40,7 @@ impl Job {
         Ok(Job {
             name: self.name.copy()?,
             priority: self.priority,
+            asleep: self.asleep,
             rule: self.rule.copy()?,
             commands: self.commands.copy()?,
         })

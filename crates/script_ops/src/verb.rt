@@ -20,6 +20,9 @@ pub enum Verb {
     Begin,
     TryBegin,
     End,
+    Sleep,
+    Wake,
+    Cancel,
     Create,
     Delete,
     Write,
@@ -71,7 +74,7 @@ fn verb_named(word: &[u8]) -> Option<Verb>
     }
 }
 
-/// The verb with this name, of those that bound phases, jobs, batches and rules.
+/// The verb with this name, of those that bound phases, jobs, batches and rules, and of those that steer jobs.
 fn bound_named(word: &[u8]) -> Option<Verb>
     ensures { IsNamed bounds word.now result }
 {
@@ -86,6 +89,9 @@ fn bound_named(word: &[u8]) -> Option<Verb>
         b"begin" => Some(Verb::Begin),
         b"trybegin" => Some(Verb::TryBegin),
         b"end" => Some(Verb::End),
+        b"sleep" => Some(Verb::Sleep),
+        b"wake" => Some(Verb::Wake),
+        b"cancel" => Some(Verb::Cancel),
         _ => None,
     }
 }

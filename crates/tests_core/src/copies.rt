@@ -1,56 +1,59 @@
 //! Copies of what was done.
-use crate::asserting::{holds, let_go, must, reads, same, some};
-use crate::passes::{CASES, CHANGED, after, reply_text};
-use lone_core::{Entry, History, Reply};
-use report_text::delta_lines;
+use crate::asserting::{holds, let_go, must, reads, same};
+use crate::listening::run;
+use core_event::Entry;
+use run_text::print_entries;
 use std::process::Abort;
+use ws_core::History;
+use ws_outside::MemSink;
 
-/// What is answered, and the lines of what is told.
-fn told_text(rt: &(impl Abort + AllocGlobal), reply: &Reply) -> Vec<u8> {
-    let mut text = reply_text(rt, reply);
-    if let Some(delta) = reply.notice.delta() {
-        let lines = must(rt, delta_lines(rt.alloc(), delta));
-        must(rt, text.extend_from_slice(lines.as_slice()));
-    }
-    text
-}
+/// Answers of each kind, some with notices.
+const SCRIPT: &str = "\
+phase
+job a 30 path /
+batch
+create project /P
+create file /P/a hi
+mark /P/a t name text
+endbatch
+unmark /P/a 1
+clearmarks /P t 2
+cat /P/a
+tree /
+write /Q/b x
+endbatch
+begin path /P
+trybegin mutex m
+end path /P
+wake b
+endjob
+job b 10 asleep null
+endjob
+endphase
+";
 
-/// The copy is answered and tells as the entry does. Its event's copy serves as the event: `passes` asks copies.
-fn is_copied(rt: &(impl Abort + AllocGlobal), entry: &Entry) {
-    let copy = must(rt, entry.copy());
-    let wanted = told_text(rt, &entry.reply);
-    same(rt, "pass", copy.pass, entry.pass);
-    same(
-        rt,
-        "change",
-        copy.event.change().is_some(),
-        entry.event.change().is_some(),
-    );
-    holds(rt, "reply", told_text(rt, &copy.reply) == wanted);
-    let_go(copy);
+/// The lines of the entries.
+fn lines(rt: &(impl Abort + AllocGlobal), entries: &[Entry]) -> Vec<u8> {
+    let mut sink = MemSink::new(rt.alloc());
+    let mut out = Vec::new(rt.alloc());
+    let printed = print_entries(&mut sink, &mut out, entries);
+    holds(rt, "printed", printed.is_ok());
+    let_go(sink);
+    out
 }
 
 #[test]
-fn copies_of_entries_are_answered_and_tell_as_these_do(rt: HostRuntime) {
-    for case in CASES.lines() {
-        let core = after(&rt, case);
-        for entry in core.history() {
-            is_copied(&rt, entry);
-        }
-        let_go(core);
-    }
-    let core = after(&rt, CHANGED);
-    let history = core.into_history();
+fn copies_of_what_was_done_read_as_it(rt: HostRuntime) {
+    let outcome = run(&rt, SCRIPT);
+    let history = outcome.history;
+    same(&rt, "entries", history.len(), 23);
+    holds(&rt, "something was done", !history.is_empty());
     let copy = must(&rt, history.copy());
+    let text = lines(&rt, history.entries());
     let_go(history);
-    let last = some(&rt, copy.entries().last());
-    let text = reply_text(&rt, &last.reply);
-    reads(&rt, "the last reply", text.as_slice(), "ok");
-    same(&rt, "entries", copy.len(), 10);
+    holds(&rt, "copy", lines(&rt, copy.entries()) == text);
     let_go(copy);
-    holds(
-        &rt,
-        "nothing was done",
-        History::empty(rt.alloc()).is_empty(),
-    );
+    let none = History::empty(rt.alloc());
+    holds(&rt, "nothing was done", none.is_empty());
+    reads(&rt, "no lines", lines(&rt, none.entries()).as_slice(), "");
 }

@@ -1,11 +1,11 @@
-//! Tests of the operations, scripts, texts, the core and the program, over what these crates offer. What their rows give
+//! Tests of the operations, scripts, texts and the program, over what these crates offer. What their rows give
 //! was worked by hand.
 //!
 //! - `asserting`: the assertions.
 //! - `rows`: rows of tables, each of a command and what it gives.
 //! - `copies`: copies of what was done.
+//! - `listening`: listeners of the program.
 //! - `operations`: operations over a tree, and the way back before each.
-//! - `passes`: a core with several passes, and what it hands out.
 //! - `scripts`: scripts read, copied and printed.
 //! - `runs`: the program over sources and sinks that fail at each call.
 #![tactic(auto)]
@@ -15,9 +15,9 @@ mod asserting;
 #[cfg(test)]
 mod copies;
 #[cfg(test)]
-mod operations;
+mod listening;
 #[cfg(test)]
-mod passes;
+mod operations;
 #[cfg(test)]
 mod rows;
 #[cfg(test)]

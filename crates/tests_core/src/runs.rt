@@ -4,7 +4,7 @@ use crate::rows::{cut, number};
 use report_text::{put_counted, put_text};
 use std::process::Abort;
 use ws_outside::{MemSink, MemSource};
-use ws_top::top;
+use ws_top::{Kit, Listener, Listeners, top};
 
 /// Words, a script, the read and the write that fail; and then the status, how many entries, reads and writes there were,
 /// and what was written. `/` ends a line. A read gives at most seven bytes, a write takes at most 14. The first script has 36
@@ -59,7 +59,10 @@ fn run(
     mut sink: MemSink,
 ) -> Vec<u8> {
     let words = words(rt, asked);
-    let outcome = top(rt.alloc(), words.as_slice(), &mut source, &mut sink);
+    let kit = Kit {
+        listeners: Listeners::<Box<dyn Listener + Send>>::of(Vec::new(rt.alloc())),
+    };
+    let outcome = top(rt.alloc(), words.as_slice(), &mut source, &mut sink, kit);
     let mut out = Vec::new(rt.alloc());
     must(rt, put_counted(&mut out, "", u64::from(outcome.status)));
     must(rt, put_counted(&mut out, " ", outcome.history.len() as u64));

@@ -1,8 +1,7 @@
 pub mod Lines
 pub mod Fronts
 pub mod Taken
-pub mod Stays
-pub mod Asked
+pub mod Told
 pub mod Performed
 pub mod Responded
 pub mod Answered

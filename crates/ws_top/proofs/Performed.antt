@@ -3,10 +3,10 @@ use Rattle.std.proofs.Common.{◌≡◌, ◌≢◌, ◌⊎◌, inl, inr, ℕ, Li
 use Rattle.std.specs.Prelude.{Result, Ok, Err}
 use Rattle.ws_outside.specs.Faults.{Rose}
 use Rattle.ws_outside.specs.Streams.{Gains, GainsFront}
-use Rattle.lone_event.specs.declared.entry.Entry.{Entry}
-use Rattle.lone_text.specs.declared.writing.Unwritten.{Unwritten}
-use Rattle.lone_text.specs.declared.writing.Unwritten.TheVariants.{Fault, Memory}
-use Rattle.lone_core.specs.declared.state.State.{State}
+use Rattle.core_event.specs.declared.entry.Entry.{Entry}
+use Rattle.run_text.specs.declared.writing.Unwritten.{Unwritten}
+use Rattle.run_text.specs.declared.writing.Unwritten.TheVariants.{Fault, Memory}
+use Rattle.ws_core.specs.States.{Moment}
 use Rattle.ws_top.specs.Inside.Parts.{WritesRun, Nothing, Same, Performs}
 use Rattle.ws_top.specs.Outcomes.{opened_state, WasRun, TellsWriteFault, IsOneThread, DoesScript, WritesCut, WritesText, Writes}
 use Rattle.ws_top.specs.Texts.{report_from, text, status_line}
@@ -40,10 +40,17 @@ not_run_at_8 n e (inr f) = none_at n 8 4 e f 8≢4
 
 -- nothing was done from the opened state
 pub thread_none : (h : List Entry) → h ≡ [] → IsOneThread opened_state h
-thread_none h e = subst (λ (k : List Entry). IsOneThread opened_state k) (sym e) (record { legal = record { replies = refl; entered = refl }; told = refl })
+thread_none h e = subst (λ (k : List Entry). IsOneThread opened_state k) (sym e) (record {
+  legal = record { replies = refl; entered = refl; events = refl };
+  told = refl;
+  apart = λ n. subst (λ (l : List Entry). IsApart atom_contains atom_conflicts (replay opened_state l).manager.passes.rules) (sym (take_nil n)) tt;
+})
+  where
+    take_nil : (n : ℕ) → take n [] {A = Entry} ≡ []
+    take_nil n = refl
 
 -- the text of a want of memory, by some front of it
-text_at_8 : (opened : State) (a b : Option (List ℕ)) (n : ℕ) (h : List Entry) → n ≡ 8 → WritesCut opened a b h → WritesText opened a b n h
+text_at_8 : (opened : Moment) (a b : Option (List ℕ)) (n : ℕ) (h : List Entry) → n ≡ 8 → WritesCut opened a b h → WritesText opened a b n h
 text_at_8 opened a b n h e w = record {
   all_at_0 = λ z. none_at n 8 0 e z 8≢0;
   front_at_4 = λ f. none_at n 8 4 e f 8≢4;
@@ -71,7 +78,7 @@ performs_nothing a b f g n h e z w = record {
 }
 
 -- the whole text was written
-pub performs_all : (a b : Option (List ℕ)) (f g n : ℕ) (s : State) (d h : List Entry) → n ≡ 0 → s ≡ opened_state → h ≡ d → IsOneThread opened_state h
+pub performs_all : (a b : Option (List ℕ)) (f g n : ℕ) (s : Moment) (d h : List Entry) → n ≡ 0 → s ≡ opened_state → h ≡ d → IsOneThread opened_state h
     → Gains a (text s d 0) b × (g ≡ f) → Performs (Same d) (Same d) Nothing opened_state a b f g n h
 performs_all a b f g n s d h e o k t w = record {
   ends = inl (inl e);
@@ -83,14 +90,14 @@ performs_all a b f g n s d h e o k t w = record {
   done = record { all_at_0_and_4 = λ _. k; some_at_8 = λ r. none_at n 0 8 e r 0≢8 };
   thread = t;
   text = record {
-    all_at_0 = λ _. subst (λ (x : List Entry). Gains a (text opened_state x 0) b) (sym k) (subst (λ (x : State). Gains a (text x d 0) b) o w.0);
+    all_at_0 = λ _. subst (λ (x : List Entry). Gains a (text opened_state x 0) b) (sym k) (subst (λ (x : Moment). Gains a (text x d 0) b) o w.0);
     front_at_4 = λ r. none_at n 0 4 e r 0≢4;
     front_at_8 = λ r. none_at n 0 8 e r 0≢8;
   };
 }
 
 -- a write of it failed
-pub performs_fault : (a b : Option (List ℕ)) (f g n : ℕ) (s : State) (d h : List Entry) → n ≡ 4 → s ≡ opened_state → h ≡ d → IsOneThread opened_state h
+pub performs_fault : (a b : Option (List ℕ)) (f g n : ℕ) (s : Moment) (d h : List Entry) → n ≡ 4 → s ≡ opened_state → h ≡ d → IsOneThread opened_state h
     → GainsFront a (text s d 0) b × Rose f g → Performs (Same d) (Same d) Nothing opened_state a b f g n h
 performs_fault a b f g n s d h e o k t w = record {
   ends = inl (inr e);
@@ -103,20 +110,20 @@ performs_fault a b f g n s d h e o k t w = record {
   thread = t;
   text = record {
     all_at_0 = λ r. none_at n 4 0 e r 4≢0;
-    front_at_4 = λ _. subst (λ (x : List Entry). GainsFront a (text opened_state x 0) b) (sym k) (subst (λ (x : State). GainsFront a (text x d 0) b) o w.0);
+    front_at_4 = λ _. subst (λ (x : List Entry). GainsFront a (text opened_state x 0) b) (sym k) (subst (λ (x : Moment). GainsFront a (text x d 0) b) o w.0);
     front_at_8 = λ r. none_at n 4 8 e r 4≢8;
   };
 }
 
-cut_of : (a b : Option (List ℕ)) (s : State) (d h : List Entry) → s ≡ opened_state → h ≡ d → GainsFront a (text s d 8) b → WritesCut opened_state a b h
+cut_of : (a b : Option (List ℕ)) (s : Moment) (d h : List Entry) → s ≡ opened_state → h ≡ d → GainsFront a (text s d 8) b → WritesCut opened_state a b h
 cut_of a b s d h o k w = record {
   written = text opened_state h 8;
   is_cut = inl refl;
-  front = subst (λ (x : List Entry). GainsFront a (text opened_state x 8) b) (sym k) (subst (λ (x : State). GainsFront a (text x d 8) b) o w);
+  front = subst (λ (x : List Entry). GainsFront a (text opened_state x 8) b) (sym k) (subst (λ (x : Moment). GainsFront a (text x d 8) b) o w);
 }
 
 -- memory wanted while it was printed
-pub performs_want : (a b : Option (List ℕ)) (f g n : ℕ) (s : State) (d h : List Entry) → n ≡ 8 → s ≡ opened_state → h ≡ d → IsOneThread opened_state h
+pub performs_want : (a b : Option (List ℕ)) (f g n : ℕ) (s : Moment) (d h : List Entry) → n ≡ 8 → s ≡ opened_state → h ≡ d → IsOneThread opened_state h
     → GainsFront a (report_from s d) b × (g ≡ f) → Performs (Same d) (Same d) Nothing opened_state a b f g n h
 performs_want a b f g n s d h e o k t w = record {
   ends = inr e;
@@ -126,13 +133,13 @@ performs_want a b f g n s d h e o k t w = record {
   text = text_at_8 opened_state a b n h e (cut_of a b s d h o k (front_part a b (report_from s d) (status_line 8) w.0));
 }
 
-front_of_run : {T : Type 0} (a b : Option (List ℕ)) (f g : ℕ) (s : State) (d : List Entry) (m : ℕ) (r : Result T Unwritten) → WritesRun a b f g s d m r → GainsFront a (text s d m) b
+front_of_run : {T : Type 0} (a b : Option (List ℕ)) (f g : ℕ) (s : Moment) (d : List Entry) (m : ℕ) (r : Result T Unwritten) → WritesRun a b f g s d m r → GainsFront a (text s d m) b
 front_of_run a b f g s d m (Ok x) w = all_is_front a b (text s d m) w.0
 front_of_run a b f g s d m (Err Fault) w = w.0
 front_of_run a b f g s d m (Err Memory) w = front_part a b (report_from s d) (status_line m) w.0
 
 -- memory wanted before the script's end
-pub performs_cut : {T : Type 0} (a b : Option (List ℕ)) (f g n : ℕ) (s : State) (d h : List Entry) (r : Result T Unwritten) → n ≡ 8 → s ≡ opened_state → h ≡ d → IsOneThread opened_state h
+pub performs_cut : {T : Type 0} (a b : Option (List ℕ)) (f g n : ℕ) (s : Moment) (d h : List Entry) (r : Result T Unwritten) → n ≡ 8 → s ≡ opened_state → h ≡ d → IsOneThread opened_state h
     → WritesRun a b f g s d 8 r → Performs Nothing (Same d) (Same d) opened_state a b f g n h
 performs_cut a b f g n s d h r e o k t w = record {
   ends = inr e;
@@ -147,7 +154,7 @@ right_of m (inl x) = inl x
 right_of m (inr y) = inr (m y)
 
 -- the same, said of the histories in other words
-pub performs_as : (A F S B G T : List Entry → Type 0) (opened : State) (a b : Option (List ℕ)) (f g n : ℕ) (h : List Entry)
+pub performs_as : (A F S B G T : List Entry → Type 0) (opened : Moment) (a b : Option (List ℕ)) (f g n : ℕ) (h : List Entry)
     → (A h → B h) → (F h → G h) → (S h → T h) → Performs A F S opened a b f g n h → Performs B G T opened a b f g n h
 performs_as A F S B G T opened a b f g n h all some stopped p = record {
   ends = p.ends;
@@ -162,5 +169,5 @@ performs_as A F S B G T opened a b f g n h all some stopped p = record {
 }
 
 -- nothing was done, said of other histories
-pub performs_none : (A F S : List Entry → Type 0) (opened : State) (a b : Option (List ℕ)) (f g n : ℕ) (h : List Entry) → Performs Nothing Nothing Nothing opened a b f g n h → Performs A F S opened a b f g n h
+pub performs_none : (A F S : List Entry → Type 0) (opened : Moment) (a b : Option (List ℕ)) (f g n : ℕ) (h : List Entry) → Performs Nothing Nothing Nothing opened a b f g n h → Performs A F S opened a b f g n h
 performs_none A F S opened a b f g n h p = performs_as Nothing Nothing Nothing A F S opened a b f g n h (λ x. absurd x) (λ x. absurd x) (λ x. absurd x) p

@@ -1,16 +1,18 @@
 -- What a response tells of the bytes that were read.
-use Rattle.std.proofs.Common.{◌≡◌, ◌⊎◌, inl, inr, ℕ, List, [], ◌∷◌, ◌++◌, map, Option, refl, ◌∙◌, ap, subst}
+use Rattle.std.proofs.Common.{◌≡◌, ◌⊎◌, inl, inr, ℕ, true, List, [], Option, sym, subst}
 use Rattle.std.specs.Prelude.{Result, Err, MatchResult}
 use Rattle.script_lang.specs.declared.script.Script.{Script}
 use Rattle.script_words.specs.declared.error.ScriptError.{ScriptError}
 use Rattle.script_words.specs.declared.error.ScriptError.TheVariants.{BadLine, Memory}
 use Rattle.script_lang.specs.Scripts.{IsScript, IsFirstBad}
-use Rattle.lone_event.specs.declared.entry.Entry.{Entry}
-use Rattle.lone_core.specs.Sessions.{Session}
-use Rattle.ws_top.specs.Inside.Asking.{DoesCalls, DoesFront}
+use Rattle.core_event.specs.declared.entry.Entry.{Entry}
+use Rattle.ws_core.specs.States.{Moment}
+use Rattle.ws_core.specs.Histories.{has_entered, replay}
+use Rattle.ws_core.specs.Sessions.{Session}
+use Rattle.run_order.proofs.Whole.{cut_of_shuffle}
+use Rattle.phase_run.specs.Plans.{Made, phases_plan}
 use Rattle.ws_top.specs.Inside.Parts.{Nothing, Same, Performs, Responds}
 use Rattle.ws_top.specs.Outcomes.{opened_state, SpellsNone, Shuffle, CutShuffle, StoppedShuffle, Spelled, Writes}
-use Rattle.ws_top.specs.Runs.{call_of, calls}
 use Rattle.ws_top.specs.Texts.{bad_line}
 use Rattle.ws_top.proofs.Performed.{performs_as, performs_none}
 
@@ -42,37 +44,21 @@ pub responds_bad : (bytes : List ℕ) (line : ℕ) (a b : Option (List ℕ)) (f 
 responds_bad bytes line a b f g n h none place (inl (e, z, w)) = inr (record { ends = e; none = none; nothing = z; line = line; place = place; written = w })
 responds_bad bytes line a b f g n h none place (inr p) = responds_nothing bytes a b f g n h p
 
--- the calls of a script were made from the start
-pub all_made : (old new : Session) (script : Script) (h : List Entry) → old.history ≡ [] → DoesCalls old new (calls script.phases) → Same new.history h → Shuffle script h
-all_made old new script h z d s = ap (map call_of) s ∙ d.asked ∙ ap (λ (k : List Entry). map call_of k ++ calls script.phases) z
-
--- the first ones were made, and not all
-pub some_made : (old new : Session) (script : Script) (h : List Entry) → old.history ≡ [] → DoesFront old new (calls script.phases) → Same new.history h → StoppedShuffle script h
-some_made old new script h z d s = (
-  d.front.next,
-  d.front.later,
-  ap (λ (k : List Entry). map call_of k ++ d.front.next ∷ d.front.later) s ∙ d.front.front ∙ ap (λ (k : List Entry). map call_of k ++ calls script.phases) z,
-)
-
-pub cut_made : (script : Script) (h : List Entry) → StoppedShuffle script h → CutShuffle script h
-cut_made script h (next, later, e) = (next ∷ later, e)
-
 -- the whole script was run
-pub performed : (old new : Session) (script : Script) (a b : Option (List ℕ)) (f g n : ℕ) (h : List Entry) → old.history ≡ [] → DoesCalls old new (calls script.phases)
+pub performed : (new : Session) (script : Script) (a b : Option (List ℕ)) (f g n : ℕ) (h : List Entry) → Shuffle script new.history
     → Performs (Same new.history) (Same new.history) Nothing opened_state a b f g n h → Performs (Shuffle script) (CutShuffle script) (StoppedShuffle script) opened_state a b f g n h
-performed old new script a b f g n h z d p = performs_as (Same new.history) (Same new.history) Nothing (Shuffle script) (CutShuffle script) (StoppedShuffle script) opened_state a b f g n h
-    (λ s. all_made old new script h z d s)
-    (λ s. ([], append_nil_of (map call_of h) ∙ all_made old new script h z d s))
+performed new script a b f g n h whole p = performs_as (Same new.history) (Same new.history) Nothing (Shuffle script) (CutShuffle script) (StoppedShuffle script) opened_state a b f g n h
+    (λ s. subst (Shuffle script) (sym s) whole)
+    (λ s. subst (CutShuffle script) (sym s) (cut_of_shuffle Made opened_state (phases_plan script.phases) 1 new.history whole))
     (λ x. absurd x) p
-  where
-    append_nil_of : {A : Type 0} (xs : List A) → xs ++ [] ≡ xs
-    append_nil_of [] = refl
-    append_nil_of (x ∷ xs) = ap (λ ys. x ∷ ys) (append_nil_of xs)
 
--- it was run up to a call
-pub performed_cut : (old new : Session) (script : Script) (a b : Option (List ℕ)) (f g n : ℕ) (h : List Entry) → old.history ≡ [] → DoesFront old new (calls script.phases)
+-- it was run as far as memory sufficed
+pub performed_cut : (new : Session) (script : Script) (a b : Option (List ℕ)) (f g n : ℕ) (h : List Entry) → StoppedShuffle script new.history
     → Performs Nothing (Same new.history) (Same new.history) opened_state a b f g n h → Performs (Shuffle script) (CutShuffle script) (StoppedShuffle script) opened_state a b f g n h
-performed_cut old new script a b f g n h z d p = performs_as Nothing (Same new.history) (Same new.history) (Shuffle script) (CutShuffle script) (StoppedShuffle script) opened_state a b f g n h
+performed_cut new script a b f g n h stopped p = performs_as Nothing (Same new.history) (Same new.history) (Shuffle script) (CutShuffle script) (StoppedShuffle script) opened_state a b f g n h
     (λ x. absurd x)
-    (λ s. cut_made script h (some_made old new script h z d s))
-    (λ s. some_made old new script h z d s) p
+    (λ s. subst (CutShuffle script) (sym s) stopped.cut)
+    (λ s. subst (StoppedShuffle script) (sym s) stopped) p
+
+pub stopped_of : (script : Script) (opened : Moment) (h : List Entry) → opened ≡ opened_state → CutShuffle script h → (h ≡ []) ⊎ (has_entered 1 (replay opened h) ≡ true) → StoppedShuffle script h
+stopped_of script opened h is cut there = record { cut = cut; there = subst (λ s. (h ≡ []) ⊎ (has_entered 1 (replay s h) ≡ true)) is there }

@@ -1,6 +1,5 @@
 pub mod Forms
 pub mod Limits
 pub mod Texts
-pub mod Runs
 pub mod Outcomes
 pub mod Inside

@@ -1,21 +1,26 @@
 -- What a run read, did and wrote, by its status.
-use Rattle.std.specs.Prelude.{◌≡◌, ◌≢◌, ◌⊎◌, ◌↔◌, ◌≤◌, ℕ, List, [], ◌∷◌, ◌++◌, map, length, Option, Some, None}
+use Rattle.std.specs.Prelude.{◌≡◌, ◌≢◌, ◌⊎◌, ◌↔◌, ◌≤◌, ℕ, true, List, [], ◌∷◌, ◌++◌, map, take, length, Option, Some, None}
+use Rattle.sched_rules.specs.Atoms.{atom_contains, atom_conflicts}
+use Rattle.rule_table.specs.Tables.{IsApart}
+use Rattle.delta_kind.specs.declared.node.DeltaNode.{DeltaNode}
 use Rattle.ws_outside.specs.Faults.{Rose}
 use Rattle.ws_outside.specs.Streams.{Gains, GainsFront, IsAtEnd}
 use Rattle.script_lang.specs.declared.script.Script.{Script}
 use Rattle.script_lang.specs.Scripts.{IsScript, IsFirstBad}
-use Rattle.lone_event.specs.declared.entry.Entry.{Entry}
-use Rattle.lone_core.specs.declared.state.State.{State}
-use Rattle.lone_core.specs.Histories.{fresh, Legal, notices, told_of}
+use Rattle.core_event.specs.declared.entry.Entry.{Entry}
+use Rattle.ws_core.specs.States.{Moment}
+use Rattle.ws_core.specs.Histories.{fresh, has_entered, replay, Legal, notices, told_of}
+use Rattle.run_order.specs.Orders as order
+use Rattle.save_parts.specs.Heard.{Heard, HeardMore}
+use Rattle.phase_run.specs.Plans.{Made, phases_plan}
 use Rattle.ws_top.specs.declared.words.Form.{Form}
 use Rattle.ws_top.specs.declared.words.Form.TheVariants.{Help, Version}
 use Rattle.ws_top.specs.Forms.{IsRun, help_text, version_text}
 use Rattle.ws_top.specs.Limits.{longest, Reads, ReadsAll, ReadsShort, ReadsLong}
 use Rattle.ws_top.specs.Texts.{text, status_line, bad_line}
-use Rattle.ws_top.specs.Runs.{Call, call_of, calls}
 
 -- the state that a run opens
-abbrev pub opened_state : State
+abbrev pub opened_state : Moment
 opened_state = fresh
 
 -- ---- statuses
@@ -63,17 +68,18 @@ pub record TellsWriteFault (before after status : ℕ) (WantedBefore : Type 0) :
 abbrev pub SpellsNone : List ℕ → Type 0
 SpellsNone bytes = (script : Script) → IsScript bytes script → ⊥
 
--- one worker made the calls of the script, each once and in order
+-- one worker ran the phases of the script, to their end
 abbrev pub Shuffle : Script → List Entry → Type 0
-Shuffle script h = map call_of h ≡ calls script.phases
+Shuffle script h = order.Shuffle Made opened_state (phases_plan script.phases) 1 h
 
--- the same, up to a call at which it stopped
+-- the same, as far as it came
 abbrev pub CutShuffle : Script → List Entry → Type 0
-CutShuffle script h = (others : List Call) × (map call_of h ++ others ≡ calls script.phases)
+CutShuffle script h = order.CutShuffle Made opened_state (phases_plan script.phases) 1 h
 
--- the same, and at least one call was not made
-abbrev pub StoppedShuffle : Script → List Entry → Type 0
-StoppedShuffle script h = (next : Call) × (later : List Call) × (map call_of h ++ next ∷ later ≡ calls script.phases)
+-- the same, and the worker hasn't left: it is still there, or never entered
+pub record StoppedShuffle (script : Script) (h : List Entry) : Type 0 where
+  pub cut : CutShuffle script h
+  pub there : (h ≡ []) ⊎ (has_entered 1 (replay opened_state h) ≡ true)
 
 -- the bytes spell a script, and what was run is made of it in this way
 pub record Spelled (Made : Script → List Entry → Type 0) (bytes : List ℕ) (h : List Entry) : Type 0 where
@@ -97,15 +103,23 @@ RanAll = Ran Shuffle
 abbrev pub RanSome : Option (List ℕ) → Option (List ℕ) → List Entry → Type 0
 RanSome = Ran CutShuffle
 
--- memory wanted before the run's end: nothing was done, or at least one call was not made
+-- memory wanted before the run's end: nothing was done, or the worker hasn't left
 abbrev pub WasStopped : Option (List ℕ) → Option (List ℕ) → List Entry → Type 0
 WasStopped old new h = (h ≡ []) ⊎ Ran StoppedShuffle old new h
 
 -- The run's history is one thread's: from the opened state each reply is the one that the table of steps gives at its
--- place, and each notice is the delta between two telling places.
-pub record IsOneThread (opened : State) (h : List Entry) : Type 0 where
+-- place, and each notice is the delta between two telling places. No two jobs ever hold conflicting rules: at each front
+-- of the history each rule lies within those that its pass began before, and no rules of two passes conflict.
+pub record IsOneThread (opened : Moment) (h : List Entry) : Type 0 where
   pub legal : Legal opened h
   pub told : told_of h ≡ notices opened h
+  pub apart : (n : ℕ) → IsApart atom_contains atom_conflicts (replay opened (take n h)).manager.passes.rules
+
+-- What listeners were told: each the notices of the history, in order, after what it had been told; where memory wanted
+-- some of the first of them.
+pub record HearsNotices (opened : Moment) (status : ℕ) (h : List Entry) (old new : List Heard) : Type 0 where
+  pub all_else : status ≢ 8 → HeardMore (notices opened h) old new
+  pub front_at_8 : status ≡ 8 → (front : List (List DeltaNode)) × (rest : List (List DeltaNode)) × (notices opened h ≡ front ++ rest) × HeardMore front old new
 
 -- What was done: `All` says that it is all of the script, `Front` that it is a front of it.
 pub record DoesScript (All Front : List Entry → Type 0) (status : ℕ) (h : List Entry) : Type 0 where
@@ -115,18 +129,18 @@ pub record DoesScript (All Front : List Entry → Type 0) (status : ℕ) (h : Li
 -- ---- what is written
 
 -- the text of a want of memory: of what was done and the status, or the status alone where nothing was opened
-abbrev pub IsTextCut : State → List Entry → List ℕ → Type 0
+abbrev pub IsTextCut : Moment → List Entry → List ℕ → Type 0
 IsTextCut opened h written = (written ≡ text opened h 8) ⊎ ((h ≡ []) × (written ≡ status_line 8))
 
 -- some front of that text was written
-pub record WritesCut (opened : State) (old new : Option (List ℕ)) (h : List Entry) : Type 0 where
+pub record WritesCut (opened : Moment) (old new : Option (List ℕ)) (h : List Entry) : Type 0 where
   pub written : List ℕ
   pub is_cut : IsTextCut opened h written
   pub front : GainsFront old written new
 
 -- What was written is the text of what was done: all of it, a front of it where a write failed, or a front of the text of
 -- a want of memory.
-pub record WritesText (opened : State) (old new : Option (List ℕ)) (status : ℕ) (h : List Entry) : Type 0 where
+pub record WritesText (opened : Moment) (old new : Option (List ℕ)) (status : ℕ) (h : List Entry) : Type 0 where
   pub all_at_0 : status ≡ 0 → Gains old (text opened h 0) new
   pub front_at_4 : status ≡ 4 → GainsFront old (text opened h 0) new
   pub front_at_8 : status ≡ 8 → WritesCut opened old new h
@@ -162,7 +176,7 @@ Completes left ReadFailed WriteFailed status = (ReadFailed → ⊥) → (WriteFa
     → (bytes : List ℕ) (script : Script) → left ≡ Some bytes → length bytes ≤ longest → IsScript bytes script → (status ≡ 0) ⊎ (status ≡ 8)
 
 -- The source `left` what it had to read, and the sink went from `old` to `new`.
-pub record RunsScript (opened : State) (left after_reading old new : Option (List ℕ)) (before after status : ℕ) (h : List Entry) : Type 0 where
+pub record RunsScript (opened : Moment) (left after_reading old new : Option (List ℕ)) (before after status : ℕ) (h : List Entry) : Type 0 where
   pub to_its_end : WasRead status → IsAtEnd after_reading
   pub judged : WasRead status → Judges left after_reading status
   pub nothing_if_idle : WasIdle status → h ≡ []

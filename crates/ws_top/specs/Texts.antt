@@ -1,25 +1,25 @@
 -- The text of a run.
 use Rattle.std.specs.Prelude.{ℕ, List, ◌++◌, codes, decimal}
 use Rattle.delta_kind.specs.Deltas.{delta}
-use Rattle.lone_event.specs.declared.entry.Entry.{Entry}
+use Rattle.core_event.specs.declared.entry.Entry.{Entry}
 use Rattle.report_text.specs.Deltas.{delta_lines}
-use Rattle.lone_text.specs.Lines.{history_lines}
-use Rattle.lone_core.specs.declared.state.State.{State}
-use Rattle.lone_core.specs.Histories.{replay}
+use Rattle.run_text.specs.Lines.{history_lines}
+use Rattle.ws_core.specs.States.{Moment}
+use Rattle.ws_core.specs.Histories.{replay}
 
 -- what changed since the state was opened
-abbrev pub changes_from : State → List Entry → List ℕ
-changes_from opened h = codes "since start\n" ++ delta_lines (delta opened.tree (replay opened h).tree)
+abbrev pub changes_from : Moment → List Entry → List ℕ
+changes_from opened h = codes "since start\n" ++ delta_lines (delta opened.resources.tree (replay opened h).resources.tree)
 
 -- what is written of a history from a state on, before the status: its entries, and what changed since that state
-abbrev pub report_from : State → List Entry → List ℕ
+abbrev pub report_from : Moment → List Entry → List ℕ
 report_from opened h = history_lines h ++ changes_from opened h
 
 abbrev pub status_line : ℕ → List ℕ
 status_line n = codes "status " ++ decimal n ++ codes "\n"
 
 -- the text of a run: what was done since the state was opened, what changed, and the status
-abbrev pub text : State → List Entry → ℕ → List ℕ
+abbrev pub text : Moment → List Entry → ℕ → List ℕ
 text opened h n = report_from opened h ++ status_line n
 
 abbrev pub bad_line : ℕ → List ℕ

@@ -3,14 +3,16 @@ ghost use Rattle.std.specs.Prelude.{◌≡◌, ◌↔◌, ◌⊎◌, [], map, st
 ghost use Rattle.ws_outside.specs.Faults.{Rose};
 ghost use Rattle.ws_top.specs.Forms.{form_of, IsRun, help_text, version_text};
 ghost use Rattle.ws_top.specs.Inside.Parts.{unread_status, EndsRun};
-ghost use Rattle.ws_top.specs.Outcomes.{opened_state, IsStatus, TellsReadFault, TellsWriteFault, WasStopped, Completes, ReadsNoMore, IsOneThread, RunsScript, WasUnread, Writes, Tells, DoesNothing, EndsProgram};
+ghost use Rattle.ws_top.specs.Outcomes.{opened_state, IsStatus, TellsReadFault, TellsWriteFault, WasStopped, Completes, ReadsNoMore, IsOneThread, HearsNotices, RunsScript, WasUnread, Writes, Tells, DoesNothing, EndsProgram};
 ghost use Rattle.ws_top.specs.Texts.{status_line};
 
 use crate::NoMemory;
+use crate::kit::Kit;
 use crate::reading::{Unread, read_all};
 use crate::response::{Outcome, nothing_done, respond, stop};
 use crate::words::{self, Form};
-use lone_text::write_all;
+use run_text::write_all;
+use save_parts::Listener;
 use std::alloc::Global;
 use ws_outside::{Sink, Source};
 
@@ -19,14 +21,15 @@ const HELP: &str =
 
 const VERSION: &str = "wsrun 0.1.0\n";
 
-/// Runs the program: reads the script from the source, runs it on a fresh workspace and writes to the sink what was
-/// asked, answered and told.
-pub fn top<S: Source, K: Sink>(
+/// Runs the program: reads the script from the source, runs it on a fresh workspace by one worker, tells the listeners
+/// after each phase what it changed, and writes to the sink what was asked, answered and told.
+pub fn top<S: Source, K: Sink, L: Listener>(
     alloc: Global,
     words: &[String],
     source: &mut S,
     sink: &mut K,
-) -> Outcome
+    kit: Kit<L>,
+) -> Outcome<L>
     // which status it is
     ensures status { IsStatus result.status }
     ensures usage { (result.status ≡ 2) ↔ (form_of (map string_bytes words.now) ≡ None) }
@@ -38,6 +41,7 @@ pub fn top<S: Source, K: Sink>(
     // what is done, and what of it is written
     ensures thread { IsOneThread opened_state result.history }
     ensures runs { IsRun (form_of (map string_bytes words.now)) → RunsScript opened_state (S.left source.old) (S.left source.new) (K.written sink.old) (K.written sink.new) (K.faults sink.old) (K.faults sink.new) result.status result.history }
+    ensures heard { HearsNotices opened_state result.status result.history (map (λ l. L.heard l) kit.listeners) (map (λ l. L.heard l) result.kit.listeners) }
     ensures line { WasUnread result.status → Writes (K.written sink.old) (K.written sink.new) (K.faults sink.old) (K.faults sink.new) (status_line result.status) }
     // the two other forms write their text and do nothing
     ensures help { form_of (map string_bytes words.now) ≡ Some Form.Help → Tells help_text (K.written sink.old) (K.written sink.new) (K.faults sink.old) (K.faults sink.new) result.status }
@@ -45,65 +49,80 @@ pub fn top<S: Source, K: Sink>(
     ensures unread { (IsRun (form_of (map string_bytes words.now)) → ⊥) → DoesNothing (S.left source.old) (S.left source.new) (S.reads source.old) (S.reads source.new) (S.faults source.old) (S.faults source.new) result.history }
 {
     match words::form_of(words) {
-        None => stop(alloc, sink, 2, b"status 2\n"),
-        Some(Form::Help) => tell(alloc, sink, HELP),
-        Some(Form::Version) => tell(alloc, sink, VERSION),
-        Some(Form::Run) => run(alloc, source, sink),
+        None => stop(alloc, sink, kit, 2, b"status 2\n"),
+        Some(Form::Help) => tell(alloc, sink, kit, HELP),
+        Some(Form::Version) => tell(alloc, sink, kit, VERSION),
+        Some(Form::Run) => run(alloc, source, sink, kit),
     }
 }
 
 /// Runs the program as `top` does, on the words with which it was called. Where memory wanted for these, the status is 8
 /// and nothing is read.
-pub fn answer<S: Source, K: Sink>(
+pub fn answer<S: Source, K: Sink, L: Listener>(
     alloc: Global,
     words: Result<Vec<String>, NoMemory>,
     source: &mut S,
     sink: &mut K,
-) -> Outcome
+    kit: Kit<L>,
+) -> Outcome<L>
     ensures ends { IfOk words (λ given. EndsProgram (form_of (map string_bytes given.items)) (S.left source.old) (S.left source.new) (S.reads source.old) (S.reads source.new) (S.faults source.old) (S.faults source.new)
         (K.written sink.old) (K.written sink.new) (K.faults sink.old) (K.faults sink.new) result.status result.history) }
+    ensures heard { HearsNotices opened_state result.status result.history (map (λ l. L.heard l) kit.listeners) (map (λ l. L.heard l) result.kit.listeners) }
     ensures memory { IfErr words (λ _. result.status ≡ 8) }
     ensures unread { IfErr words (λ _. DoesNothing (S.left source.old) (S.left source.new) (S.reads source.old) (S.reads source.new) (S.faults source.old) (S.faults source.new) result.history) }
     ensures line { IfErr words (λ _. Writes (K.written sink.old) (K.written sink.new) (K.faults sink.old) (K.faults sink.new) (status_line 8)) }
 {
     match words {
-        Ok(words) => top(alloc, words.as_slice(), source, sink),
-        Err(_) => stop(alloc, sink, 8, b"status 8\n"),
+        Ok(words) => top(alloc, words.as_slice(), source, sink, kit),
+        Err(_) => stop(alloc, sink, kit, 8, b"status 8\n"),
     }
 }
 
 /// Writes a text of the program's own, where nothing else is asked.
-fn tell<K: Sink>(alloc: Global, sink: &mut K, text: &str) -> Outcome
+fn tell<K: Sink, L: Listener>(alloc: Global, sink: &mut K, kit: Kit<L>, text: &str) -> Outcome<L>
     ensures tells { Tells text.now (K.written sink.old) (K.written sink.new) (K.faults sink.old) (K.faults sink.new) result.status }
     ensures calm { result.status ≡ 0 → K.faults sink.new ≡ K.faults sink.old }
     ensures nothing { result.history ≡ [] }
+    ensures heard { HearsNotices opened_state result.status result.history (map (λ l. L.heard l) kit.listeners) (map (λ l. L.heard l) result.kit.listeners) }
 {
     match write_all(sink, text.as_bytes()) {
-        Ok(()) => nothing_done(alloc, 0),
-        Err(_) => nothing_done(alloc, 4),
+        Ok(()) => nothing_done(alloc, kit, 0),
+        Err(_) => nothing_done(alloc, kit, 4),
     }
 }
 
 /// Reads the script and runs it.
-fn run<S: Source, K: Sink>(alloc: Global, source: &mut S, sink: &mut K) -> Outcome
+fn run<S: Source, K: Sink, L: Listener>(
+    alloc: Global,
+    source: &mut S,
+    sink: &mut K,
+    kit: Kit<L>,
+) -> Outcome<L>
     ensures ends { EndsRun opened_state (S.left source.old) (S.left source.new) (S.reads source.old) (S.reads source.new) (S.faults source.old) (S.faults source.new)
         (K.written sink.old) (K.written sink.new) (K.faults sink.old) (K.faults sink.new) result.status result.history }
+    ensures heard { HearsNotices opened_state result.status result.history (map (λ l. L.heard l) kit.listeners) (map (λ l. L.heard l) result.kit.listeners) }
 {
     match read_all(alloc, source) {
-        Ok(bytes) => respond(alloc, sink, bytes),
-        Err(error) => stop_unread(alloc, sink, error),
+        Ok(bytes) => respond(alloc, sink, kit, bytes),
+        Err(error) => stop_unread(alloc, sink, kit, error),
     }
 }
 
 /// Tells why the source was not read to its end.
-fn stop_unread<K: Sink>(alloc: Global, sink: &mut K, error: Unread) -> Outcome
+fn stop_unread<K: Sink, L: Listener>(
+    alloc: Global,
+    sink: &mut K,
+    kit: Kit<L>,
+    error: Unread,
+) -> Outcome<L>
     ensures status { result.status ≡ unread_status error }
     ensures nothing { result.history ≡ [] }
+    ensures heard { HearsNotices opened_state result.status result.history (map (λ l. L.heard l) kit.listeners) (map (λ l. L.heard l) result.kit.listeners) }
     ensures line { Writes (K.written sink.old) (K.written sink.new) (K.faults sink.old) (K.faults sink.new) (status_line (unread_status error)) }
 {
     match error {
-        Unread::Fault => stop(alloc, sink, 3, b"status 3\n"),
-        Unread::TooLong => stop(alloc, sink, 9, b"status 9\n"),
-        Unread::Memory => stop(alloc, sink, 8, b"status 8\n"),
+        Unread::Fault => stop(alloc, sink, kit, 3, b"status 3\n"),
+        Unread::TooLong => stop(alloc, sink, kit, 9, b"status 9\n"),
+        Unread::Memory => stop(alloc, sink, kit, 8, b"status 8\n"),
     }
 }

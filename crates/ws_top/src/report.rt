@@ -1,13 +1,14 @@
 //! What was done, and what changed since the start, is written to a sink.
 ghost use Rattle.std.specs.Prelude.{◌≡◌};
-ghost use Rattle.lone_text.specs.Printing.{Printed};
+ghost use Rattle.run_text.specs.Printing.{Printed};
 ghost use Rattle.ws_top.specs.Inside.Parts.{WritesLast, WritesReport, WritesRun};
 ghost use Rattle.ws_top.specs.Texts.{changes_from, report_from, status_line};
 
-use lone_core::Core;
-use lone_text::{Unwritten, print_entries, print_headed, write_all};
+use elem_tree::LayerTree;
+use run_text::{Unwritten, print_entries, print_headed, write_all};
 use std::alloc::Global;
 use std::mem;
+use ws_core::Core;
 use ws_outside::Sink;
 
 /// Prints what changed since the start.
@@ -15,7 +16,7 @@ fn print_changes<K: Sink>(
     sink: &mut K,
     out: &mut Vec<u8>,
     alloc: Global,
-    core: &Core,
+    core: &Core<LayerTree>,
 ) -> Result<(), Unwritten>
     ensures printed { Printed (K.written sink.old) (K.written sink.new) (K.faults sink.old) (K.faults sink.new) out.old.items (changes_from core.now.opened core.now.history) out.new.items result }
 {
@@ -34,7 +35,7 @@ fn print_report<K: Sink>(
     sink: &mut K,
     out: &mut Vec<u8>,
     alloc: Global,
-    core: &Core,
+    core: &Core<LayerTree>,
 ) -> Result<(), Unwritten>
     ensures printed { Printed (K.written sink.old) (K.written sink.new) (K.faults sink.old) (K.faults sink.new) out.old.items (report_from core.now.opened core.now.history) out.new.items result }
 {
@@ -46,7 +47,11 @@ fn print_report<K: Sink>(
 
 /// Writes what was done and what changed since the start, all of it where nothing fails. What is written before a want
 /// of memory or a failed write is a front of it.
-fn write_report<K: Sink>(sink: &mut K, alloc: Global, core: &Core) -> Result<(), Unwritten>
+fn write_report<K: Sink>(
+    sink: &mut K,
+    alloc: Global,
+    core: &Core<LayerTree>,
+) -> Result<(), Unwritten>
     ensures written { WritesReport (K.written sink.old) (K.written sink.new) (K.faults sink.old) (K.faults sink.new) (report_from core.now.opened core.now.history) result }
 {
     let mut out = Vec::new(alloc);
@@ -70,7 +75,7 @@ fn write_last<K: Sink>(sink: &mut K, bytes: &[u8]) -> Result<(), Unwritten>
 pub fn write_run<K: Sink>(
     sink: &mut K,
     alloc: Global,
-    core: &Core,
+    core: &Core<LayerTree>,
     status: u8,
     line: &[u8],
 ) -> Result<(), Unwritten>

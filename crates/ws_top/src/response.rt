@@ -1,60 +1,86 @@
 //! A script is run, and what was done is written.
-ghost use Rattle.std.specs.Prelude.{◌≡◌, ◌⊎◌, ◌++◌, [], OnOk};
+ghost use Rattle.std.specs.Prelude.{◌≡◌, ◌⊎◌, ◌++◌, ℕ, [], map, take, OnOk};
+ghost use Rattle.sched_rules.specs.Atoms.{atom_contains, atom_conflicts};
+ghost use Rattle.rule_table.specs.Tables.{IsApart};
+ghost use Rattle.ws_core.specs.Histories.{replay};
 ghost use Rattle.ws_top.specs.Inside.Parts.{Nothing, Same, Performs, Responds};
-ghost use Rattle.ws_top.specs.Outcomes.{opened_state, Shuffle, CutShuffle, StoppedShuffle, IsOneThread, Writes};
+ghost use Rattle.ws_top.specs.Outcomes.{opened_state, Shuffle, CutShuffle, StoppedShuffle, IsOneThread, HearsNotices, Writes};
 ghost use Rattle.ws_top.specs.Texts.{status_line, bad_line};
 
 use crate::NoMemory;
-use crate::job_run::run_phases;
+use crate::kit::Kit;
 use crate::report::write_run;
 use bytes::Bytes;
-use lone_core::{Core, History};
-use lone_text::{Unwritten, write_all};
+use elem_tree::LayerTree;
+use phase_run::run_phases;
 use report_text::{put_counted, put_text};
+use run_text::{Unwritten, write_all};
+use save_parts::Listener;
 use script_lang::{Script, ScriptError, parse_shared};
 use std::alloc::Global;
+use ws_core::{Core, History};
 use ws_outside::Sink;
 
 /// What a run ended with.
 #[derive(Drop)]
-pub struct Outcome {
+pub struct Outcome<L: Listener> {
     /// 0; or 2 for words of no form, 3 for a failed read, 9 for too long a script, 6 for bytes that spell no script,
     /// 8 for want of memory, 4 for a failed write; the first of these that applies.
     pub status: u8,
     /// What was done, in order.
     pub history: History,
+    /// What the caller brought.
+    pub kit: Kit<L>,
 }
 
 /// Runs the script that the bytes spell.
-pub fn respond<K: Sink>(alloc: Global, sink: &mut K, bytes: Vec<u8>) -> Outcome
+pub fn respond<K: Sink, L: Listener>(
+    alloc: Global,
+    sink: &mut K,
+    kit: Kit<L>,
+    bytes: Vec<u8>,
+) -> Outcome<L>
     ensures responds { Responds opened_state bytes.items (K.written sink.old) (K.written sink.new) (K.faults sink.old) (K.faults sink.new) result.status result.history }
+    ensures heard { HearsNotices opened_state result.status result.history (map (λ l. L.heard l) kit.listeners) (map (λ l. L.heard l) result.kit.listeners) }
 {
     match Bytes::from_vec(bytes) {
-        Ok(text) => respond_to(alloc, sink, text),
-        Err(_) => want(alloc, sink),
+        Ok(text) => respond_to(alloc, sink, kit, text),
+        Err(_) => want(alloc, sink, kit),
     }
 }
 
 /// Runs the script that the text spells.
-fn respond_to<K: Sink>(alloc: Global, sink: &mut K, text: Bytes) -> Outcome
+fn respond_to<K: Sink, L: Listener>(
+    alloc: Global,
+    sink: &mut K,
+    kit: Kit<L>,
+    text: Bytes,
+) -> Outcome<L>
     ensures responds { Responds opened_state text (K.written sink.old) (K.written sink.new) (K.faults sink.old) (K.faults sink.new) result.status result.history }
+    ensures heard { HearsNotices opened_state result.status result.history (map (λ l. L.heard l) kit.listeners) (map (λ l. L.heard l) result.kit.listeners) }
 {
     match parse_shared(alloc, text) {
-        Ok(script) => perform(alloc, sink, script),
-        Err(ScriptError::BadLine(line)) => say_bad_line(alloc, sink, line),
-        Err(ScriptError::Memory) => want(alloc, sink),
+        Ok(script) => perform(alloc, sink, kit, script),
+        Err(ScriptError::BadLine(line)) => say_bad_line(alloc, sink, kit, line),
+        Err(ScriptError::Memory) => want(alloc, sink, kit),
     }
 }
 
 /// Tells at which line the reading stopped.
-fn say_bad_line<K: Sink>(alloc: Global, sink: &mut K, line: u64) -> Outcome
+fn say_bad_line<K: Sink, L: Listener>(
+    alloc: Global,
+    sink: &mut K,
+    kit: Kit<L>,
+    line: u64,
+) -> Outcome<L>
     ensures told { ((result.status ≡ 6) × (result.history ≡ []) × Writes (K.written sink.old) (K.written sink.new) (K.faults sink.old) (K.faults sink.new) (bad_line line))
         ⊎ Performs Nothing Nothing Nothing opened_state (K.written sink.old) (K.written sink.new) (K.faults sink.old) (K.faults sink.new) result.status result.history }
+    ensures heard { HearsNotices opened_state result.status result.history (map (λ l. L.heard l) kit.listeners) (map (λ l. L.heard l) result.kit.listeners) }
 {
     let mut text = Vec::new(alloc);
     match put_bad_line(&mut text, line) {
-        Ok(()) => say(alloc, sink, 6, text.as_slice()),
-        Err(_) => want(alloc, sink),
+        Ok(()) => say(alloc, sink, kit, 6, text.as_slice()),
+        Err(_) => want(alloc, sink, kit),
     }
 }
 
@@ -68,97 +94,154 @@ fn put_bad_line(out: &mut Vec<u8>, line: u64) -> Result<(), NoMemory>
 }
 
 /// Runs the script on a fresh workspace.
-fn perform<K: Sink>(alloc: Global, sink: &mut K, script: Script) -> Outcome
+fn perform<K: Sink, L: Listener>(
+    alloc: Global,
+    sink: &mut K,
+    kit: Kit<L>,
+    script: Script,
+) -> Outcome<L>
     ensures performs { Performs (Shuffle script) (CutShuffle script) (StoppedShuffle script) opened_state (K.written sink.old) (K.written sink.new) (K.faults sink.old) (K.faults sink.new) result.status result.history }
+    ensures heard { HearsNotices opened_state result.status result.history (map (λ l. L.heard l) kit.listeners) (map (λ l. L.heard l) result.kit.listeners) }
 {
     match Core::fresh(alloc) {
-        Ok(core) => perform_on(alloc, sink, core, script),
-        Err(_) => want(alloc, sink),
+        Ok(core) => perform_on(alloc, sink, kit, core, script),
+        Err(_) => want(alloc, sink, kit),
     }
 }
 
 /// Runs the script on the workspace that was opened.
-fn perform_on<K: Sink>(alloc: Global, sink: &mut K, core: Core, script: Script) -> Outcome
+fn perform_on<K: Sink, L: Listener>(
+    alloc: Global,
+    sink: &mut K,
+    kit: Kit<L>,
+    core: Core<LayerTree>,
+    script: Script,
+) -> Outcome<L>
     requires opened { core.opened ≡ opened_state }
     requires state { core.state ≡ opened_state }
     requires history { core.history ≡ [] }
     ensures performs { Performs (Shuffle script) (CutShuffle script) (StoppedShuffle script) opened_state (K.written sink.old) (K.written sink.new) (K.faults sink.old) (K.faults sink.new) result.status result.history }
+    ensures heard { HearsNotices opened_state result.status result.history (map (λ l. L.heard l) kit.listeners) (map (λ l. L.heard l) result.kit.listeners) }
 {
     let mut core = core;
-    match run_phases(&mut core, alloc, script.phases) {
-        Ok(()) => report(alloc, sink, core),
-        Err(_) => report_cut(alloc, sink, core),
+    let mut listeners = kit.listeners;
+    match run_phases(&mut core, alloc, &mut listeners, script.phases.as_slice()) {
+        Ok(()) => report(alloc, sink, Kit { listeners }, core),
+        Err(_) => report_cut(alloc, sink, Kit { listeners }, core),
     }
 }
 
 /// Writes what a whole script did.
-fn report<K: Sink>(alloc: Global, sink: &mut K, core: Core) -> Outcome
+fn report<K: Sink, L: Listener>(
+    alloc: Global,
+    sink: &mut K,
+    kit: Kit<L>,
+    core: Core<LayerTree>,
+) -> Outcome<L>
     requires { core.opened ≡ opened_state }
     ensures performs { Performs (Same core.history) (Same core.history) Nothing opened_state (K.written sink.old) (K.written sink.new) (K.faults sink.old) (K.faults sink.new) result.status result.history }
+    ensures history { result.history ≡ core.history }
+    ensures kit { result.kit ≡ kit }
 {
     match write_run(sink, alloc, &core, 0, b"status 0\n") {
-        Ok(()) => ended(core, 0),
-        Err(Unwritten::Fault) => ended(core, 4),
-        Err(Unwritten::Memory) => ended(core, 8),
+        Ok(()) => ended(core, 0, kit),
+        Err(Unwritten::Fault) => ended(core, 4, kit),
+        Err(Unwritten::Memory) => ended(core, 8, kit),
     }
 }
 
 /// Writes what was done before memory ended.
-fn report_cut<K: Sink>(alloc: Global, sink: &mut K, core: Core) -> Outcome
+fn report_cut<K: Sink, L: Listener>(
+    alloc: Global,
+    sink: &mut K,
+    kit: Kit<L>,
+    core: Core<LayerTree>,
+) -> Outcome<L>
     requires { core.opened ≡ opened_state }
     ensures performs { Performs Nothing (Same core.history) (Same core.history) opened_state (K.written sink.old) (K.written sink.new) (K.faults sink.old) (K.faults sink.new) result.status result.history }
+    ensures status { result.status ≡ 8 }
+    ensures history { result.history ≡ core.history }
+    ensures kit { result.kit ≡ kit }
 {
     let _ = write_run(sink, alloc, &core, 8, b"status 8\n");
-    ended(core, 8)
+    ended(core, 8, kit)
+}
+
+/// At each front of the history rules are apart, as of every workspace. Nothing is done.
+fn keep_apart(core: &Core<LayerTree>)
+    ensures { (n : ℕ) → IsApart atom_contains atom_conflicts (replay core.now.opened (take n core.now.history)).manager.passes.rules }
+{
+    let _ = core.history();
 }
 
 /// What a run ends with.
-fn ended(core: Core, status: u8) -> Outcome
+fn ended<L: Listener>(core: Core<LayerTree>, status: u8, kit: Kit<L>) -> Outcome<L>
     requires { core.opened ≡ opened_state }
     ensures status { result.status ≡ status }
     ensures history { result.history ≡ core.history }
     ensures thread { IsOneThread opened_state result.history }
+    ensures kit { result.kit ≡ kit }
 {
+    keep_apart(&core);
+    let (history, _) = core.into_history();
     Outcome {
         status,
-        history: core.into_history(),
+        history,
+        kit,
     }
 }
 
 /// Tells that memory wanted before anything was done.
-fn want<K: Sink>(alloc: Global, sink: &mut K) -> Outcome
+fn want<K: Sink, L: Listener>(alloc: Global, sink: &mut K, kit: Kit<L>) -> Outcome<L>
     ensures performs { Performs Nothing Nothing Nothing opened_state (K.written sink.old) (K.written sink.new) (K.faults sink.old) (K.faults sink.new) result.status result.history }
+    ensures heard { HearsNotices opened_state result.status result.history (map (λ l. L.heard l) kit.listeners) (map (λ l. L.heard l) result.kit.listeners) }
 {
-    stop(alloc, sink, 8, b"status 8\n")
+    stop(alloc, sink, kit, 8, b"status 8\n")
 }
 
 /// Ends with the status, whose line is given, where nothing was done. A line that isn't written whole leaves the status.
-pub fn stop<K: Sink>(alloc: Global, sink: &mut K, status: u8, line: &[u8]) -> Outcome
+pub fn stop<K: Sink, L: Listener>(
+    alloc: Global,
+    sink: &mut K,
+    kit: Kit<L>,
+    status: u8,
+    line: &[u8],
+) -> Outcome<L>
     requires { line.now ≡ status_line status }
     ensures status { result.status ≡ status }
     ensures nothing { result.history ≡ [] }
+    ensures heard { HearsNotices opened_state result.status result.history (map (λ l. L.heard l) kit.listeners) (map (λ l. L.heard l) result.kit.listeners) }
     ensures line { Writes (K.written sink.old) (K.written sink.new) (K.faults sink.old) (K.faults sink.new) (status_line status) }
 {
-    say(alloc, sink, status, line)
+    say(alloc, sink, kit, status, line)
 }
 
 /// Writes a text and ends with the status, where nothing was done.
-fn say<K: Sink>(alloc: Global, sink: &mut K, status: u8, text: &[u8]) -> Outcome
+fn say<K: Sink, L: Listener>(
+    alloc: Global,
+    sink: &mut K,
+    kit: Kit<L>,
+    status: u8,
+    text: &[u8],
+) -> Outcome<L>
     ensures status { result.status ≡ status }
     ensures nothing { result.history ≡ [] }
+    ensures heard { HearsNotices opened_state result.status result.history (map (λ l. L.heard l) kit.listeners) (map (λ l. L.heard l) result.kit.listeners) }
     ensures written { Writes (K.written sink.old) (K.written sink.new) (K.faults sink.old) (K.faults sink.new) text.now }
 {
     let _ = write_all(sink, text);
-    nothing_done(alloc, status)
+    nothing_done(alloc, kit, status)
 }
 
 /// What the program ends with where nothing was done.
-pub fn nothing_done(alloc: Global, status: u8) -> Outcome
+pub fn nothing_done<L: Listener>(alloc: Global, kit: Kit<L>, status: u8) -> Outcome<L>
     ensures status { result.status ≡ status }
     ensures nothing { result.history ≡ [] }
+    ensures heard { HearsNotices opened_state result.status result.history (map (λ l. L.heard l) kit.listeners) (map (λ l. L.heard l) result.kit.listeners) }
 {
     Outcome {
         status,
         history: History::empty(alloc),
+        kit,
     }
 }

@@ -8,23 +8,27 @@ use std::alloc::{AllocError, Global};
 use std::process::ExitCode;
 use std::{env, io, mem};
 use ws_outside::{StdSink, StdSource};
-use ws_top::{Outcome, answer};
+use ws_top::{Kit, Listener, Listeners, Outcome, answer};
 
 fn main(rt: HostRuntime) -> ExitCode {
     let alloc = rt.alloc();
     let mut source = StdSource::new(rt.stdin());
     let mut sink = StdSink::new(rt.stdout());
-    ended(answer(alloc, words(&rt, alloc), &mut source, &mut sink))
+    let kit = Kit {
+        listeners: Listeners::of(Vec::new(alloc)),
+    };
+    ended(answer(alloc, words(&rt, alloc), &mut source, &mut sink, kit))
 }
 
 /// The status with which the program ends. What was done is not let go entry by entry: the system takes the memory back
 /// at once.
-fn ended(outcome: Outcome) -> ExitCode
+fn ended(outcome: Outcome<Box<dyn Listener + Send>>) -> ExitCode
     ensures { exit_status result ≡ outcome.status }
 {
     let Outcome {
         status: code,
         history,
+        ..
     } = outcome;
     mem::forget(history);
     ExitCode::from(code)

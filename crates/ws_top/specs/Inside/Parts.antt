@@ -3,11 +3,11 @@ use Rattle.std.specs.Prelude.{◌≡◌, ◌≢◌, ◌⊎◌, ℕ, List, [], Op
 use Rattle.ws_outside.specs.Faults.{Rose}
 use Rattle.ws_outside.specs.Streams.{Gains, GainsFront}
 use Rattle.script_lang.specs.Scripts.{IsFirstBad}
-use Rattle.lone_event.specs.declared.entry.Entry.{Entry}
-use Rattle.lone_text.specs.declared.writing.Unwritten.{Unwritten}
-use Rattle.lone_text.specs.declared.writing.Unwritten.TheVariants.{Fault, Memory}
-use Rattle.lone_text.specs.Printing.{IsCause}
-use Rattle.lone_core.specs.declared.state.State.{State}
+use Rattle.core_event.specs.declared.entry.Entry.{Entry}
+use Rattle.run_text.specs.declared.writing.Unwritten.{Unwritten}
+use Rattle.run_text.specs.declared.writing.Unwritten.TheVariants.{Fault, Memory}
+use Rattle.run_text.specs.Printing.{IsCause}
+use Rattle.ws_core.specs.States.{Moment}
 use Rattle.ws_top.specs.declared.reading.Unread.{Unread}
 use Rattle.ws_top.specs.declared.reading.Unread.TheVariants as unread
 use Rattle.ws_top.specs.Limits.{ReadsShort, ReadsLong}
@@ -47,12 +47,12 @@ WritesReport old new before after report result =
     MatchResult result (λ _. Gains old report new × (after ≡ before)) (λ e. GainsFront old report new × IsCause e before after)
 
 -- where the text of a run wasn't written whole: a write failed, or memory wanted before the last line
-abbrev pub IsBreak : Unwritten → Option (List ℕ) → Option (List ℕ) → ℕ → ℕ → State → List Entry → ℕ → Type 0
+abbrev pub IsBreak : Unwritten → Option (List ℕ) → Option (List ℕ) → ℕ → ℕ → Moment → List Entry → ℕ → Type 0
 IsBreak Fault old new before after opened h n = GainsFront old (text opened h n) new × Rose before after
 IsBreak Memory old new before after opened h n = GainsFront old (report_from opened h) new × (after ≡ before)
 
 -- the text of a run was written, or some front of it
-abbrev pub WritesRun : {E : Type 0} → Option (List ℕ) → Option (List ℕ) → ℕ → ℕ → State → List Entry → ℕ → Result E Unwritten → Type 0
+abbrev pub WritesRun : {E : Type 0} → Option (List ℕ) → Option (List ℕ) → ℕ → ℕ → Moment → List Entry → ℕ → Result E Unwritten → Type 0
 WritesRun old new before after opened h n result =
     MatchResult result (λ _. Gains old (text opened h n) new × (after ≡ before)) (λ e. IsBreak e old new before after opened h n)
 
@@ -68,7 +68,7 @@ Same done h = h ≡ done
 
 -- A script was run, as far as memory sufficed, and what was done was written: `All` says that it is all of the script,
 -- `Front` that it is a front of it, `Stopped` that at least one call was not made.
-pub record Performs (All Front Stopped : List Entry → Type 0) (opened : State) (old new : Option (List ℕ)) (before after status : ℕ) (h : List Entry) : Type 0 where
+pub record Performs (All Front Stopped : List Entry → Type 0) (opened : Moment) (old new : Option (List ℕ)) (before after status : ℕ) (h : List Entry) : Type 0 where
   pub ends : WasRun status ⊎ (status ≡ 8)
   pub fault : TellsWriteFault before after status ((h ≡ []) ⊎ Stopped h)
   pub done : DoesScript All Front status h
@@ -85,13 +85,13 @@ pub record TellsBadLine (bytes : List ℕ) (old new : Option (List ℕ)) (before
   pub written : Writes old new before after (bad_line line)
 
 -- what the bytes ask for was done
-abbrev pub Responds : State → List ℕ → Option (List ℕ) → Option (List ℕ) → ℕ → ℕ → ℕ → List Entry → Type 0
+abbrev pub Responds : Moment → List ℕ → Option (List ℕ) → Option (List ℕ) → ℕ → ℕ → ℕ → List Entry → Type 0
 Responds opened bytes old new before after status h =
     Performs (Spelled Shuffle bytes) (Spelled CutShuffle bytes) (Spelled StoppedShuffle bytes) opened old new before after status h
     ⊎ TellsBadLine bytes old new before after status h
 
 -- the source was read, and what its bytes ask for was done
-pub record EndsRun (opened : State) (left after_reading : Option (List ℕ)) (reads_before reads_after : Option ℕ) (reads_failed reads_fail : ℕ)
+pub record EndsRun (opened : Moment) (left after_reading : Option (List ℕ)) (reads_before reads_after : Option ℕ) (reads_failed reads_fail : ℕ)
     (old new : Option (List ℕ)) (before after status : ℕ) (h : List Entry) : Type 0 where
   pub ends : IsStatus status
   pub usage : status ≢ 2

@@ -11,3 +11,12 @@ returns-in-TryBegin c = rw c.in-TryBegin.is c.try_begin_line.ensures
 
 pub returns-in-End : goal.returns-in-End
 returns-in-End c = rw c.in-End.is c.end_line.ensures
+
+pub returns-in-Sleep : goal.returns-in-Sleep
+returns-in-Sleep c = rw c.in-Sleep.is c.sleep_line.ensures
+
+pub returns-in-Wake : goal.returns-in-Wake
+returns-in-Wake c = rw c.in-Wake.is c.wake_line.ensures
+
+pub returns-in-Cancel : goal.returns-in-Cancel
+returns-in-Cancel c = rw c.in-Cancel.is c.cancel_line.ensures

@@ -1,7 +1,7 @@
 use Rattle.std.proofs.Common.{◌++◌, codes, subst}
 use Rattle.report_text.specs.Deltas.{delta_lines}
-use Rattle.lone_text.specs.Printing.{Printed}
-use Rattle.lone_text.proofs.Pieces.{front_none}
+use Rattle.run_text.specs.Printing.{Printed}
+use Rattle.run_text.proofs.Pieces.{front_none}
 use Rattle.ws_top.specs.Texts.{changes_from}
 use Rattle.ws_top.proofs.report.print_changes.Goals as goal
 

@@ -1,7 +1,7 @@
 use Rattle.std.proofs.Common.{subst}
-use Rattle.lone_text.specs.Lines.{history_lines}
-use Rattle.lone_text.specs.Printing.{PrintsAll, PrintsFront}
-use Rattle.lone_text.proofs.Pieces.{and_then, but_first}
+use Rattle.run_text.specs.Lines.{history_lines}
+use Rattle.run_text.specs.Printing.{PrintsAll, PrintsFront}
+use Rattle.run_text.proofs.Pieces.{and_then, but_first}
 use Rattle.ws_top.specs.Texts.{changes_from}
 use Rattle.ws_top.proofs.report.print_report.Goals as goal
 

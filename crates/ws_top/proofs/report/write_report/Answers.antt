@@ -1,5 +1,5 @@
 use Rattle.std.proofs.Common.{subst}
-use Rattle.lone_text.specs.Printing.{PrintsAll}
+use Rattle.run_text.specs.Printing.{PrintsAll}
 use Rattle.ws_top.specs.Inside.Parts.{WritesLast}
 use Rattle.ws_top.specs.Texts.{report_from}
 use Rattle.ws_top.proofs.Fronts.{report_then, report_some}

@@ -1,3 +1,0 @@
--- What only the crate's own functions speak of.
-pub mod Views
-pub mod Acts

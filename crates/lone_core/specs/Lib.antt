@@ -1,8 +1,0 @@
-pub mod States
-pub mod Rules
-pub mod Refusals
-pub mod Effects
-pub mod Steps
-pub mod Histories
-pub mod Sessions
-pub mod Inside

@@ -1,4 +1,0 @@
-pub mod Batches
-pub mod Events
-pub mod Numbers
-pub mod Replies

@@ -1,4 +1,0 @@
-pub mod Dropped
-pub mod Written
-pub mod Printed
-pub mod Pieces

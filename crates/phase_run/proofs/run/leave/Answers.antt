@@ -1,0 +1,12 @@
+use Rattle.std.proofs.Common.{map}
+use Rattle.phase_run.proofs.Heard.{tells_from}
+use Rattle.phase_run.proofs.Runs.{did_leave}
+use Rattle.phase_run.proofs.run.leave.Goals as goal
+
+pub returns-clause-made : goal.returns-clause-made
+returns-clause-made g c = let e = c.in_ok-perform.ensures in did_leave c.args.core.now c.perform.new.self e.history
+
+pub returns-clause-told : goal.returns-clause-told
+returns-clause-told g c = let e = c.in_ok-perform.ensures in let made = did_leave c.args.core.now c.perform.new.self e.history in
+    tells_from c.history-from.result.now c.args.core.now.history c.perform.new.self.history made.0 (map (λ l. g.L.Listener.heard l) c.args.listeners.now) (map (λ l. g.L.Listener.heard l) c.tell_since.new.listeners)
+    c.history-from.ensures.history made.1 c.tell_since.ensures

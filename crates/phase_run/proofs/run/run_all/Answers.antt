@@ -1,0 +1,51 @@
+use Rattle.std.proofs.Common.{map, sym, ap, ◌∙◌, subst}
+use Rattle.ws_core.specs.Histories.{fresh}
+use Rattle.ws_core.specs.Sessions.{Session}
+use Rattle.run_order.specs.Orders.{CutShuffle}
+use Rattle.phase_run.specs.Plans.{Made, phases_plan}
+use Rattle.phase_run.specs.Runs.{HeardFront}
+use Rattle.phase_run.proofs.Results.{ok_on, err_on, err_both, err_holds}
+use Rattle.phase_run.proofs.Heard.{heard_all, heard_front, heard_stop, tells_none, tells_on, tells_then}
+use Rattle.phase_run.proofs.Runs.{some_phases, cut_at_first, run_all, run_cut, run_left}
+use Rattle.phase_run.proofs.run.run_all.Goals as goal
+
+pub returns-then-is_empty-clause-told : goal.returns-then-is_empty-clause-told
+returns-then-is_empty-clause-told g c = heard_all c.args.core.now.history c.args.core.now.history (map (λ l. g.L.Listener.heard l) c.args.listeners.now) (map (λ l. g.L.Listener.heard l) c.args.listeners.now) c.requires.history (tells_none c.args.core.now.history (map (λ l. g.L.Listener.heard l) c.args.listeners.now))
+
+pub returns-in_err-enter-clause-cut : goal.returns-in_err-enter-clause-cut
+returns-in_err-enter-clause-cut g c = err_holds c.from_residual.result (cut_at_first (phases_plan c.args.phases.now) c.enter.new.core.history (some_phases c.args.phases.now c.if-is_empty.ensures) (ap (λ (x : Session). x.history) c.in_err-enter.ensures.same ∙ c.requires.history))
+
+pub returns-in_err-enter-clause-told_some : goal.returns-in_err-enter-clause-told_some
+returns-in_err-enter-clause-told_some g c = err_holds c.from_residual.result
+    (subst (λ l. HeardFront c.enter.new.core.history (map (λ l. g.L.Listener.heard l) c.args.listeners.now) (map (λ l. g.L.Listener.heard l) l)) (sym c.in_err-enter.ensures.quiet)
+    (heard_stop c.enter.new.core.history c.enter.new.core.history (map (λ l. g.L.Listener.heard l) c.args.listeners.now) (map (λ l. g.L.Listener.heard l) c.args.listeners.now) (ap (λ (x : Session). x.history) c.in_err-enter.ensures.same ∙ c.requires.history) (tells_none c.enter.new.core.history (map (λ l. g.L.Listener.heard l) c.args.listeners.now))))
+
+pub returns-in_err-run_each-clause-cut : goal.returns-in_err-run_each-clause-cut
+returns-in_err-run_each-clause-cut g c = err_holds c.from_residual-in_err-run_each.result
+    (run_cut (phases_plan c.args.phases.now) (some_phases c.args.phases.now c.if-is_empty.ensures) c.args.core.now c.enter.new.core c.run_each.new.core c.requires.opened c.requires.history c.in_ok-enter.ensures.made (map (λ l. g.L.Listener.heard l) c.enter.new.listeners) (map (λ l. g.L.Listener.heard l) c.run_each.new.listeners) c.in_err-run_each.ensures)
+
+pub returns-in_err-run_each-clause-told_some : goal.returns-in_err-run_each-clause-told_some
+returns-in_err-run_each-clause-told_some g c = err_holds c.from_residual-in_err-run_each.result
+    (heard_front c.args.core.now.history c.run_each.new.core.history (map (λ l. g.L.Listener.heard l) c.args.listeners.now) (map (λ l. g.L.Listener.heard l) c.run_each.new.listeners) c.requires.history
+    (tells_then c.args.core.now.history c.enter.new.core.history c.run_each.new.core.history (map (λ l. g.L.Listener.heard l) c.args.listeners.now) (map (λ l. g.L.Listener.heard l) c.enter.new.listeners) (map (λ l. g.L.Listener.heard l) c.run_each.new.listeners) c.in_ok-enter.ensures.told c.in_err-run_each.ensures.told))
+
+pub returns-clause-whole : goal.returns-clause-whole
+returns-clause-whole g c = ok_on c.leave.result
+    (run_all (phases_plan c.args.phases.now) (some_phases c.args.phases.now c.if-is_empty.ensures) c.args.core.now c.enter.new.core c.run_each.new.core c.requires.opened c.requires.history c.in_ok-enter.ensures.made c.leave.new.core (map (λ l. g.L.Listener.heard l) c.enter.new.listeners) (map (λ l. g.L.Listener.heard l) c.run_each.new.listeners) c.in_ok-run_each.ensures) c.leave.ensures.made
+
+pub returns-clause-cut : goal.returns-clause-cut
+returns-clause-cut g c = err_on c.leave.result
+    (λ same. subst (λ (x : Session). CutShuffle Made fresh (phases_plan c.args.phases.now) 1 x.history) (sym same)
+    (run_left (phases_plan c.args.phases.now) (some_phases c.args.phases.now c.if-is_empty.ensures) c.args.core.now c.enter.new.core c.run_each.new.core c.requires.opened c.requires.history c.in_ok-enter.ensures.made (map (λ l. g.L.Listener.heard l) c.enter.new.listeners) (map (λ l. g.L.Listener.heard l) c.run_each.new.listeners) c.in_ok-run_each.ensures)) c.leave.ensures.same
+
+pub returns-clause-told : goal.returns-clause-told
+returns-clause-told g c = ok_on c.leave.result
+    (λ last. heard_all c.args.core.now.history c.leave.new.core.history (map (λ l. g.L.Listener.heard l) c.args.listeners.now) (map (λ l. g.L.Listener.heard l) c.leave.new.listeners) c.requires.history
+    (tells_on c.args.core.now.history c.run_each.new.core.history c.leave.new.core.history (map (λ l. g.L.Listener.heard l) c.args.listeners.now) (map (λ l. g.L.Listener.heard l) c.run_each.new.listeners) (map (λ l. g.L.Listener.heard l) c.leave.new.listeners)
+    (tells_on c.args.core.now.history c.enter.new.core.history c.run_each.new.core.history (map (λ l. g.L.Listener.heard l) c.args.listeners.now) (map (λ l. g.L.Listener.heard l) c.enter.new.listeners) (map (λ l. g.L.Listener.heard l) c.run_each.new.listeners) c.in_ok-enter.ensures.told c.in_ok-run_each.ensures.told) last)) c.leave.ensures.told
+
+pub returns-clause-told_some : goal.returns-clause-told_some
+returns-clause-told_some g c = err_both c.leave.result
+    (λ same quiet. subst (λ l. HeardFront c.leave.new.core.history (map (λ l. g.L.Listener.heard l) c.args.listeners.now) (map (λ l. g.L.Listener.heard l) l)) (sym quiet) (subst (λ (x : Session). HeardFront x.history (map (λ l. g.L.Listener.heard l) c.args.listeners.now) (map (λ l. g.L.Listener.heard l) c.run_each.new.listeners)) (sym same)
+    (heard_stop c.args.core.now.history c.run_each.new.core.history (map (λ l. g.L.Listener.heard l) c.args.listeners.now) (map (λ l. g.L.Listener.heard l) c.run_each.new.listeners) c.requires.history
+    (tells_on c.args.core.now.history c.enter.new.core.history c.run_each.new.core.history (map (λ l. g.L.Listener.heard l) c.args.listeners.now) (map (λ l. g.L.Listener.heard l) c.enter.new.listeners) (map (λ l. g.L.Listener.heard l) c.run_each.new.listeners) c.in_ok-enter.ensures.told c.in_ok-run_each.ensures.told)))) c.leave.ensures.same c.leave.ensures.quiet

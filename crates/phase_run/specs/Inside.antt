@@ -1,0 +1,4 @@
+-- Words that private code alone speaks of.
+pub mod Doing
+pub mod Books
+pub mod Running

@@ -1,0 +1,84 @@
+//! A phase: pass 0 schedules the jobs, the worker runs them, and pass 0 cancels those that sleep.
+ghost use Rattle.std.specs.Prelude.{◌≡◌, ◌∷◌, [], map, MatchResult};
+ghost use Rattle.script_lang.specs.Names.{HaveOwnNames};
+ghost use Rattle.ws_core.specs.Histories.{replay};
+ghost use Rattle.run_order.specs.Lists.{acts, Cut};
+ghost use Rattle.run_order.specs.Orders.{scheduled, cancelled, sleeps, sleepers, IsPhase, IsCutPhase};
+ghost use Rattle.phase_run.specs.Plans.{Made, job_plan, jobs_plan, phase_plan};
+ghost use Rattle.phase_run.specs.Inside.Doing.{IsReady, Makes, Stops};
+
+use crate::NoMemory;
+use crate::plan::schedule_of;
+use crate::worker::work;
+use core_event::Event;
+use elem_tree::LayerTree;
+use res_path::Name;
+use script_lang::{Job, Phase};
+use std::alloc::Global;
+use ws_core::Core;
+
+/// Pass 0 schedules the job.
+fn schedule_one(core: &mut Core<LayerTree>, alloc: Global, job: &Job) -> Result<(), NoMemory>
+    requires { IsReady core.old.state }
+    ensures { MatchResult result (λ _. Makes (λ h. acts h ≡ scheduled (job_plan job.now) ∷ []) core.old core.new) (λ _. core.new ≡ core.old) }
+{
+    let event = schedule_of(job)?;
+    core.perform(alloc, 0, event)
+}
+
+/// Pass 0 schedules the jobs, in order.
+fn schedule(core: &mut Core<LayerTree>, alloc: Global, jobs: &[Job]) -> Result<(), NoMemory>
+    requires { IsReady core.old.state }
+    ensures { MatchResult result (λ _. Makes (λ h. acts h ≡ map scheduled (jobs_plan jobs.now)) core.old core.new) (λ _. Stops (Cut (λ h. acts h ≡ map scheduled (jobs_plan jobs.now))) core.old core.new) }
+{
+    for job in jobs {
+        schedule_one(core, alloc, job)?;
+    }
+    Ok(())
+}
+
+/// Whether the job of this name sleeps.
+fn sleeps(core: &Core<LayerTree>, name: &Name) -> bool
+    ensures { result ≡ sleeps (replay core.now.opened core.now.history) name.now }
+{
+    match core.state().manager().jobs.state(name) {
+        Some(state) => state.is_sleeping(),
+        None => false,
+    }
+}
+
+/// Pass 0 cancels the job, if it sleeps.
+fn cancel_one(core: &mut Core<LayerTree>, alloc: Global, job: &Job) -> Result<(), NoMemory>
+    requires { IsReady core.old.state }
+    ensures { MatchResult result (λ _. Makes (λ h. acts h ≡ map cancelled (sleepers (replay core.old.opened core.old.history) (job_plan job.now ∷ []))) core.old core.new) (λ _. core.new ≡ core.old) }
+{
+    if !sleeps(core, &job.name) {
+        return Ok(());
+    }
+    core.perform(alloc, 0, Event::Cancel(job.name.copy()?))
+}
+
+/// Pass 0 cancels those of the jobs that sleep, in order.
+fn cancel(core: &mut Core<LayerTree>, alloc: Global, jobs: &[Job]) -> Result<(), NoMemory>
+    requires ready { IsReady core.old.state }
+    requires names { HaveOwnNames jobs.now }
+    ensures { MatchResult result (λ _. Makes (λ h. acts h ≡ map cancelled (sleepers (replay core.old.opened core.old.history) (jobs_plan jobs.now))) core.old core.new)
+        (λ _. Stops (Cut (λ h. acts h ≡ map cancelled (sleepers (replay core.old.opened core.old.history) (jobs_plan jobs.now)))) core.old core.new) }
+{
+    for job in jobs {
+        cancel_one(core, alloc, job)?;
+    }
+    Ok(())
+}
+
+/// The phase is run.
+pub fn run_phase(core: &mut Core<LayerTree>, alloc: Global, phase: &Phase) -> Result<(), NoMemory>
+    requires { IsReady core.old.state }
+    ensures { MatchResult result (λ _. Makes (IsPhase Made 1 (phase_plan phase.now) (replay core.old.opened core.old.history)) core.old core.new)
+        (λ _. Stops (IsCutPhase Made 1 (phase_plan phase.now) (replay core.old.opened core.old.history)) core.old core.new) }
+{
+    let jobs = phase.jobs.as_slice();
+    schedule(core, alloc, jobs)?;
+    work(core, alloc, jobs)?;
+    cancel(core, alloc, jobs)
+}

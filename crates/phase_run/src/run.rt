@@ -1,0 +1,143 @@
+//! The worker enters, the phases are run one after another, and it leaves.
+ghost use Rattle.std.specs.Prelude.{◌≡◌, ◌⊎◌, ◌∷◌, [], true, map, MatchResult, OnOk, OnErr};
+ghost use Rattle.core_event.specs.declared.event.Event.TheVariants.{Enter, Leave};
+ghost use Rattle.ws_core.specs.Histories.{fresh, has_entered, replay};
+ghost use Rattle.run_order.specs.Lists.{acts, Grew};
+ghost use Rattle.run_order.specs.Orders.{Shuffle, CutShuffle};
+ghost use Rattle.phase_run.specs.Plans.{Made, phases_plan};
+ghost use Rattle.phase_run.specs.Runs.{HeardAll, HeardFront};
+ghost use Rattle.phase_run.specs.Inside.Doing.{IsReady, Makes};
+ghost use Rattle.phase_run.specs.Inside.Running.{Tells, RunsPhase, CutsPhase, RunsPhases, CutsPhases};
+
+use crate::NoMemory;
+use crate::phase::run_phase;
+use crate::telling::tell_since;
+use crate::worker::settle;
+use core_event::Event;
+use elem_tree::LayerTree;
+use save_parts::{Listener, Listeners};
+use script_lang::Phase;
+use std::alloc::Global;
+use ws_core::Core;
+
+/// The worker enters, and what that tells is told.
+fn enter<L: Listener>(
+    core: &mut Core<LayerTree>,
+    alloc: Global,
+    listeners: &mut Listeners<L>,
+) -> Result<(), NoMemory>
+    requires state { core.old.state ≡ fresh }
+    ensures made { OnOk result (Makes (λ h. acts h ≡ (0, Enter) ∷ []) core.old core.new) }
+    ensures told { OnOk result (Tells core.old.history core.new.history (map (λ l. L.heard l) listeners.old) (map (λ l. L.heard l) listeners.new)) }
+    ensures same { OnErr result (core.new ≡ core.old) }
+    ensures quiet { OnErr result (listeners.new ≡ listeners.old) }
+{
+    let from = core.history().len();
+    core.perform(alloc, 0, Event::Enter)?;
+    tell_since(core, listeners, from);
+    Ok(())
+}
+
+/// A phase is run, and then what it told is told.
+fn run_and_tell<L: Listener>(
+    core: &mut Core<LayerTree>,
+    alloc: Global,
+    listeners: &mut Listeners<L>,
+    phase: &Phase,
+) -> Result<(), NoMemory>
+    requires { IsReady core.old.state }
+    ensures { MatchResult result (λ _. RunsPhase phase.now core.old core.new (map (λ l. L.heard l) listeners.old) (map (λ l. L.heard l) listeners.new))
+        (λ _. CutsPhase phase.now core.old core.new (map (λ l. L.heard l) listeners.old) (map (λ l. L.heard l) listeners.new)) }
+{
+    let from = core.history().len();
+    run_phase(core, alloc, phase)?;
+    tell_since(core, listeners, from);
+    Ok(())
+}
+
+/// The phases are run, one after another.
+fn run_each<L: Listener>(
+    core: &mut Core<LayerTree>,
+    alloc: Global,
+    listeners: &mut Listeners<L>,
+    phases: &[Phase],
+) -> Result<(), NoMemory>
+    requires { IsReady core.old.state }
+    ensures { MatchResult result (λ _. RunsPhases (phases_plan phases.now) core.old core.new (map (λ l. L.heard l) listeners.old) (map (λ l. L.heard l) listeners.new))
+        (λ _. CutsPhases (phases_plan phases.now) core.old core.new (map (λ l. L.heard l) listeners.old) (map (λ l. L.heard l) listeners.new)) }
+{
+    for phase in phases {
+        run_and_tell(core, alloc, listeners, phase)?;
+    }
+    Ok(())
+}
+
+/// The worker leaves, and what that tells is told.
+fn leave<L: Listener>(
+    core: &mut Core<LayerTree>,
+    alloc: Global,
+    listeners: &mut Listeners<L>,
+) -> Result<(), NoMemory>
+    requires { IsReady core.old.state }
+    ensures opened { core.new.opened ≡ core.old.opened }
+    ensures made { OnOk result (Grew (λ h. acts h ≡ (1, Leave) ∷ []) core.old.history core.new.history) }
+    ensures told { OnOk result (Tells core.old.history core.new.history (map (λ l. L.heard l) listeners.old) (map (λ l. L.heard l) listeners.new)) }
+    ensures same { OnErr result (core.new ≡ core.old) }
+    ensures quiet { OnErr result (listeners.new ≡ listeners.old) }
+{
+    let from = core.history().len();
+    core.perform(alloc, 1, Event::Leave)?;
+    tell_since(core, listeners, from);
+    Ok(())
+}
+
+/// The worker enters, the phases are run, and it leaves.
+fn run_all<L: Listener>(
+    core: &mut Core<LayerTree>,
+    alloc: Global,
+    listeners: &mut Listeners<L>,
+    phases: &[Phase],
+) -> Result<(), NoMemory>
+    requires opened { core.old.opened ≡ fresh }
+    requires state { core.old.state ≡ fresh }
+    requires history { core.old.history ≡ [] }
+    ensures opened { core.new.opened ≡ fresh }
+    ensures whole { OnOk result (Shuffle Made fresh (phases_plan phases.now) 1 core.new.history) }
+    ensures cut { OnErr result (CutShuffle Made fresh (phases_plan phases.now) 1 core.new.history) }
+    ensures there { OnErr result ((core.new.history ≡ []) ⊎ (has_entered 1 core.new.state ≡ true)) }
+    ensures told { OnOk result (HeardAll core.new.history (map (λ l. L.heard l) listeners.old) (map (λ l. L.heard l) listeners.new)) }
+    ensures told_some { OnErr result (HeardFront core.new.history (map (λ l. L.heard l) listeners.old) (map (λ l. L.heard l) listeners.new)) }
+{
+    if phases.is_empty() {
+        return Ok(());
+    }
+    enter(core, alloc, listeners)?;
+    run_each(core, alloc, listeners, phases)?;
+    leave(core, alloc, listeners)
+}
+
+/// Runs the phases of a script on a workspace that was just opened, by one worker, and tells listeners after each phase
+/// what it told. Without a phase nothing is done. Where memory wants the run stops where it is: the worker is still
+/// there, if it had entered, and the listeners were told what some beginning of the history tells.
+///
+/// A phase costs n log n steps for its n jobs, beside what their commands cost.
+pub fn run_phases<L: Listener>(
+    core: &mut Core<LayerTree>,
+    alloc: Global,
+    listeners: &mut Listeners<L>,
+    phases: &[Phase],
+) -> Result<(), NoMemory>
+    requires opened { core.old.opened ≡ fresh }
+    requires state { core.old.state ≡ fresh }
+    requires history { core.old.history ≡ [] }
+    ensures opened { core.new.opened ≡ fresh }
+    ensures whole { OnOk result (Shuffle Made fresh (phases_plan phases.now) 1 core.new.history) }
+    ensures cut { OnErr result (CutShuffle Made fresh (phases_plan phases.now) 1 core.new.history) }
+    ensures there { OnErr result ((core.new.history ≡ []) ⊎ (has_entered 1 (replay core.new.opened core.new.history) ≡ true)) }
+    ensures told { OnOk result (HeardAll core.new.history (map (λ l. L.heard l) listeners.old) (map (λ l. L.heard l) listeners.new)) }
+    ensures told_some { OnErr result (HeardFront core.new.history (map (λ l. L.heard l) listeners.old) (map (λ l. L.heard l) listeners.new)) }
+{
+    let ran = run_all(core, alloc, listeners, phases);
+    settle(core);
+    ran
+}

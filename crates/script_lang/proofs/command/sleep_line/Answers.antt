@@ -1,0 +1,9 @@
+use Rattle.std.proofs.Common.{refl}
+use Rattle.script_lang.specs.declared.line.Line.TheVariants.{InJob}
+use Rattle.script_lang.specs.declared.script.Command.TheVariants.{Sleep}
+use Rattle.script_ops.specs.declared.verb.Verb.TheVariants as verb
+use Rattle.script_lang.proofs.Begun.{named_found}
+use Rattle.script_lang.proofs.command.sleep_line.Goals as goal
+
+pub returns-in-Some : goal.returns-in-Some
+returns-in-Some c = named_found verb.Sleep (λ name. InJob (Sleep name)) c.args.rest.now c.in-Some.name (rw c.in-Some.is at c.name_alone.ensures) refl refl
