@@ -1,12 +1,15 @@
 -- What performing a script leaves.
-use Rattle.std.proofs.Common.{◌≡◌, ◌≢◌, ◌⊎◌, inl, inr, ℕ, List, [], Option, refl, sym, ◌∙◌, subst, arith}
+use Rattle.std.proofs.Common.{◌≡◌, ◌≢◌, ◌⊎◌, inl, inr, ℕ, zero, suc, List, [], take, Option, refl, sym, ◌∙◌, subst, arith}
 use Rattle.std.specs.Prelude.{Result, Ok, Err}
 use Rattle.ws_outside.specs.Faults.{Rose}
 use Rattle.ws_outside.specs.Streams.{Gains, GainsFront}
+use Rattle.sched_rules.specs.Atoms.{atom_contains, atom_conflicts}
+use Rattle.rule_table.specs.Tables.{IsApart}
 use Rattle.core_event.specs.declared.entry.Entry.{Entry}
 use Rattle.run_text.specs.declared.writing.Unwritten.{Unwritten}
 use Rattle.run_text.specs.declared.writing.Unwritten.TheVariants.{Fault, Memory}
 use Rattle.ws_core.specs.States.{Moment}
+use Rattle.ws_core.specs.Histories.{replay}
 use Rattle.ws_top.specs.Inside.Parts.{WritesRun, Nothing, Same, Performs}
 use Rattle.ws_top.specs.Outcomes.{opened_state, WasRun, TellsWriteFault, IsOneThread, DoesScript, WritesCut, WritesText, Writes}
 use Rattle.ws_top.specs.Texts.{report_from, text, status_line}
@@ -46,8 +49,12 @@ thread_none h e = subst (λ (k : List Entry). IsOneThread opened_state k) (sym e
   apart = λ n. subst (λ (l : List Entry). IsApart atom_contains atom_conflicts (replay opened_state l).manager.passes.rules) (sym (take_nil n)) tt;
 })
   where
-    take_nil : (n : ℕ) → take n [] {A = Entry} ≡ []
-    take_nil n = refl
+    none : List Entry
+    none = []
+
+    take_nil : (n : ℕ) → take n none ≡ none
+    take_nil zero = refl
+    take_nil (suc n) = refl
 
 -- the text of a want of memory, by some front of it
 text_at_8 : (opened : Moment) (a b : Option (List ℕ)) (n : ℕ) (h : List Entry) → n ≡ 8 → WritesCut opened a b h → WritesText opened a b n h

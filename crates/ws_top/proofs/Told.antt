@@ -1,5 +1,5 @@
 -- What listeners were told of a run.
-use Rattle.std.proofs.Common.{◌≡◌, ◌≢◌, ℕ, List, [], ◌++◌, refl, ap, sym, ◌∙◌, subst, append-nil}
+use Rattle.std.proofs.Common.{◌≡◌, ℕ, List, [], ap, sym, ◌∙◌, subst, append-nil}
 use Rattle.core_event.specs.declared.entry.Entry.{Entry}
 use Rattle.ws_core.specs.Histories.{notices, told_of}
 use Rattle.ws_core.proofs.Grown.{told_of_append}

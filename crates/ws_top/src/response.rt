@@ -18,7 +18,7 @@ use run_text::{Unwritten, write_all};
 use save_parts::Listener;
 use script_lang::{Script, ScriptError, parse_shared};
 use std::alloc::Global;
-use ws_core::{Core, History};
+use ws_core::{Core, History, State};
 use ws_outside::Sink;
 
 /// What a run ended with.
@@ -174,6 +174,11 @@ fn keep_apart(core: &Core<LayerTree>)
     let _ = core.history();
 }
 
+/// The state is let go.
+fn let_go(state: State<LayerTree>) {
+    drop(state);
+}
+
 /// What a run ends with.
 fn ended<L: Listener>(core: Core<LayerTree>, status: u8, kit: Kit<L>) -> Outcome<L>
     requires { core.opened ≡ opened_state }
@@ -183,7 +188,8 @@ fn ended<L: Listener>(core: Core<LayerTree>, status: u8, kit: Kit<L>) -> Outcome
     ensures kit { result.kit ≡ kit }
 {
     keep_apart(&core);
-    let (history, _) = core.into_history();
+    let (history, state) = core.into_history();
+    let_go(state);
     Outcome {
         status,
         history,

@@ -19,6 +19,7 @@ returns-in-Ok g c = let e = c.top.ensures in record {
   memory = subst (λ w. IfErr w (λ _. c.top.result.status ≡ 8)) (sym c.in-Ok.is) tt;
   unread = subst (λ w. IfErr w (λ _. DoesNothing (g.S.Source.left c.args.source.now) (g.S.Source.left c.top.new.source) (g.S.Source.reads c.args.source.now) (g.S.Source.reads c.top.new.source) (g.S.Source.faults c.args.source.now) (g.S.Source.faults c.top.new.source) c.top.result.history)) (sym c.in-Ok.is) tt;
   line = subst (λ w. IfErr w (λ _. Writes (g.K.Sink.written c.args.sink.now) (g.K.Sink.written c.top.new.sink) (g.K.Sink.faults c.args.sink.now) (g.K.Sink.faults c.top.new.sink) (status_line 8))) (sym c.in-Ok.is) tt;
+  heard = e.heard;
 }
 
 pub returns-in-Err : goal.returns-in-Err
@@ -28,4 +29,5 @@ returns-in-Err g c = record {
   memory = subst (λ w. IfErr w (λ _. c.stop.result.status ≡ 8)) (sym c.in-Err.is) c.stop.ensures.status;
   unread = subst (λ w. IfErr w (λ _. DoesNothing (g.S.Source.left c.args.source.now) (g.S.Source.left c.args.source.now) (g.S.Source.reads c.args.source.now) (g.S.Source.reads c.args.source.now) (g.S.Source.faults c.args.source.now) (g.S.Source.faults c.args.source.now) c.stop.result.history)) (sym c.in-Err.is) (record { left = refl; reads = refl; faults = refl; nothing = c.stop.ensures.nothing });
   line = subst (λ w. IfErr w (λ _. Writes (g.K.Sink.written c.args.sink.now) (g.K.Sink.written c.stop.new.sink) (g.K.Sink.faults c.args.sink.now) (g.K.Sink.faults c.stop.new.sink) (status_line 8))) (sym c.in-Err.is) c.stop.ensures.line;
+  heard = c.stop.ensures.heard;
 }

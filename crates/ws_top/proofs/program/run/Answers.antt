@@ -6,6 +6,7 @@ returns-in-Ok g c = record {
   ends = ends_responded (g.S.Source.left c.args.source.now) (g.S.Source.left c.read_all.new.source) (g.S.Source.reads c.args.source.now) (g.S.Source.reads c.read_all.new.source) (g.S.Source.faults c.args.source.now) (g.S.Source.faults c.read_all.new.source)
       (g.K.Sink.written c.args.sink.now) (g.K.Sink.written c.respond.new.sink) (g.K.Sink.faults c.args.sink.now) (g.K.Sink.faults c.respond.new.sink) c.respond.result.status c.respond.result.history
       c.in-Ok.bytes.items c.in-Ok.ensures.read c.in-Ok.ensures.calm c.read_all.ensures.some c.respond.ensures.responds;
+  heard = c.respond.ensures.heard;
 }
 
 pub returns-in-Err : goal.returns-in-Err
@@ -13,4 +14,5 @@ returns-in-Err g c = record {
   ends = ends_unread c.in-Err.error (g.S.Source.left c.args.source.now) (g.S.Source.left c.read_all.new.source) (g.S.Source.reads c.args.source.now) (g.S.Source.reads c.read_all.new.source) (g.S.Source.faults c.args.source.now) (g.S.Source.faults c.read_all.new.source)
       (g.K.Sink.written c.args.sink.now) (g.K.Sink.written c.stop_unread.new.sink) (g.K.Sink.faults c.args.sink.now) (g.K.Sink.faults c.stop_unread.new.sink) c.stop_unread.result.status c.stop_unread.result.history
       c.in-Err.ensures.cause c.in-Err.ensures.much c.read_all.ensures.some c.stop_unread.ensures.status c.stop_unread.ensures.nothing c.stop_unread.ensures.line;
+  heard = c.stop_unread.ensures.heard;
 }

@@ -20,6 +20,7 @@ returns-in-None g c = let p = program_usage (form_of (map string_bytes c.args.wo
       reads = p.reads;
       thread = p.thread;
       runs = p.runs;
+      heard = c.stop.ensures.heard;
       line = p.line;
       help = p.help;
       version = p.version;
@@ -38,6 +39,7 @@ returns-in-Some-Help g c = let p = program_help (form_of (map string_bytes c.arg
       reads = p.reads;
       thread = p.thread;
       runs = p.runs;
+      heard = c.tell.ensures.heard;
       line = p.line;
       help = p.help;
       version = p.version;
@@ -56,6 +58,7 @@ returns-in-Some-Version g c = let p = program_version (form_of (map string_bytes
       reads = p.reads;
       thread = p.thread;
       runs = p.runs;
+      heard = c.tell-in-Some-Version.ensures.heard;
       line = p.line;
       help = p.help;
       version = p.version;
@@ -75,6 +78,7 @@ returns-in-Some-Run g c = let p = program_run (form_of (map string_bytes c.args.
       reads = p.reads;
       thread = p.thread;
       runs = p.runs;
+      heard = c.run.ensures.heard;
       line = p.line;
       help = p.help;
       version = p.version;

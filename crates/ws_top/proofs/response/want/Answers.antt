@@ -6,4 +6,4 @@ pub stop-requires : goal.stop-requires
 stop-requires g c = line_8
 
 pub returns : goal.returns
-returns g c = record { performs = performs_nothing (g.K.Sink.written c.args.sink.now) (g.K.Sink.written c.stop.new.sink) (g.K.Sink.faults c.args.sink.now) (g.K.Sink.faults c.stop.new.sink) c.stop.result.status c.stop.result.history c.stop.ensures.status c.stop.ensures.nothing c.stop.ensures.line }
+returns g c = record { performs = performs_nothing (g.K.Sink.written c.args.sink.now) (g.K.Sink.written c.stop.new.sink) (g.K.Sink.faults c.args.sink.now) (g.K.Sink.faults c.stop.new.sink) c.stop.result.status c.stop.result.history c.stop.ensures.status c.stop.ensures.nothing c.stop.ensures.line; heard = c.stop.ensures.heard }
