@@ -4,7 +4,7 @@ ghost use Rattle.std.specs.FinMap.{empty};
 ghost use Rattle.ws_durable.specs.Saved.{Saved, saved};
 ghost use Rattle.save_text.specs.Telling.{IsNarrowState};
 ghost use Rattle.save_text.specs.Inside.Told.{told_state};
-ghost use Rattle.save_read.specs.Texts.{StopsAt, IsText};
+ghost use Rattle.save_read.specs.Texts.{IsSpelled, StopsAt, IsText};
 ghost use Rattle.save_read.specs.Sayable.{IsSayable, IsSayableTree};
 ghost use Rattle.save_read.specs.declared.error.ReadError.TheVariants as error;
 ghost use Rattle.save_read.specs.declared.error.TextCause.TheVariants.{BadText, BadState};
@@ -30,6 +30,7 @@ fn read_lawful(
     ensures all { (d : Saved) → IsLawful d → IsText base.now.map shelf.now.map d body.now → MatchResult result (λ e. saved e ≡ d) (λ e. e ≡ error.Memory) }
     ensures text { (at : ℕ) → result ≡ Err (error.Bad at BadText) → StopsAt base.now.map shelf.now.map body.now at }
     ensures state { (at : ℕ) → result ≡ Err (error.Bad at BadState) → at ≡ 0 }
+    ensures spelled { (at : ℕ) → result ≡ Err (error.Bad at BadState) → IsSpelled base.now.map shelf.now.map body.now }
 {
     let durable = read_text(alloc, base, shelf, body)?;
     if !is_lawful(alloc, &durable)? {
@@ -58,6 +59,7 @@ pub fn read_image(alloc: Global, body: &[u8]) -> Result<Durable, ReadError>
     ensures all { (d : Saved) → IsImage d body.now → MatchResult result (λ e. saved e ≡ d) (λ e. e ≡ error.Memory) }
     ensures text { (at : ℕ) → result ≡ Err (error.Bad at BadText) → StopsAt empty empty body.now at }
     ensures state { (at : ℕ) → result ≡ Err (error.Bad at BadState) → at ≡ 0 }
+    ensures spelled { (at : ℕ) → result ≡ Err (error.Bad at BadState) → IsSpelled empty empty body.now }
 {
     let nothing = ElemMap::empty(alloc);
     read_lawful(alloc, &nothing, &nothing, body)
@@ -81,6 +83,7 @@ pub fn read_record(alloc: Global, before: &Durable, body: &[u8]) -> Result<Durab
     ensures all { (d : Saved) → IsRecord (saved before.now) d body.now → MatchResult result (λ e. saved e ≡ d) (λ e. e ≡ error.Memory) }
     ensures text { (at : ℕ) → result ≡ Err (error.Bad at BadText) → StopsAt before.now.tree.map before.now.shelf.map body.now at }
     ensures state { (at : ℕ) → result ≡ Err (error.Bad at BadState) → at ≡ 0 }
+    ensures spelled { (at : ℕ) → result ≡ Err (error.Bad at BadState) → IsSpelled before.now.tree.map before.now.shelf.map body.now }
 {
     read_lawful(alloc, &before.tree, &before.shelf, body)
 }

@@ -7,7 +7,7 @@ ghost use Rattle.save_state.specs.States.{state};
 ghost use Rattle.save_state.specs.declared.state.State.{State as StateValue};
 ghost use Rattle.save_build.specs.Told.{told_tree, AreFit, IsTold};
 ghost use Rattle.save_read.specs.Sayable.{IsSayable, IsSayableTree, AreFew};
-ghost use Rattle.save_read.specs.Texts.{IsText, StopsAt};
+ghost use Rattle.save_read.specs.Texts.{IsText, IsSpelled, StopsAt};
 ghost use Rattle.save_read.specs.Inside.Stops.{Becomes, Stops};
 ghost use Rattle.save_read.specs.declared.error.ReadError.TheVariants as error;
 ghost use Rattle.save_read.specs.declared.error.TextCause.TheVariants.{BadText, BadState};
@@ -118,6 +118,7 @@ pub fn read_text(
     ensures all { (d : Saved) → IsText base.now.map shelf.now.map d body.now → MatchResult result (λ e. saved e ≡ d) (λ e. e ≡ error.Memory) }
     ensures text { (at : ℕ) → result ≡ Err (error.Bad at BadText) → StopsAt base.now.map shelf.now.map body.now at }
     ensures state { (at : ℕ) → result ≡ Err (error.Bad at BadState) → at ≡ 0 }
+    ensures spelled { (at : ℕ) → result ≡ Err (error.Bad at BadState) → IsSpelled base.now.map shelf.now.map body.now }
 {
     let told = read_told(alloc, base, shelf, body)?;
     match build(alloc, &told, base, shelf)? {
