@@ -1,10 +1,11 @@
 //! The program over sources and sinks in memory.
 use crate::asserting::{let_go, must, reads};
+use crate::listening::Note;
 use crate::rows::{cut, number};
 use report_text::{put_counted, put_text};
 use std::process::Abort;
 use ws_outside::{MemSink, MemSource};
-use ws_top::{Kit, Listener, Listeners, top};
+use ws_top::{Kit, Listeners, top};
 
 /// Words, a script, the read and the write that fail; and then the status, how many entries, reads and writes there were,
 /// and what was written. `/` ends a line. A read gives at most seven bytes, a write takes at most 14. The first script has 36
@@ -60,7 +61,7 @@ fn run(
 ) -> Vec<u8> {
     let words = words(rt, asked);
     let kit = Kit {
-        listeners: Listeners::<Box<dyn Listener + Send>>::of(Vec::new(rt.alloc())),
+        listeners: Listeners::<Note>::of(Vec::new(rt.alloc())),
     };
     let outcome = top(rt.alloc(), words.as_slice(), &mut source, &mut sink, kit);
     let mut out = Vec::new(rt.alloc());

@@ -1,28 +1,39 @@
 //! The program: its words, standard input and standard output go to `answer`, with whose status it ends.
 #![tactic(auto)]
 
-ghost use Rattle.std.specs.Prelude.{◌≡◌};
+ghost use Rattle.std.specs.Prelude.{◌≡◌, None};
 ghost use Rattle.std.specs.Process.{exit_status};
 
+use delta_kind::Delta;
 use std::alloc::{AllocError, Global};
 use std::process::ExitCode;
 use std::{env, io, mem};
 use ws_outside::{StdSink, StdSource};
 use ws_top::{Kit, Listener, Listeners, Outcome, answer};
 
+/// A listener that keeps nothing. The program has none.
+#[derive(Drop)]
+struct Nobody;
+
+impl Listener for Nobody {
+    ghost heard = { λ _. None };
+
+    fn told(&mut self, _: &Delta) {}
+}
+
 fn main(rt: HostRuntime) -> ExitCode {
     let alloc = rt.alloc();
     let mut source = StdSource::new(rt.stdin());
     let mut sink = StdSink::new(rt.stdout());
     let kit = Kit {
-        listeners: Listeners::of(Vec::new(alloc)),
+        listeners: Listeners::<Nobody>::of(Vec::new(alloc)),
     };
     ended(answer(alloc, words(&rt, alloc), &mut source, &mut sink, kit))
 }
 
 /// The status with which the program ends. What was done is not let go entry by entry: the system takes the memory back
 /// at once.
-fn ended(outcome: Outcome<Box<dyn Listener + Send>>) -> ExitCode
+fn ended(outcome: Outcome<Nobody>) -> ExitCode
     ensures { exit_status result ≡ outcome.status }
 {
     let Outcome {
