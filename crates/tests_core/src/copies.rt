@@ -14,7 +14,7 @@ job a 30 path /
 batch
 create project /P
 create file /P/a hi
-mark /P/a t name text
+mark /P/a t name text x
 endbatch
 unmark /P/a 1
 clearmarks /P t 2

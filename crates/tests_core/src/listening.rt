@@ -27,7 +27,7 @@ impl Listener for Note {
     }
 }
 
-fn note(rt: &impl AllocGlobal) -> Note {
+fn listener(rt: &impl AllocGlobal) -> Note {
     Note {
         text: Vec::new(rt.alloc()),
         alloc: rt.alloc(),
@@ -37,8 +37,8 @@ fn note(rt: &impl AllocGlobal) -> Note {
 /// What comes of the script, where two listen.
 pub fn run(rt: &(impl Abort + AllocGlobal), script: &str) -> Outcome<Note> {
     let mut listeners = Vec::new(rt.alloc());
-    must(rt, listeners.push(note(rt)));
-    must(rt, listeners.push(note(rt)));
+    must(rt, listeners.push(listener(rt)));
+    must(rt, listeners.push(listener(rt)));
     let kit = Kit {
         listeners: Listeners::of(listeners),
     };
