@@ -5,3 +5,4 @@ pub mod Differing
 pub mod Walks
 pub mod Groups
 pub mod Scratches
+pub mod Ordered

@@ -1,0 +1,14 @@
+//! Builds over any host: each command of a plan is handed what is due and its edits are committed, knots in rounds, and the
+//! outcome is what came of it.
+//!
+//! - `answers`: what a host answers, and what a build answers.
+//! - `host`: a `Host`, where builds are made.
+//! - `building`: the turns of a build, its rounds and its groups.
+#![tactic(auto)]
+
+mod answers;
+mod building;
+mod host;
+
+pub use answers::{BuildAnswer, Given, Started, Taken};
+pub use host::Host;
