@@ -99,12 +99,22 @@ handed_is b found i kind h is = ap (λ (x : Handed). at found (Handing i.project
 pub one_failed : (b b1 b2 : Book) (i : Item) (kind : BuildKind) (h : Handed) (o : BuildOutcome) → Hands b i kind (given.Due h) b1
     → b2 ≡ record b1 { done = b1.done ++ Called i h (Err fault.Failed) ∷ [] } → (o ≡ outcome.BuilderFailed i.project i.index) ⊎ (o ≡ outcome.NoMemory) → Halts b i kind o b2
 one_failed b b1 b2 i kind h o hands e2 how = subst (λ (x : Book). Halts b i kind o x) (sym (is_called b b1 b2 i kind h (Err fault.Failed) hands e2)) (elim how [
-  | inl named ↦ subst (λ y. Halts b i kind y (called b hands.found i kind h (Err fault.Failed))) (sym named)
-      (hands.found, hands.finds, hands.given.0, refl, refl,
-        record { mine = ap (λ x. b.mine ++ x ∷ []) same; since = ap (λ x. b.since ++ x ∷ []) same; done = ap (λ (x : Handed). b.done ++ Called i x (Err fault.Failed) ∷ []) hands.given.1; has = refl }, refl)
-  | inr none ↦ subst (λ y. Halts b i kind y (called b hands.found i kind h (Err fault.Failed))) (sym none)
-      (handing hands.found i kind ∷ [], Called i h (Err fault.Failed) ∷ [],
-        record { mine = ap (λ x. b.mine ++ x ∷ []) same; since = ap (λ x. b.since ++ x ∷ []) same; done = refl; has = refl }, hands.finds, inr refl)
+  | inl named ↦ subst (λ y. Halts b i kind y (called b hands.found i kind h (Err fault.Failed))) (sym named) (
+    hands.found,
+    hands.finds,
+    hands.given.0,
+    refl,
+    refl,
+    record { mine = ap (λ x. b.mine ++ x ∷ []) same; since = ap (λ x. b.since ++ x ∷ []) same; done = ap (λ (x : Handed). b.done ++ Called i x (Err fault.Failed) ∷ []) hands.given.1; has = refl },
+    refl,
+  )
+  | inr none ↦ subst (λ y. Halts b i kind y (called b hands.found i kind h (Err fault.Failed))) (sym none) (
+    handing hands.found i kind ∷ [],
+    Called i h (Err fault.Failed) ∷ [],
+    record { mine = ap (λ x. b.mine ++ x ∷ []) same; since = ap (λ x. b.since ++ x ∷ []) same; done = refl; has = refl },
+    hands.finds,
+    inr refl,
+  )
 ])
   where
     same : at hands.found (Handing i.project i.index kind (given.Due h)) ≡ handing hands.found i kind

@@ -76,7 +76,7 @@ fn build_commands<H: Host>(
 }
 
 /// The commands of projects in turn, and whether one of them touched a file.
-fn build_round<H: Host>(
+pub(crate) fn build_round<H: Host>(
     host: &mut H,
     projects: &[(Name, Commands)],
     kind: BuildKind,
@@ -115,7 +115,7 @@ fn unsettled(knot: &Knot) -> BuildOutcome
 }
 
 /// The projects of a knot in rounds until one touches no file, at most ten.
-fn build_knot<H: Host>(
+pub(crate) fn build_knot<H: Host>(
     host: &mut H,
     knot: &Knot,
     projects: &[(Name, Commands)],

@@ -8,6 +8,7 @@
 
 mod answers;
 mod building;
+mod groups;
 mod host;
 
 pub use answers::{BuildAnswer, Given, Started, Taken};
