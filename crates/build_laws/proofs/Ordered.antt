@@ -278,3 +278,7 @@ described_item descs p i c h at = record {
   valid = h.valid;
   stands = subst (λ cs. slice_get cs i ≡ Some c) (sym h.commands) at;
 }
+
+-- all commands of the groups are those of the plan, in its order
+pub planned_tasks : (descs : Descs) (order : List Project) (knots : List Names) (gs : List (List Project)) → IsPlanned descs order knots gs → all_tasks gs ≡ tasks_of (items_of order)
+planned_tasks descs order knots gs plan = tasks_all gs ∙ ap commands_in (sym plan.ordered) ∙ sym (tasks_in order)

@@ -3,3 +3,6 @@ pub mod Runs
 pub mod Knots
 pub mod Loops
 pub mod Nexts
+pub mod Calls
+pub mod Sweeping
+pub mod Closing

@@ -29,7 +29,7 @@ flat_append : {A B : Type 0} (f : A → List B) (xs ys : List A) → flat_map f 
 flat_append f [] ys = refl
 flat_append f (x ∷ xs) ys = ap (λ zs. f x ++ zs) (flat_append f xs ys) ∙ sym (append_assoc (f x) (flat_map f xs) (flat_map f ys))
 
-joined : {A B : Type 0} (f : A → List B) (b b' b'' : List B) (xs ys : List A) → b' ≡ b ++ flat_map f xs → b'' ≡ b' ++ flat_map f ys → b'' ≡ b ++ flat_map f (xs ++ ys)
+pub joined : {A B : Type 0} (f : A → List B) (b b' b'' : List B) (xs ys : List A) → b' ≡ b ++ flat_map f xs → b'' ≡ b' ++ flat_map f ys → b'' ≡ b ++ flat_map f (xs ++ ys)
 joined f b b' b'' xs ys p q = q ∙ ap (λ x. x ++ flat_map f ys) p ∙ append_assoc b (flat_map f xs) (flat_map f ys) ∙ ap (λ x. b ++ x) (sym (flat_append f xs ys))
 
 -- the records after the last of the turns

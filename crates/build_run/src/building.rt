@@ -1,4 +1,4 @@
-//! The turns of a build, its rounds and its groups.
+//! The turns of a build and its rounds.
 ghost use Rattle.std.specs.Prelude.{◌≡◌, ◌⊎◌, ◌∷◌, [], ℕ, List, IfOk, IfErr, OnOk};
 ghost use Rattle.std.specs.List.{AllByRecursion};
 ghost use Rattle.build_laws.specs.States.{IsItem, item};
