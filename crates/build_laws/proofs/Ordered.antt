@@ -86,7 +86,7 @@ unread_at n d valid i j c e le at_i at_j =
 apart_at : (n : List ℕ) (d : Desc) → IsValid n d → (i j : ℕ) (c e : Command) → i < j → slice_get d.commands i ≡ Some c → slice_get d.commands j ≡ Some e → overlap (placed n c).output (placed n e).output ≡ false
 apart_at n d valid i j c e lt at_i at_j = same_names n c.output e.output
     ∙ subst (λ (x : Command). overlap x.output e.output ≡ false) (get_or_from_slice_get d.commands i c c at_i)
-          (subst (λ (x : Command). overlap (get_or d.commands i c).output x.output ≡ false) (get_or_from_slice_get d.commands j e c at_j) (valid.apart i j c lt (slice_get_within d.commands j e at_j)))
+    (subst (λ (x : Command). overlap (get_or d.commands i c).output x.output ≡ false) (get_or_from_slice_get d.commands j e c at_j) (valid.apart i j c lt (slice_get_within d.commands j e at_j)))
 
 -- no command of a valid description reads what it writes
 pub item_own : (descs : Descs) (i : Item) → IsItem descs i → Unread (task i) (task i).output

@@ -61,7 +61,12 @@ pub trait Host {
 
     /// What a project's command wrote goes, and all that its builder keeps between calls. Answers the number of a refusal,
     /// which is 35 where there is no builder of the command's name.
-    fn clean(&mut self, project: &Name, index: u16, command: &Command) -> Result<Option<u8>, NoMemory>
+    fn clean(
+        &mut self,
+        project: &Name,
+        index: u16,
+        command: &Command,
+    ) -> Result<Option<u8>, NoMemory>
         requires { IsItem (book self.old).now.descs (item project.now index command.now) }
         ensures cleaned { IfOk result (λ refused. Cleans (book self.old) (item project.now index command.now) refused (book self.new)) }
         ensures same { OnErr result (book self.new ≡ book self.old) };

@@ -3,13 +3,9 @@ use Rattle.std.specs.Option.{option_copied}
 use Rattle.builder_api.specs.declared.outcome.BuildOutcome.{BuildOutcome}
 use Rattle.build_run.specs.Commands.{CameTo}
 use Rattle.build_run.specs.Starts.{Closes}
-use Rattle.build_run.proofs.Calls.{opened_calls, may_finish}
 use Rattle.build_run.proofs.Closing.{came_to}
 use Rattle.build_run.proofs.Sweeping.{on_err}
 use Rattle.build_run.proofs.commands.run.Goals as goal
-
-pub finish-requires : goal.finish-requires
-finish-requires g c = may_finish g.H.Host.ends (g.H.Host.book c.went-outcome.new.host) c.twice-outcome.result.0 c.went-outcome.result c.requires c.went-outcome.ensures.calls c.twice-outcome.ensures.outcome
 
 pub returns-in_err-finish-clause-unanswered : goal.returns-in_err-finish-clause-unanswered
 returns-in_err-finish-clause-unanswered g c = on_err c.from_residual-in_err-finish.result (inr (
