@@ -13,7 +13,7 @@ use Rattle.build_laws.specs.Builds.{Project}
 use Rattle.build_run.specs.Books.{Book, Entry, Did, turn_entries, turn_calls, Adds, Ran}
 use Rattle.build_run.specs.Ends.{Halts, RoundHalts, GroupHalts, AllHalt}
 use Rattle.build_run.specs.Sweeps.{Sweep, Passed, Swept, sweep_entries, sweep_calls, WereSwept}
-use Rattle.build_run.specs.Starts.{Asked, asked_by, asked_in, call_of, AreCalls, IsTold, MayEnd, Begins}
+use Rattle.build_run.specs.Starts.{asked_by, asked_in, call_of, AreCalls, IsTold, MayEnd, Begins}
 
 asked_append : (es ds : List Entry) → asked_in (es ++ ds) ≡ asked_in es ++ asked_in ds
 asked_append [] ds = refl

@@ -1,9 +1,8 @@
 -- How a build command closes.
-use Rattle.std.proofs.Common.{◌≡◌, ◌≢◌, ◌⊎◌, inl, inr, ℕ, Bool, true, false, List, [], ◌∷◌, ◌++◌, map, refl, sym, ap, ◌∙◌, subst, Option, Some, None}
+use Rattle.std.proofs.Common.{◌≡◌, ◌≢◌, ◌⊎◌, inl, inr, ℕ, Bool, List, [], ◌∷◌, map, refl, sym, ap, ◌∙◌, subst, Option, Some, None}
 use Rattle.std.specs.Prelude.{IfSome, IsSome}
 use Rattle.std.specs.List.{AllByRecursion, flat_map}
 use Rattle.res_path.specs.Paths.{Names}
-use Rattle.ws_elem.specs.Trees.{Tree}
 use Rattle.builder_api.specs.declared.kind.BuildKind.{BuildKind}
 use Rattle.builder_api.specs.declared.kind.BuildKind.TheVariants.{Full, Auto, Incremental, Clean}
 use Rattle.builder_api.specs.declared.outcome.BuildOutcome.{BuildOutcome}
@@ -11,11 +10,11 @@ use Rattle.builder_api.specs.declared.outcome.BuildOutcome.TheVariants as outcom
 use Rattle.builder_api.specs.declared.plan.Plan.{Plan}
 use Rattle.builder_api.specs.Files.{files_of}
 use Rattle.builder_api.specs.Tasks.{Task}
-use Rattle.builder_api.specs.Meanings.{Meanings, IsMeaning, Fresh}
+use Rattle.builder_api.specs.Meanings.{Meanings, IsMeaning}
 use Rattle.build_laws.specs.States.{Item, State, Descs, Finds}
-use Rattle.build_laws.specs.Records.{HasLawful, Sound}
+use Rattle.build_laws.specs.Records.{Sound}
 use Rattle.build_laws.specs.Plans.{scratch}
-use Rattle.build_laws.specs.Builds.{Project, items_of, tasks_of, all_tasks, AllFresh, AllLawful, present, knots_of}
+use Rattle.build_laws.specs.Builds.{Project, items_of, all_tasks, AllFresh, present, knots_of}
 use Rattle.build_laws.specs.Planned.{IsPlanned}
 use Rattle.build_laws.proofs.Trees.{fresh_found}
 use Rattle.build_laws.proofs.Groups.{built_fresh}
@@ -25,7 +24,7 @@ use Rattle.build_run.specs.Books.{Book}
 use Rattle.build_run.specs.Ends.{Halts, RoundHalts, GroupHalts, AllCame, AllHalt}
 use Rattle.build_run.specs.Sweeps.{SweptTo}
 use Rattle.build_run.specs.Starts.{Begins}
-use Rattle.build_run.specs.Commands.{BuiltTo, WentTo, tasks_in, CameTo}
+use Rattle.build_run.specs.Commands.{BuiltTo, WentTo, CameTo}
 use Rattle.build_run.proofs.Runs.{ran_sound}
 use Rattle.build_run.proofs.Sweeping.{swept_sound}
 

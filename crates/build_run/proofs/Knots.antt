@@ -1,5 +1,5 @@
 -- The rounds of a knot.
-use Rattle.std.proofs.Common.{◌≡◌, inl, inr, ℕ, ◌+◌, ◌<◌, ◌≤◌, Bool, true, false, List, [], ◌∷◌, ◌++◌, length, refl, sym, ap, ◌∙◌, subst, arith, append_assoc, append-nil, length-append}
+use Rattle.std.proofs.Common.{◌≡◌, inl, ℕ, ◌+◌, ◌<◌, ◌≤◌, true, false, List, [], ◌∷◌, ◌++◌, length, refl, sym, ap, ◌∙◌, subst, arith, append_assoc, append-nil, length-append}
 use Rattle.std.specs.List.{flat_map}
 use Rattle.res_path.specs.Paths.{Names}
 use Rattle.builder_api.specs.declared.kind.BuildKind.{BuildKind}
@@ -9,7 +9,7 @@ use Rattle.build_laws.specs.States.{Item}
 use Rattle.build_laws.specs.Turns.{Turn}
 use Rattle.build_laws.specs.Builds.{Untouched, IsRound, later, kind_after, Settles, Stirs, KnotBuilt}
 use Rattle.build_run.specs.Books.{Book, Ran}
-use Rattle.build_run.specs.Ends.{IsStirred, RoundHalts, RoundCame, KnotHalts}
+use Rattle.build_run.specs.Ends.{RoundHalts, RoundCame, KnotHalts}
 use Rattle.build_run.proofs.Runs.{ran_none, ran_more}
 
 abbrev flat : List (List Turn) → List Turn

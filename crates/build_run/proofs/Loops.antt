@@ -1,13 +1,13 @@
 -- The loops over commands and projects.
-use Rattle.std.proofs.Common.{◌≡◌, ℕ, ◌+◌, ◌<◌, ◌≤◌, Bool, ◌||◌, List, [], ◌∷◌, ◌++◌, length, take, get_or, zero, suc, refl, sym, ap, ◌∙◌, subst, Some, arith}
+use Rattle.std.proofs.Common.{◌≡◌, ℕ, ◌+◌, ◌<◌, ◌≤◌, Bool, ◌||◌, List, [], ◌∷◌, length, take, get_or, zero, suc, refl, sym, ap, ◌∙◌, subst, Some, arith}
 use Rattle.std.specs.Prelude.{slice_get}
-use Rattle.std.specs.List.{AllByRecursion, flat_map}
+use Rattle.std.specs.List.{AllByRecursion}
 use Rattle.std.proofs.lemmas.Option.{slice_get-get_or}
 use Rattle.proj_desc.specs.declared.command.Command.{Command}
 use Rattle.builder_api.specs.declared.kind.BuildKind.{BuildKind}
 use Rattle.builder_api.specs.declared.outcome.BuildOutcome.{BuildOutcome}
 use Rattle.builder_api.specs.Meanings.{Meanings}
-use Rattle.build_laws.specs.States.{Item, item, Descs, IsItem}
+use Rattle.build_laws.specs.States.{item, Descs, IsItem}
 use Rattle.build_laws.specs.Turns.{Turn}
 use Rattle.build_laws.specs.Builds.{Project, items_from, project_items, items_of}
 use Rattle.build_laws.specs.Planned.{IsDescribed}

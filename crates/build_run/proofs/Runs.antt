@@ -1,5 +1,5 @@
 -- Runs of turns, one after another.
-use Rattle.std.proofs.Common.{◌≡◌, ℕ, ◌+◌, ◌<◌, ◌≤◌, Bool, true, false, ◌||◌, List, [], ◌∷◌, ◌++◌, length, map, take, zero, suc, refl, sym, ap, ◌∙◌, subst, Some, arith, append_assoc, append-nil}
+use Rattle.std.proofs.Common.{◌≡◌, ℕ, ◌+◌, Bool, true, false, ◌||◌, List, [], ◌∷◌, ◌++◌, length, map, take, zero, suc, refl, sym, ap, ◌∙◌, subst, Some, arith, append_assoc, append-nil}
 use Rattle.std.specs.Prelude.{slice_get}
 use Rattle.std.specs.List.{AllByRecursion, flat_map}
 use Rattle.mark_set.proofs.Builds.{take_next}
@@ -7,13 +7,13 @@ use Rattle.proj_desc.specs.declared.command.Command.{Command}
 use Rattle.builder_api.specs.declared.kind.BuildKind.{BuildKind}
 use Rattle.builder_api.specs.declared.outcome.BuildOutcome.{BuildOutcome}
 use Rattle.builder_api.specs.Meanings.{Meanings}
-use Rattle.build_laws.specs.States.{Item, item, State, Descs}
+use Rattle.build_laws.specs.States.{Item, item, State}
 use Rattle.build_laws.specs.Records.{Sound}
 use Rattle.build_laws.specs.Turns.{Turn, after, after_all, AreTurns}
 use Rattle.build_laws.specs.Builds.{Project, items_from, project_items, items_of, asked, Untouched, IsRound}
 use Rattle.build_laws.proofs.Walks.{after_append, turns_append, descs_turns}
 use Rattle.build_run.specs.Books.{Book, turn_entries, turn_calls, Ran}
-use Rattle.build_run.specs.Ends.{IsStirred, Halts, IsNext, RoundHalts, RoundCame}
+use Rattle.build_run.specs.Ends.{IsStirred, Halts, RoundHalts, RoundCame}
 
 -- ---- runs
 

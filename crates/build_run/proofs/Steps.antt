@@ -1,5 +1,5 @@
 -- The calls of a host in one command's turn.
-use Rattle.std.proofs.Common.{◌≡◌, ◌⊎◌, inl, inr, ℕ, ◌<◌, ◌≤◌, nat_lt, Bool, true, false, List, [], ◌∷◌, ◌++◌, refl, sym, ap, ◌∙◌, subst, Some, Result, Ok, Err, arith, append_assoc, append-nil}
+use Rattle.std.proofs.Common.{◌≡◌, ◌⊎◌, inl, inr, ℕ, ◌<◌, ◌≤◌, nat_lt, Bool, true, false, List, [], ◌∷◌, ◌++◌, refl, sym, ap, ◌∙◌, subst, Result, Ok, Err, arith, append_assoc, append-nil}
 use Rattle.std.specs.Prelude.{IfSome}
 use borrow.Author.Tests.{ltb-true, ltb-false}
 use Rattle.builder_api.specs.declared.builder.BuildFault.{BuildFault}
@@ -11,17 +11,15 @@ use Rattle.builder_api.specs.declared.outcome.BuildOutcome.{BuildOutcome}
 use Rattle.builder_api.specs.declared.outcome.BuildOutcome.TheVariants as outcome
 use Rattle.builder_api.specs.Lawful.{Does}
 use Rattle.builder_api.specs.Meanings.{Meanings}
-use Rattle.build_laws.specs.States.{Item, State, Descs, Records, IsItem, due, Finds}
-use Rattle.build_laws.specs.Commits.{IsCommitted}
+use Rattle.build_laws.specs.States.{Item, State, Descs, IsItem, due, Finds}
 use Rattle.build_laws.specs.Records.{Sound}
 use Rattle.build_laws.specs.Turns.{Turn, Skip, Make, Work, IsMade}
 use Rattle.build_laws.specs.Builds.{touched_by}
 use Rattle.build_laws.proofs.Sounds.{right_turn, sound_turn}
 use Rattle.build_laws.proofs.Ordered.{item_own}
 use Rattle.build_run.specs.declared.answers.Given.TheVariants as given
-use Rattle.build_run.specs.declared.answers.Taken.{Taken}
 use Rattle.build_run.specs.declared.answers.Taken.TheVariants as taken
-use Rattle.build_run.specs.Books.{Book, Entry, Called, at, Handing, Commit, handed, noted, Hands, Takes, Ran}
+use Rattle.build_run.specs.Books.{Book, Entry, Called, at, Handing, Commit, handed, Hands, Takes, Ran}
 use Rattle.build_run.specs.Ends.{IsStirred, handing, Halts, RoundCame}
 
 -- a command without a builder is passed over

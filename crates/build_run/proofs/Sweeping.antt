@@ -1,17 +1,17 @@
 -- Commands that are cleaned, one after another.
 use Rattle.std.proofs.Common.{◌≡◌, ℕ, ◌+◌, ◌<◌, ◌≤◌, List, [], ◌∷◌, ◌++◌, map, length, take, get_or, refl, sym, ap, ◌∙◌, subst, Option, Some, None, Result, Ok, Err, append_assoc, append-nil}
 use Rattle.std.specs.Prelude.{Bool, slice_get, OnErr}
-use Rattle.std.specs.List.{AllByRecursion, flat_map}
+use Rattle.std.specs.List.{AllByRecursion}
 use Rattle.builder_api.specs.Meanings.{Meanings}
 use Rattle.proj_desc.specs.declared.command.Command.{Command}
-use Rattle.build_laws.specs.States.{Item, item, State, Descs, Records, IsItem}
+use Rattle.build_laws.specs.States.{Item, item, State, Descs, IsItem}
 use Rattle.build_laws.specs.Records.{Sound}
 use Rattle.build_laws.specs.Builds.{Project, items_from, project_items, items_of}
 use Rattle.build_laws.specs.Planned.{IsDescribed}
 use Rattle.build_laws.proofs.Sounds.{all_at, sound_cleaned}
 use Rattle.build_laws.proofs.Ordered.{described_item}
 use Rattle.build_run.specs.Books.{Book, Entry, CleanUp, at, Cleans}
-use Rattle.build_run.specs.Sweeps.{Sweep, Passed, Swept, swept_item, swept_state, last_state, sweep_entries, sweep_calls, IsSweep, AreSweeps, WereSwept, SweepsHalt}
+use Rattle.build_run.specs.Sweeps.{Sweep, Passed, Swept, swept_item, swept_state, last_state, sweep_entries, sweep_calls, AreSweeps, WereSwept, SweepsHalt}
 use Rattle.build_run.proofs.Runs.{joined, items_length, items_next, item_parts, projects_next, project_parts}
 use Rattle.build_run.proofs.Loops.{read_at, take_all}
 

@@ -1,5 +1,5 @@
 -- What a pass has done of a build, as contracts see it.
-use Rattle.std.specs.Prelude.{◌≡◌, ℕ, Bool, true, false, List, [], ◌∷◌, ◌++◌, Option, Some, None, Result, Ok, Err}
+use Rattle.std.specs.Prelude.{◌≡◌, ℕ, Bool, true, false, List, [], ◌∷◌, ◌++◌, Option, Some, None, Result, Ok}
 use Rattle.std.specs.List.{AllByRecursion, flat_map}
 use Rattle.builder_api.specs.declared.builder.BuildFault.{BuildFault}
 use Rattle.builder_api.specs.declared.edits.Edits.{Edits}

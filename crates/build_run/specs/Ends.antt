@@ -1,10 +1,9 @@
 -- How a build comes through, and how it halts.
-use Rattle.std.specs.Prelude.{◌≡◌, ◌⊎◌, ◌<◌, ℕ, Bool, true, false, List, [], ◌∷◌, ◌++◌, map, length, Ok, Err}
+use Rattle.std.specs.Prelude.{◌≡◌, ◌⊎◌, ◌<◌, Bool, true, false, List, [], ◌∷◌, ◌++◌, map, length, Ok, Err}
 use Rattle.std.specs.List.{flat_map}
 use Rattle.res_path.specs.Paths.{Names}
 use Rattle.builder_api.specs.declared.builder.BuildFault.TheVariants as fault
 use Rattle.builder_api.specs.declared.edits.Edits.{Edits}
-use Rattle.builder_api.specs.declared.handed.Handed.{Handed}
 use Rattle.builder_api.specs.declared.kind.BuildKind.{BuildKind}
 use Rattle.builder_api.specs.declared.outcome.BuildOutcome.{BuildOutcome}
 use Rattle.builder_api.specs.declared.outcome.BuildOutcome.TheVariants as outcome

@@ -1,7 +1,6 @@
 -- How a build command begins and ends.
-use Rattle.std.specs.Prelude.{◌≡◌, ◌⊎◌, ℕ, List, [], ◌∷◌, ◌++◌, map, Option, Some, None, IfSome, Result, Ok, Err}
+use Rattle.std.specs.Prelude.{◌≡◌, ◌⊎◌, ℕ, List, [], ◌∷◌, ◌++◌, map, Option, Some, None, IfSome, Err}
 use Rattle.std.specs.List.{flat_map}
-use Rattle.res_path.specs.Paths.{Names}
 use Rattle.builder_api.specs.declared.builder.BuildFault.TheVariants as fault
 use Rattle.builder_api.specs.declared.handed.Handed.{Handed}
 use Rattle.builder_api.specs.declared.kind.BuildKind.{BuildKind}

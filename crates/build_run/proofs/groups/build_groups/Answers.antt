@@ -1,4 +1,3 @@
-use Rattle.std.proofs.Common.{refl}
 use Rattle.std.proofs.lemmas.Result.{err_from_is_err_and}
 use Rattle.build_run.proofs.Nexts.{all_left, none_left, next_of, one_less, shorter, all_halt, no_rest, some_rest}
 use Rattle.build_run.proofs.groups.build_groups.Goals as goal
