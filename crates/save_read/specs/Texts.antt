@@ -22,6 +22,10 @@ pub record IsText (base shelf : Tree) (d : Saved) (bytes : List ℕ) : Type 0 wh
   pub sayable : IsSayable d
   pub spelled : (s : State) × Spells base shelf d bytes s
 
+-- the bytes spell a state, whatever it tells
+abbrev pub IsSpelled : Tree → Tree → List ℕ → Type 0
+IsSpelled base shelf bytes = (s : State) × FitsState (told_tree base) (told_tree shelf) s × (bytes ≡ (state (told_tree base) (told_tree shelf)).spell s)
+
 -- The bytes can't go on at this place, and at none before it.
 abbrev pub StopsAt : Tree → Tree → List ℕ → ℕ → Type 0
 StopsAt base shelf bytes at = (stop : Stop) × (read_all (state (told_tree base) (told_tree shelf)) bytes ≡ Err stop) × (place stop ≡ at) × IsFirst (state (told_tree base) (told_tree shelf)) bytes stop

@@ -7,7 +7,7 @@ ghost use Rattle.save_state.specs.States.{state};
 ghost use Rattle.save_state.specs.declared.state.State.{State as StateValue};
 ghost use Rattle.save_build.specs.Told.{told_tree, AreFit, IsTold};
 ghost use Rattle.save_read.specs.Sayable.{IsSayable, IsSayableTree, AreFew};
-ghost use Rattle.save_read.specs.Texts.{IsText, StopsAt};
+ghost use Rattle.save_read.specs.Texts.{IsText, IsSpelled, StopsAt};
 ghost use Rattle.save_read.specs.Inside.Stops.{Becomes, Stops};
 ghost use Rattle.save_read.specs.declared.error.ReadError.TheVariants as error;
 ghost use Rattle.save_read.specs.declared.error.TextCause.TheVariants.{BadText, BadState};
@@ -105,7 +105,7 @@ fn unless_many(durable: Durable) -> Option<Durable>
 }
 
 /// What is kept whose text these bytes are, against a base tree and a base shelf. Refused with `BadText` at the first
-/// place at which they can't go on; and with `BadState` at 0 where they tell what can't be kept.
+/// place at which they can't go on; and with `BadState` at 0 where they go on to their end and tell what can't be kept.
 pub fn read_text(
     alloc: Global,
     base: &ElemMap,
@@ -117,7 +117,7 @@ pub fn read_text(
     ensures ok { IfOk result (λ d. IsText base.now.map shelf.now.map (saved d) body.now) }
     ensures all { (d : Saved) → IsText base.now.map shelf.now.map d body.now → MatchResult result (λ e. saved e ≡ d) (λ e. e ≡ error.Memory) }
     ensures text { (at : ℕ) → result ≡ Err (error.Bad at BadText) → StopsAt base.now.map shelf.now.map body.now at }
-    ensures state { (at : ℕ) → result ≡ Err (error.Bad at BadState) → at ≡ 0 }
+    ensures state { (at : ℕ) → result ≡ Err (error.Bad at BadState) → (at ≡ 0) × IsSpelled base.now.map shelf.now.map body.now }
 {
     let told = read_told(alloc, base, shelf, body)?;
     match build(alloc, &told, base, shelf)? {

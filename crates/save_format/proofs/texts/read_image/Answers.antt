@@ -6,3 +6,6 @@ read_lawful-requires-clause-base c = nothing_fits c.empty-nothing.result.map c.e
 
 pub read_lawful-requires-clause-shelf : goal.read_lawful-requires-clause-shelf
 read_lawful-requires-clause-shelf c = nothing_fits c.empty-nothing.result.map c.empty-nothing.ensures.map
+
+pub returns-clause-state : goal.returns-clause-state
+returns-clause-state c = rw c.empty-nothing.ensures.map at c.read_lawful.ensures.state
