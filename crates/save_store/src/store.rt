@@ -1,5 +1,5 @@
 // The store of what a workspace keeps.
-ghost use Rattle.std.specs.Prelude.{◌≡◌, ◌++◌, ◌×◌, ℕ, List, [], ◌∷◌, Ok, Err, Some, OnOk, OnErr, IfOk, IfErr, IfSome, MatchResult, option_map, is_some, true, false, Option};
+ghost use Rattle.std.specs.Prelude.{◌≡◌, ◌++◌, ℕ, List, [], ◌∷◌, Ok, Err, Some, OnOk, OnErr, IfOk, IfErr, IfSome, MatchResult, option_map, is_some, true, false, Option};
 ghost use Rattle.ws_outside.specs.Disk.{beside, Each, LeavesOnly};
 ghost use Rattle.ws_durable.specs.Saved.{Saved, saved};
 ghost use Rattle.save_format.specs.Valid.{Valid, IsImage};
@@ -37,11 +37,15 @@ pub struct Store<D: Disk> {
 
 impl<D: Disk> Model for Store<D> {
     ghost use Rattle.std.specs.Prelude.{List};
+    ghost use Rattle.std.specs.Coded.{codes};
     ghost use Rattle.ws_durable.specs.Saved.{Saved};
+    ghost use Rattle.ws_durable.specs.contracts.durable.Durable as durable;
     ghost use Rattle.save_store.specs.declared.saves.Saves.{Saves};
     ghost use Rattle.save_store.specs.Stored.{IsStored};
 
     ghost Value = { Saves D };
+
+    ghost coded = { Prim.hlevel (codes, durable.the_row.coded) };
 
     ghost view = { λ s. s.saves };
 

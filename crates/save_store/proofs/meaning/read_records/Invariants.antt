@@ -4,7 +4,7 @@ use Rattle.save_format.specs.Valid.{Valid}
 use Rattle.save_read.specs.declared.error.TextCause.{TextCause}
 use Rattle.save_store.specs.States.{Lead}
 use Rattle.save_store.specs.Damages.{BadRecord}
-use Rattle.save_store.proofs.meaning.read_records.Goals as goal
+use Rattle.save_store.proofs.meaning.read_records.Given as goal
 
 -- what is left decides
 abbrev pub invariant-loop-body : goal.invariant-loop-body
