@@ -108,7 +108,7 @@ inputs_back project (i ∷ is) h =
     let parts = both (is_placed project i) (list_all (is_placed project) is) h in
     λ k. input_back project i parts.0 k ∷ inputs_back project is parts.1 k
 
-command_back : (project : List ℕ) (c : Command) → has_places project c ≡ true → command_of (command_data c) ≡ c
+pub command_back : (project : List ℕ) (c : Command) → has_places project c ≡ true → command_of (command_data c) ≡ c
 command_back project c h =
     let parts = both (list_all (is_placed project) c.inputs) (is_inside project c.output) h in
     let out = both (nat_lt 0 (length c.output)) (is_path (project ∷ c.output)) parts.1 in
@@ -173,7 +173,7 @@ read_back project bytes d u r e =
 
 -- ---- no floats, and no depth
 
-texts_floatless : (ts : List (List ℕ)) → items_have_float (items_of (map string ts)) ≡ false
+pub texts_floatless : (ts : List (List ℕ)) → items_have_float (items_of (map string ts)) ≡ false
 texts_floatless [] = refl
 texts_floatless (t ∷ ts) = texts_floatless ts
 
@@ -188,7 +188,7 @@ texts_depth : (ts : List (List ℕ)) → items_depth (items_of (map string ts)) 
 texts_depth [] = omega arith
 texts_depth (t ∷ ts) = let rest = texts_depth ts in omega arith
 
-command_depth : (c : Command) → depth (command_data c) ≤ 2
+pub command_depth : (c : Command) → depth (command_data c) ≤ 2
 command_depth c = let inputs = texts_depth (map input_text c.inputs) in omega arith
 
 commands_depth : (cs : List Command) → items_depth (items_of (map command_data cs)) ≤ 2

@@ -1,3 +1,4 @@
+pub mod Alone
 pub mod Lists
 pub mod Least
 pub mod Values

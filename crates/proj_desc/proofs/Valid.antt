@@ -19,16 +19,16 @@ use Rattle.proj_desc.proofs.Back.{first_none, second_none, applied}
 
 -- ---- tests that fail for all
 
-none_or : (a b : Bool) → (a || b) ≡ false → (a ≡ false) × (b ≡ false)
+pub none_or : (a b : Bool) → (a || b) ≡ false → (a ≡ false) × (b ≡ false)
 none_or true b h = cc
 none_or false b h = (refl, h)
 
-any_false : {A : Type 0} (p : A → Bool) (xs : List A) → list_any p xs ≡ false → All (λ x. p x ≡ false) xs
+pub any_false : {A : Type 0} (p : A → Bool) (xs : List A) → list_any p xs ≡ false → All (λ x. p x ≡ false) xs
 any_false p [] h k d l = absurd (omega arith)
 any_false p (x ∷ xs) h zero d l = (none_or (p x) (list_any p xs) h).0
 any_false p (x ∷ xs) h (suc k) d l = any_false p xs (none_or (p x) (list_any p xs) h).1 k d (omega arith)
 
-all_true : {A : Type 0} (p : A → Bool) (xs : List A) → list_all p xs ≡ true → AllPass p xs
+pub all_true : {A : Type 0} (p : A → Bool) (xs : List A) → list_all p xs ≡ true → AllPass p xs
 all_true p [] h k d l = absurd (omega arith)
 all_true p (x ∷ xs) h zero d l = (both (p x) (list_all p xs) h).0
 all_true p (x ∷ xs) h (suc k) d l = all_true p xs (both (p x) (list_all p xs) h).1 k d (omega arith)
@@ -147,7 +147,7 @@ no_position p xs h =
     let none : nat_lt (position_or_len p xs) (length xs) ≡ false = grind (arith, nat_tests) in
     ap (λ b. cond b (Some (position_or_len p xs)) None) none
 
-unlike : (a b : List ℕ) → a ≢ b → bytes_eq a b ≡ false
+pub unlike : (a b : List ℕ) → a ≢ b → bytes_eq a b ≡ false
 unlike a b h = by (bytes_eq a b) refl
   where
     by : (b' : Bool) → bytes_eq a b ≡ b' → b' ≡ false
@@ -160,7 +160,7 @@ no_double (name ∷ names) h =
     let none = false_all (bytes_eq name) names (λ k d l. unlike name (get_or names k d) (h 0 (suc k) d (omega arith) (omega arith))) in
     ap (λ b. cond b (Some name) (first_double names)) none ∙ no_double names (λ i j d l m. h (suc i) (suc j) d (omega arith) (omega arith))
 
-both_none : {C : Type 0} (o p : Option C) → o ≡ None → p ≡ None → option_or o p ≡ None
+pub both_none : {C : Type 0} (o p : Option C) → o ≡ None → p ≡ None → option_or o p ≡ None
 both_none o p e f = λ i. option_or (e i) (f i)
 
 no_outputs : (at : ℕ) (cs : List Command) → AllPairs (λ c e. overlap c.output e.output ≡ false) cs → outputs_from at cs ≡ None

@@ -1,5 +1,5 @@
--- The text of a description.
-use Rattle.std.specs.Prelude.{ℕ, List, map, drop, codes, Option, option_map}
+-- The text of a description, and of a command by itself.
+use Rattle.std.specs.Prelude.{◌≡◌, ℕ, List, map, drop, codes, Option, None, option_map, IsSomeAnd}
 use Rattle.serde_json.specs.Data.{Data, string, array, object, member, no_members}
 use Rattle.serde_json.specs.View.{items_of}
 use Rattle.serde_json.specs.Written.{compact_text}
@@ -9,7 +9,8 @@ use Rattle.proj_desc.specs.declared.input.Input.TheVariants.{Own, Other}
 use Rattle.proj_desc.specs.declared.command.Command.{Command}
 use Rattle.proj_desc.specs.declared.desc.Desc.{Desc}
 use Rattle.proj_desc.specs.Values.{value_of}
-use Rattle.proj_desc.specs.Described.{desc_of}
+use Rattle.proj_desc.specs.Described.{command_of, desc_of}
+use Rattle.proj_desc.specs.Causes.{command_cause}
 
 -- a path inside the project, without the first slash
 abbrev pub inner_text : Names → List ℕ
@@ -46,3 +47,20 @@ described text = option_map desc_of (value_of text)
 -- the canonical text of the description that a text is, where it is one
 abbrev pub canonical_of : List ℕ → Option (List ℕ)
 canonical_of text = option_map canonical (described text)
+
+-- ---- a command by itself
+
+abbrev pub command_text : Command → List ℕ
+command_text c = compact_text (command_data c)
+
+-- the command that a text is, where it is one
+abbrev pub commanded : List ℕ → Option Command
+commanded text = option_map command_of (value_of text)
+
+-- it is a command of the project, and the text is its canonical one
+abbrev pub IsTextOf : List ℕ → List ℕ → Command → Type 0
+IsTextOf project text c = (command_cause project c ≡ None) × (command_text c ≡ text)
+
+-- the text is the canonical text of a command of the project
+abbrev pub IsCommandText : List ℕ → List ℕ → Type 0
+IsCommandText project text = IsSomeAnd (commanded text) (IsTextOf project text)

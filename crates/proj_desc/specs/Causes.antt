@@ -8,7 +8,7 @@ use Rattle.std.specs.Str.{bytes_eq}
 use Rattle.serde_json.specs.Data.{Data}
 use Rattle.serde_json.specs.Find.{get}
 use Rattle.res_path.specs.Names.{is_name}
-use Rattle.res_path.specs.Paths.{Names, path_text, overlap}
+use Rattle.res_path.specs.Paths.{Names, path_text, overlap, is_prefix}
 use Rattle.proj_desc.specs.declared.input.Input.{Input}
 use Rattle.proj_desc.specs.declared.input.Input.TheVariants.{Own, Other}
 use Rattle.proj_desc.specs.declared.command.Command.{Command}
@@ -135,6 +135,11 @@ abbrev pub meets : Names → Input → Bool
 meets path (Own own) = overlap own path
 meets path (Other other) = false
 
+-- the input is one elsewhere, and lies at or below the path
+abbrev pub lies_below : Names → Input → Bool
+lies_below path (Own own) = false
+lies_below path (Other other) = is_prefix path other
+
 -- the first command, and then the first one after it, whose outputs overlap; the first of these has the place `at`
 abbrev pub outputs_from : ℕ → List Command → Option DescCause
 outputs_from at [] = None
@@ -170,6 +175,26 @@ link_cause project d = first_cause (
 -- why this is no description of the project, whatever it was read from; none where it is one
 abbrev pub rule_cause : List ℕ → Desc → Option DescCause
 rule_cause project d = option_or (word_cause project d) (link_cause project d)
+
+-- ---- one command
+
+abbrev pub command_word_cause : List ℕ → Command → Option DescCause
+command_word_cause project c = first_cause (
+    when (has_many_inputs c) cause.Many
+    ∷ when (not (is_name c.builder)) cause.BadName
+    ∷ when (not (has_places project c)) cause.BadPath
+    ∷ [])
+
+abbrev pub command_link_cause : Names → Command → Option DescCause
+command_link_cause project c = first_cause (
+    when (list_any (lies_below project) c.inputs) (cause.Foreign 0)
+    ∷ when (list_any (meets c.output) c.inputs) (cause.Inputs 0 0)
+    ∷ [])
+
+-- why no description of the project has this command, whatever it has besides, the first cause that applies; none where it is
+-- a command of the project
+abbrev pub command_cause : List ℕ → Command → Option DescCause
+command_cause project c = option_or (command_word_cause project c) (command_link_cause (project ∷ []) c)
 
 -- ---- all
 

@@ -1,6 +1,7 @@
 //! What a project refers to, and how it is built.
 ghost use Rattle.std.specs.Prelude.{◌≡◌, ◌∷◌, [], List, ℕ, Some, None, IfOk, IfErr, OnOk, IsUtf8};
-ghost use Rattle.proj_desc.specs.Causes.{desc_cause, Tells};
+ghost use Rattle.std.specs.List.{All};
+ghost use Rattle.proj_desc.specs.Causes.{command_cause, desc_cause, Tells};
 ghost use Rattle.proj_desc.specs.Valid.{IsValid};
 ghost use Rattle.proj_desc.specs.Canonical.{described, canonical, canonical_of};
 
@@ -101,6 +102,7 @@ impl Desc {
         ensures ok { IfOk result (λ desc. described text.now ≡ Some desc) }
         ensures valid { OnOk result (desc_cause project.now text.now ≡ None) }
         ensures sound { IfOk result (λ desc. IsValid project.now desc) }
+        ensures commands { IfOk result (λ desc. All (λ c. command_cause project.now c ≡ None) desc.commands) }
         ensures bad { IfErr result (λ e. Tells (desc_cause project.now text.now) e) }
     {
         let value = value::read(alloc, text)?;
@@ -159,7 +161,7 @@ impl Desc {
 }
 
 /// The project's path.
-fn base(alloc: Global, project: &Name) -> Result<Path, NoMemory>
+pub(crate) fn base(alloc: Global, project: &Name) -> Result<Path, NoMemory>
     ensures { IfOk result (λ path. path ≡ project.now ∷ []) }
 {
     match Path::root().join(alloc, project) {

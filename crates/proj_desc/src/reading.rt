@@ -5,7 +5,7 @@ ghost use Rattle.serde_json.specs.View.{view};
 ghost use Rattle.res_path.specs.Names.{is_name};
 ghost use Rattle.proj_desc.specs.Values.{text, text_at};
 ghost use Rattle.proj_desc.specs.Described.{names, begins_with_slash, input_of, command_of, desc_of};
-ghost use Rattle.proj_desc.specs.Causes.{Tells, has_many_inputs, is_inside, is_path, is_placed, has_places, word_cause};
+ghost use Rattle.proj_desc.specs.Causes.{Tells, has_many_inputs, is_inside, is_path, is_placed, has_places, command_word_cause, word_cause};
 ghost use Rattle.proj_desc.specs.Inside.Placing.{told_path, IsBase};
 ghost use Rattle.proj_desc.specs.FirstCause.{when};
 
@@ -147,6 +147,25 @@ fn command_of(
         inputs: Inputs::of(inputs),
         output,
     })
+}
+
+/// The command that the value is. What it refers to, and what overlaps, is not looked at.
+pub fn command(
+    alloc: Global,
+    project: &Name,
+    base: &Path,
+    value: &Value,
+) -> Result<Command, DescError>
+    requires { IsBase project.now base.now }
+    ensures ok { IfOk result (λ command. command ≡ command_of (view value.now)) }
+    ensures valid { OnOk result (command_word_cause project.now (command_of (view value.now)) ≡ None) }
+    ensures bad { IfErr result (λ e. Tells (command_word_cause project.now (command_of (view value.now))) e) }
+{
+    if has_many_inputs(value) {
+        return Err(DescError::Bad(DescCause::Many));
+    }
+    name_of(alloc, text_at(value, "builder"))?;
+    command_of(alloc, project, base, value)
 }
 
 fn inputs_of(

@@ -5,7 +5,7 @@ ghost use Rattle.std.specs.Str.{bytes_eq};
 ghost use Rattle.res_path.specs.Parts.{is_slash};
 ghost use Rattle.res_path.specs.Paths.{Names};
 ghost use Rattle.proj_desc.specs.Described.{names};
-ghost use Rattle.proj_desc.specs.Causes.{first_double, is_foreign, lies_in_none, meets, outputs_from, inputs_from, link_cause};
+ghost use Rattle.proj_desc.specs.Causes.{first_double, is_foreign, lies_in_none, meets, lies_below, outputs_from, inputs_from, command_link_cause, link_cause};
 ghost use Rattle.res_path.specs.Paths.{overlap};
 
 use crate::writing::inner_text;
@@ -31,6 +31,20 @@ pub fn cause(project: &Name, desc: &Desc) -> Result<Option<DescCause>, NoMemory>
         return Ok(Some(cause));
     }
     Ok(first_inputs(commands))
+}
+
+/// Why this is no command of the project at this path, its names and paths aside.
+pub fn command_cause(project: &Path, command: &Command) -> Option<DescCause>
+    ensures { result ≡ command_link_cause project.now command.now }
+{
+    let inputs = command.inputs.as_slice();
+    if lie_below(inputs, project) {
+        return Some(DescCause::Foreign(0));
+    }
+    if are_met(inputs, &command.output) {
+        return Some(DescCause::Inputs(0, 0));
+    }
+    None
 }
 
 fn has_name(names: &[Name], name: &[u8]) -> bool
@@ -118,6 +132,22 @@ fn meets(path: &Path, input: &Input) -> bool
         Input::Own(own) => overlap(own, path),
         Input::Other(_) => false,
     }
+}
+
+fn lies_below(path: &Path, input: &Input) -> bool
+    ensures { result ≡ lies_below path.now input.now }
+{
+    match input {
+        Input::Own(_) => false,
+        Input::Other(other) => path.is_prefix_of(other),
+    }
+}
+
+/// Whether one of the inputs is one elsewhere and lies at or below the path.
+fn lie_below(inputs: &[Input], path: &Path) -> bool
+    ensures { result ≡ list_any (lies_below path.now) inputs.now }
+{
+    inputs.iter().any(|i| lies_below(path, i))
 }
 
 /// The first command, and then the first one after it, whose outputs overlap.

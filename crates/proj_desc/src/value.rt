@@ -1,9 +1,10 @@
 //! Looking into a JSON value.
-ghost use Rattle.std.specs.Prelude.{◌≡◌, ℕ, List, map, IfOk, IfErr, Some};
+ghost use Rattle.std.specs.Prelude.{◌≡◌, ◌≢◌, ℕ, List, map, IfOk, IfErr, Some, None};
 ghost use Rattle.std.specs.List.{list_all};
 ghost use Rattle.serde_json.specs.View.{view};
 ghost use Rattle.proj_desc.specs.Values.{value_of, text, items, text_at, items_at, is_list_of_texts, is_text, is_list};
 ghost use Rattle.proj_desc.specs.Causes.{desc_cause, Tells};
+ghost use Rattle.proj_desc.specs.declared.cause.DescError.TheVariants.{Memory};
 
 use crate::{DescCause, DescError};
 use serde_json::Value;
@@ -13,6 +14,7 @@ use std::alloc::Global;
 pub fn read(alloc: Global, text: &[u8]) -> Result<Value, DescError>
     ensures ok { IfOk result (λ v. value_of text.now ≡ Some (view v)) }
     ensures bad { IfErr result (λ e. (project : List ℕ) → Tells (desc_cause project text.now) e) }
+    ensures none { IfErr result (λ e. e ≢ Memory → value_of text.now ≡ None) }
 {
     match Value::from_slice(alloc, text) {
         Ok(value) => Ok(value),

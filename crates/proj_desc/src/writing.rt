@@ -42,7 +42,8 @@ fn commands_value(alloc: Global, commands: &[Command]) -> Result<Value, NoMemory
     Ok(Value::Array(values))
 }
 
-fn command_value(alloc: Global, command: &Command) -> Result<Value, NoMemory>
+/// The JSON value of the command.
+pub fn command_value(alloc: Global, command: &Command) -> Result<Value, NoMemory>
     ensures { IfOk result (λ v. view v ≡ command_data command.now) }
 {
     let mut members = Map::new(alloc);

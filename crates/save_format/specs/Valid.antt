@@ -32,7 +32,7 @@ pub record IsLawful (d : Saved) : Type 0 where
   pub stamps : AgreeByStamps (maps d)
   -- descriptions are canonical and valid for their project
   pub described : AllByRecursion (Each IsDescribed) (trees d)
-  -- each built record names a project of the tree and an index below its number of commands
+  -- each built record names a project of the tree and an index below its number of commands, and its command's text is canonical
   pub built : AllByRecursion (IsBuiltIn d.tree) d.built
 
 -- It can be told, elements being sound by themselves, without transient markers; and it is lawful.

@@ -4,7 +4,7 @@ ghost use Rattle.std.specs.FinMap.{empty};
 ghost use Rattle.ws_durable.specs.Saved.{Saved, saved};
 ghost use Rattle.save_text.specs.Telling.{IsNarrowState};
 ghost use Rattle.save_text.specs.Inside.Told.{told_state};
-ghost use Rattle.save_read.specs.Texts.{StopsAt, IsSpelled, IsText};
+ghost use Rattle.save_read.specs.Texts.{IsSpelled, StopsAt, IsText};
 ghost use Rattle.save_read.specs.Sayable.{IsSayable, IsSayableTree};
 ghost use Rattle.save_read.specs.declared.error.ReadError.TheVariants as error;
 ghost use Rattle.save_read.specs.declared.error.TextCause.TheVariants.{BadText, BadState};
@@ -29,7 +29,8 @@ fn read_lawful(
     ensures ok { IfOk result (λ d. IsLawful (saved d) × IsText base.now.map shelf.now.map (saved d) body.now) }
     ensures all { (d : Saved) → IsLawful d → IsText base.now.map shelf.now.map d body.now → MatchResult result (λ e. saved e ≡ d) (λ e. e ≡ error.Memory) }
     ensures text { (at : ℕ) → result ≡ Err (error.Bad at BadText) → StopsAt base.now.map shelf.now.map body.now at }
-    ensures state { (at : ℕ) → result ≡ Err (error.Bad at BadState) → (at ≡ 0) × IsSpelled base.now.map shelf.now.map body.now }
+    ensures state { (at : ℕ) → result ≡ Err (error.Bad at BadState) → at ≡ 0 }
+    ensures spelled { (at : ℕ) → result ≡ Err (error.Bad at BadState) → IsSpelled base.now.map shelf.now.map body.now }
 {
     let durable = read_text(alloc, base, shelf, body)?;
     if !is_lawful(alloc, &durable)? {
@@ -52,12 +53,13 @@ pub fn image(alloc: Global, durable: &Durable) -> Result<Vec<u8>, NoMemory>
 }
 
 /// The valid state whose image these bytes are. Refused with `BadText` at the first place at which they can't go on; and
-/// with `BadState` at 0 where they go on to their end and tell no valid state.
+/// with `BadState` at 0 where they tell no valid state.
 pub fn read_image(alloc: Global, body: &[u8]) -> Result<Durable, ReadError>
     ensures ok { IfOk result (λ d. IsImage (saved d) body.now) }
     ensures all { (d : Saved) → IsImage d body.now → MatchResult result (λ e. saved e ≡ d) (λ e. e ≡ error.Memory) }
     ensures text { (at : ℕ) → result ≡ Err (error.Bad at BadText) → StopsAt empty empty body.now at }
-    ensures state { (at : ℕ) → result ≡ Err (error.Bad at BadState) → (at ≡ 0) × IsSpelled empty empty body.now }
+    ensures state { (at : ℕ) → result ≡ Err (error.Bad at BadState) → at ≡ 0 }
+    ensures spelled { (at : ℕ) → result ≡ Err (error.Bad at BadState) → IsSpelled empty empty body.now }
 {
     let nothing = ElemMap::empty(alloc);
     read_lawful(alloc, &nothing, &nothing, body)
@@ -80,7 +82,8 @@ pub fn read_record(alloc: Global, before: &Durable, body: &[u8]) -> Result<Durab
     ensures ok { IfOk result (λ d. IsRecord (saved before.now) (saved d) body.now) }
     ensures all { (d : Saved) → IsRecord (saved before.now) d body.now → MatchResult result (λ e. saved e ≡ d) (λ e. e ≡ error.Memory) }
     ensures text { (at : ℕ) → result ≡ Err (error.Bad at BadText) → StopsAt before.now.tree.map before.now.shelf.map body.now at }
-    ensures state { (at : ℕ) → result ≡ Err (error.Bad at BadState) → (at ≡ 0) × IsSpelled before.now.tree.map before.now.shelf.map body.now }
+    ensures state { (at : ℕ) → result ≡ Err (error.Bad at BadState) → at ≡ 0 }
+    ensures spelled { (at : ℕ) → result ≡ Err (error.Bad at BadState) → IsSpelled before.now.tree.map before.now.shelf.map body.now }
 {
     read_lawful(alloc, &before.tree, &before.shelf, body)
 }

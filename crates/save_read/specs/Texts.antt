@@ -22,7 +22,7 @@ pub record IsText (base shelf : Tree) (d : Saved) (bytes : List ℕ) : Type 0 wh
   pub sayable : IsSayable d
   pub spelled : (s : State) × Spells base shelf d bytes s
 
--- the bytes spell a state, whatever it tells
+-- The bytes spell some state, whatever it tells, to their end.
 abbrev pub IsSpelled : Tree → Tree → List ℕ → Type 0
 IsSpelled base shelf bytes = (s : State) × FitsState (told_tree base) (told_tree shelf) s × (bytes ≡ (state (told_tree base) (told_tree shelf)).spell s)
 

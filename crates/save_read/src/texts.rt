@@ -105,7 +105,7 @@ fn unless_many(durable: Durable) -> Option<Durable>
 }
 
 /// What is kept whose text these bytes are, against a base tree and a base shelf. Refused with `BadText` at the first
-/// place at which they can't go on; and with `BadState` at 0 where they go on to their end and tell what can't be kept.
+/// place at which they can't go on; and with `BadState` at 0 where they tell what can't be kept.
 pub fn read_text(
     alloc: Global,
     base: &ElemMap,
@@ -117,7 +117,8 @@ pub fn read_text(
     ensures ok { IfOk result (λ d. IsText base.now.map shelf.now.map (saved d) body.now) }
     ensures all { (d : Saved) → IsText base.now.map shelf.now.map d body.now → MatchResult result (λ e. saved e ≡ d) (λ e. e ≡ error.Memory) }
     ensures text { (at : ℕ) → result ≡ Err (error.Bad at BadText) → StopsAt base.now.map shelf.now.map body.now at }
-    ensures state { (at : ℕ) → result ≡ Err (error.Bad at BadState) → (at ≡ 0) × IsSpelled base.now.map shelf.now.map body.now }
+    ensures state { (at : ℕ) → result ≡ Err (error.Bad at BadState) → at ≡ 0 }
+    ensures spelled { (at : ℕ) → result ≡ Err (error.Bad at BadState) → IsSpelled base.now.map shelf.now.map body.now }
 {
     let told = read_told(alloc, base, shelf, body)?;
     match build(alloc, &told, base, shelf)? {

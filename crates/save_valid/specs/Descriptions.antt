@@ -1,7 +1,7 @@
 -- Descriptions of projects, and built records of their commands.
 use Rattle.std.specs.Prelude.{◌≡◌, ℕ, ◌<◌, List, [], ◌∷◌, length, None, Some, IfSome, IsSomeAnd}
 use Rattle.std.specs.FinMap.{get}
-use Rattle.proj_desc.specs.Canonical.{described, canonical_of}
+use Rattle.proj_desc.specs.Canonical.{described, canonical_of, IsCommandText}
 use Rattle.proj_desc.specs.Causes.{desc_cause}
 use Rattle.res_path.specs.Names.{IsName}
 use Rattle.res_path.specs.Paths.{Names, last_name}
@@ -22,6 +22,8 @@ HasCommand project text index = (desc_cause project text ≡ None) × IsSomeAnd 
 abbrev pub IsDescribed : Names → Element → Type 0
 IsDescribed p e = e.kind ≡ Project → IfSome (last_name p) (λ name. IsName name × IsCanonical name e.attached.desc)
 
--- a built record names a project of the tree, which has such a command
-abbrev pub IsBuiltIn : Tree → SavedBuilt → Type 0
-IsBuiltIn tree b = IsSomeAnd (get tree (b.project ∷ [])) (λ e. (e.kind ≡ Project) × HasCommand b.project e.attached.desc b.index)
+-- A built record names a project of the tree, which has a command of its number, and its own command's text is the canonical
+-- text of a command of the project.
+pub record IsBuiltIn (tree : Tree) (b : SavedBuilt) : Type 0 where
+  pub there : IsSomeAnd (get tree (b.project ∷ [])) (λ e. (e.kind ≡ Project) × HasCommand b.project e.attached.desc b.index)
+  pub command : IsCommandText b.project b.command

@@ -8,7 +8,7 @@ ghost use Rattle.ws_elem.specs.declared.kind.Kind.TheVariants.{Project};
 ghost use Rattle.save_valid.specs.Descriptions.{IsCanonical, HasCommand, IsBuiltIn};
 
 use crate::each::Test;
-use proj_desc::{Desc, DescError};
+use proj_desc::{Command, Desc, DescError};
 use res_path::{Name, Path, PathError};
 use std::alloc::{AllocError, Global};
 use ws_durable::Built;
@@ -107,11 +107,15 @@ fn project_path(alloc: Global, project: &Name) -> Result<Path, NoMemory>
 fn is_built_in(alloc: Global, tree: &ElemMap, built: &Built) -> Result<bool, NoMemory>
     ensures { IfOk result (λ is. IsTrue is ↔ IsBuiltIn tree.now.map (saved_built built.now)) }
 {
-    let path = project_path(alloc, &built.project)?;
-    is_project_of(alloc, tree.get(&path), &built.project, built.index)
+    let project = &built.project;
+    let path = project_path(alloc, project)?;
+    let there = is_project_of(alloc, tree.get(&path), project, built.index)?;
+    let canonical = Command::is_canonical(alloc, project, &built.command)?;
+    Ok(there && canonical)
 }
 
-/// Whether each built record names a project of the tree, which has such a command.
+/// Whether each built record names a project of the tree, which has a command of its number, and keeps the canonical text of
+/// a command of the project.
 pub fn are_built_in(alloc: Global, tree: &ElemMap, built: &[Built]) -> Result<bool, NoMemory>
     ensures { IfOk result (λ is. IsTrue is ↔ AllByRecursion (IsBuiltIn tree.now.map) (map saved_built built.now)) }
 {

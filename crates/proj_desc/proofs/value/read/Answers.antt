@@ -22,3 +22,6 @@ returns-in-Err-2-clause-ok c = tt
 pub returns-in-Err-2-clause-bad : goal.returns-in-Err-2-clause-bad
 returns-in-Err-2-clause-bad c = λ project.
     ap (read_cause project) (value_unread c.args.text.now (c.in-Err.ensures.err (λ m. let never = c.if-is_memory.ensures.1 m in cc)))
+
+pub returns-in-Err-2-clause-none : goal.returns-in-Err-2-clause-none
+returns-in-Err-2-clause-none c = λ _. value_unread c.args.text.now (c.in-Err.ensures.err (λ m. let never = c.if-is_memory.ensures.1 m in cc))

@@ -18,3 +18,6 @@ returns-clause-all c d text =
     let never = rw c.in-None.is at c.in_ok-durable.ensures in
     let told = c.in_ok-told.ensures.found in
     absurd (no_text c.args.base.now.map c.args.shelf.now.map c.args.body.now c.in_ok-told.told told.0 told.1 c.in_ok-told.ensures.only never d text)
+
+pub returns-clause-spelled : goal.returns-clause-spelled
+returns-clause-spelled c at is = let found = c.in_ok-told.ensures.found in (c.in_ok-told.told, found.0, found.1)

@@ -2,6 +2,7 @@ use Rattle.std.proofs.Common.{◌≡◌, Some, None, rules}
 use Rattle.proj_desc.specs.Canonical.{described}
 use Rattle.proj_desc.specs.Causes.{desc_cause}
 use Rattle.proj_desc.proofs.Back.{described_keeps}
+use Rattle.proj_desc.proofs.Alone.{commands_keep}
 use Rattle.proj_desc.proofs.Valid.{valid}
 use Rattle.std.proofs.lemmas.Result.{err_from_is_err_and}
 use Rattle.proj_desc.proofs.desc.Desc.parse.Goals as goal
@@ -15,3 +16,6 @@ returns-clause-sound c =
     valid c.args.project.now c.in_ok-desc.desc
     (described_keeps c.args.project.now c.args.text.now c.in_ok-desc.desc (let none : desc_cause c.args.project.now c.args.text.now ≡ None = search rules in none)
     (let described : described c.args.text.now ≡ Some c.in_ok-desc.desc = search rules in described))
+
+pub returns-clause-commands : goal.returns-clause-commands
+returns-clause-commands c = commands_keep c.args.project.now c.in_ok-desc.desc (returns-clause-sound c)
