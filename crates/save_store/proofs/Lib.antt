@@ -1,7 +1,6 @@
 pub mod Counting
 pub mod Damaging
 pub mod FreshState
-pub mod Limiting
 pub mod Meanings
 pub mod Only
 pub mod Runs

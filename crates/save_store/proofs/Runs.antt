@@ -10,9 +10,9 @@ use Rattle.area_pair.specs.Reads.{reads}
 use Rattle.area_store.specs.declared.desk.Desk.{Desk}
 use Rattle.area_store.specs.Kept.{Point, saved as image_point, recorded, Among, ReadsAs, IsKept}
 use Rattle.area_store.proofs.Steps.{start_reads}
-use Rattle.save_format.specs.Valid.{IsImage, IsRecord}
+use Rattle.save_format.specs.Valid.{Valid, IsImage, IsRecord}
 use Rattle.ws_durable.specs.declared.durable.Durable.{Durable}
-use Rattle.save_store.proofs.Meanings.{recorded_means}
+use Rattle.save_store.proofs.Meanings.{recorded_means, means_valid}
 use Rattle.save_store.specs.declared.saves.Saves.{Saves}
 use Rattle.save_store.specs.States.{Mean, Holds, HoldsOne}
 use Rattle.save_store.specs.Stored.{MeanOne, AllMean, IsStored}
@@ -64,6 +64,16 @@ stored_holds may_leave begun saves k c left =
 
 pub last_holds : {D : Type 0} (may_leave : D → Contents → Type 0) (saves : Saves D) → IsStored may_leave [] saves → Each (may_leave saves.areas.disk) (λ c. Holds c (saved saves.last))
 last_holds may_leave saves k c left = ⊎_elim (λ h. h) (λ none. absurd none) (stored_holds may_leave [] saves k c left)
+
+-- after a save that answered Ok each crash image holds its state
+pub leaves_now : {D T E : Type 0} (may_leave : D → Contents → Type 0) (old new : Saves D) (now : Durable) (r : Result T E) → OnOk r ((begun : List Saved) → IsStored may_leave begun old → IsStored may_leave [] new)
+    → OnOk r (new.last ≡ now) → (begun : List Saved) × IsStored may_leave begun old → OnOk r (Each (may_leave new.areas.disk) (λ c. Holds c (saved now)))
+leaves_now may_leave old new now (Ok x) kept last k = subst (λ (n : Durable). Each (may_leave new.areas.disk) (λ c. Holds c (saved n))) last (last_holds may_leave new (kept k.0 k.1))
+leaves_now may_leave old new now (Err e) kept last k = tt
+
+-- the acknowledged state is valid
+pub stored_valid : {D : Type 0} (may_leave : D → Contents → Type 0) (saves : Saves D) → (begun : List Saved) × IsStored may_leave begun saves → Valid (saved saves.last)
+stored_valid may_leave saves k = means_valid k.1.point (saved saves.last) k.1.last
 
 -- after a save, whatever it answered
 pub stored_after : {D T E : Type 0} (may_leave : D → Contents → Type 0) (old new : Saves D) (now : Saved) (r : Result T E) → OnOk r ((begun : List Saved) → IsStored may_leave begun old → IsStored may_leave [] new)
@@ -140,6 +150,10 @@ pub record_step : {D : Type 0} (may_leave : D → Contents → Type 0) (old : Sa
 record_step may_leave old now body gate is sound record_is begun k =
     let t = texts_there k.point (sym (k.gate sound) ∙ is_there old.areas.gate gate is) in
     (recorded_means k.point t.0 (saved old.last) (saved now) body t.1 k.last record_is, ap (λ (p : Point). is_some (recorded body p)) t.1)
+
+-- whether the last save failed says nothing of what the areas hold
+pub flagged : {D : Type 0} (may_leave : D → Contents → Type 0) (old : Saves D) (failed : Bool) (begun : List Saved) → IsStored may_leave begun old → IsStored may_leave begun (record old { failed = failed })
+flagged may_leave old failed begun k = record { point = k.point; points = k.points; kept = k.kept; last = k.last; later = k.later; gate = k.gate }
 
 -- a store on which nothing was written, whose save was begun
 pub begun_stored : {D : Type 0} (may_leave : D → Contents → Type 0) (old : Saves D) (failed : Bool) (now : Saved) (begun : List Saved) → IsStored may_leave begun old

@@ -57,6 +57,7 @@ impl<D: Disk> Saves<D> {
         ensures failed { OnErr result (self.new.failed ≡ true) }
         ensures beside { option_map (beside (other self.old.areas.home)) (D.seen self.new.areas.disk) ≡ option_map (beside (other self.old.areas.home)) (D.seen self.old.areas.disk) }
         ensures limits { MatchResult result (λ _. Fits last × HasNumber self.old.areas.top) (FailsFull last self.old.areas.top) }
+        ensures took_none { result ≡ Err Memory → ⊥ }
         ensures cause { MatchResult result (λ _. D.faults self.new.areas.disk ≡ D.faults self.old.areas.disk) (FaultOf (D.faults self.old.areas.disk) (D.faults self.new.areas.disk)) }
     {
         self.failed = true;
