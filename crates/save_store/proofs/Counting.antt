@@ -1,6 +1,6 @@
 -- What is told of both areas, from what each is read as.
 use Rattle.std.proofs.Common.{◌≡◌, inl, inr, ℕ, ◌+◌, List, [], Option, Some, None, Result, Ok, Err, Bool, true, false, cond, refl, sym, ◌∙◌, ap, subst, arith}
-use Rattle.std.specs.Prelude.{is_some}
+use Rattle.std.specs.Prelude.{is_some, IfSome}
 use Rattle.std.specs.FinMap.{empty, contains_key, len, len-empty, len-insert, get-empty}
 use Rattle.ws_outside.specs.declared.contents.Contents.{Contents}
 use Rattle.ws_outside.specs.declared.contents.Which.{Which}
@@ -22,7 +22,8 @@ use Rattle.area_pair.proofs.Choosing.{chosen_head, area_none}
 use Rattle.save_store.specs.declared.faults.OpenFault.{OpenFault}
 use Rattle.save_store.specs.declared.faults.OpenFault.TheVariants as open_fault
 use Rattle.save_store.specs.Damages.{texts_of_area, Spoils, IsDamaged, TellsDamage, OfTexts}
-use Rattle.save_store.specs.Looks.{CountsIn, Counts, SpoilsChosen}
+use Rattle.save_store.specs.declared.look.Found.{Found}
+use Rattle.save_store.specs.Looks.{counted, CountsIn, Counts, SpoilsChosen, IsLookedAt}
 use Rattle.save_store.specs.States.{fresh, Holds}
 
 -- the fresh workspace has one element
@@ -76,3 +77,25 @@ module _ (both : Contents) (heads : Heads) (are : heads_of both ≡ Ok heads) (l
   spoils_tell area is open_fault.Disk spoils = tt
   spoils_tell area is (open_fault.Damaged d) spoils = spoils_both area is d spoils
   spoils_tell area is open_fault.Memory spoils = tt
+
+-- what is told of both areas is what they hold
+looked_at : (both : Contents) (found : Found) (heads : Heads) (left right : Result (Option Area) Place) → heads_of both ≡ Ok heads → left ≡ area_of both.left → right ≡ area_of both.right
+    → found.chosen ≡ chosen heads → found.left ≡ counted heads.0 left → found.right ≡ counted heads.1 right → Counts found.chosen left right found.elements → IsLookedAt both found
+looked_at both found heads left right are here there chosen_is first second counts =
+    let held = counts_hold both heads are left right here there found.chosen (sym chosen_is) found.elements counts in
+    record {
+      heads = heads;
+      are = are;
+      left = first ∙ ap (counted heads.0) here;
+      right = second ∙ ap (counted heads.1) there;
+      chosen_is = chosen_is;
+      state = held.0;
+      holds = held.1;
+      elements = held.2;
+    }
+
+pub look_told : (seen : Option Contents) (found : Found) (heads : Heads) (left right : Result (Option Area) Place)
+    → IfSome seen (λ both. heads_of both ≡ Ok heads) → IfSome seen (λ both. left ≡ area_of both.left) → IfSome seen (λ both. right ≡ area_of both.right)
+    → found.chosen ≡ chosen heads → found.left ≡ counted heads.0 left → found.right ≡ counted heads.1 right → Counts found.chosen left right found.elements → IfSome seen (λ both. IsLookedAt both found)
+look_told None found heads left right are here there chosen_is first second counts = tt
+look_told (Some both) found heads left right are here there chosen_is first second counts = looked_at both found heads left right are here there chosen_is first second counts

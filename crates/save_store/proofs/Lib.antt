@@ -3,4 +3,5 @@ pub mod Damaging
 pub mod FreshState
 pub mod Meanings
 pub mod Only
+pub mod Opening
 pub mod Runs

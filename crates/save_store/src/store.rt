@@ -52,15 +52,23 @@ impl<D: Disk> Model for Store<D> {
     ghost invariant = { λ s. (begun : List Saved) × IsStored D.may_leave begun s.saves };
 }
 
-/// What a store is opened to, twice: the fresh workspace where there are no texts.
+/// What a store is opened to: the fresh workspace where there are no texts.
+fn state_in(alloc: Global, area: Which, texts: Option<Texts>) -> Result<Durable, OpenFault>
+    ensures ok { IfOk result (λ d. Mean texts (saved d)) }
+    ensures damaged { IfErr result (OfTexts (λ d. (t : TextsValue) × (texts ≡ Some t) × SpoilsTexts area t d)) }
+{
+    match texts {
+        None => Ok(fresh(alloc)?),
+        Some(texts) => told(alloc, area, &texts),
+    }
+}
+
+/// The same twice.
 fn meant(alloc: Global, area: Which, texts: Option<Texts>) -> Result<(Durable, Durable), OpenFault>
     ensures ok { IfOk result (λ both. Mean texts (saved both.0) × (both.1 ≡ both.0)) }
     ensures damaged { IfErr result (OfTexts (λ d. (t : TextsValue) × (texts ≡ Some t) × SpoilsTexts area t d)) }
 {
-    let durable = match texts {
-        None => fresh(alloc)?,
-        Some(texts) => told(alloc, area, &texts)?,
-    };
+    let durable = state_in(alloc, area, texts)?;
     let copy = durable.copy()?;
     Ok((durable, copy))
 }

@@ -25,5 +25,5 @@ loop-body-preserved c =
       valid = is.0;
       leads = record_leads before c.args.from bodies l.body-index c.body-item.result c.loop-body-test.true c.body-item.is (saved l.durable) l.gate next bytes c.as_slice-bytes.ensures is l.invariant.leads;
       bad = record_bad before c.args.from bodies l.body-index c.body-item.result c.loop-body-test.true c.body-item.is (saved l.durable) l.gate next bytes c.further-gate.result c.as_slice-bytes.ensures
-      (c.further-gate.ensures ∙ ap (λ gate. further gate (length bytes)) c.further.ensures) is l.invariant.bad;
+          (c.further-gate.ensures ∙ ap (λ gate. further gate (length bytes)) c.further.ensures) is l.invariant.bad;
     }
