@@ -16,7 +16,7 @@ use area_pair::{Texts, find};
 use disk_area::AreaFault;
 use std::alloc::Global;
 use std::marker::Model;
-use ws_outside::{Disk, Failed};
+use ws_outside::{Disk, Failed, Which};
 
 /// A store of texts over a disk's two areas. A contract sees what it knows of them, the disk included.
 ///
@@ -101,6 +101,13 @@ impl<D: Disk> AreaStore<D> {
         ensures cause { MatchResult result (λ _. D.faults self.new.disk ≡ D.faults self.old.disk) (FaultOf (D.faults self.old.disk) (D.faults self.new.disk)) }
     {
         self.desk.full(image)
+    }
+
+    /// The area that isn't written next: the acknowledged one, where there is one.
+    pub fn home(&self) -> Which
+        ensures { result ≡ self.now.home }
+    {
+        self.desk.home
     }
 
     /// The most bytes that the body of a record may have: None exactly where no area is acknowledged, the last save failed,

@@ -1,0 +1,28 @@
+use Rattle.std.proofs.Common.{◌≡◌, Some, refl}
+use Rattle.std.proofs.lemmas.Result.{IfOk-weaker, IfErr-weaker, MatchResult-from_both}
+use Rattle.std.specs.Prelude.{IfSome}
+use Rattle.ws_durable.specs.Saved.{saved}
+use Rattle.disk_area.proofs.Readings.{both_told}
+use Rattle.area_pair.specs.declared.texts.Texts.{Texts}
+use Rattle.save_store.specs.Damages.{IsDamaged, IsUndamaged, OfTexts, SpoilsTexts, TellsDamage}
+use Rattle.save_store.specs.States.{Mean}
+use Rattle.save_store.proofs.Opening.{told_damaged, told_sound, told_once}
+use Rattle.save_store.proofs.store.Store.open.Goals as goal
+
+pub returns-in-Ok-clause-only : goal.returns-in-Ok-clause-only
+returns-in-Ok-clause-only g c =
+    let seen = g.D.Disk.seen c.args.disk in
+    let areas = c.in-Ok.areas in
+    let texts = c.in-Ok.texts in
+    both_told seen seen refl c.in-Ok.ensures.texts c.in-Ok.ensures.chosen (λ both are begun d holds.
+    MatchResult-from_both c.over.result (λ o. d ≡ saved o.1) (λ x. IsUndamaged x.0)
+    (IfOk-weaker c.over.result (λ o. Mean texts (saved o.1)) (λ o. d ≡ saved o.1) (λ o means. told_once both areas texts are begun d (saved o.1) holds means) c.over.ensures.means)
+    (IfErr-weaker c.over.result (λ x. OfTexts (λ y. (t : Texts) × (texts ≡ Some t) × SpoilsTexts areas.home t y) x.0) (λ x. IsUndamaged x.0) (λ x spoils. told_sound both areas texts are begun d holds x.0 spoils) c.over.ensures.damaged))
+
+pub returns-in-Ok-clause-damaged : goal.returns-in-Ok-clause-damaged
+returns-in-Ok-clause-damaged g c =
+    let seen = g.D.Disk.seen c.args.disk in
+    let areas = c.in-Ok.areas in
+    let texts = c.in-Ok.texts in
+    IfErr-weaker c.over.result (λ x. OfTexts (λ y. (t : Texts) × (texts ≡ Some t) × SpoilsTexts areas.home t y) x.0) (λ x. IfSome seen (λ both. TellsDamage (IsDamaged both) x.0))
+    (λ x spoils. both_told seen seen refl c.in-Ok.ensures.texts c.in-Ok.ensures.chosen (λ both are begun. told_damaged both areas texts are begun x.0 spoils)) c.over.ensures.damaged
