@@ -15,7 +15,7 @@ mod refusal;
 mod standing;
 
 pub use bad::check_edits;
-pub use out_files::{edited, outputs};
+pub use out_files::{edited, new_file, outputs};
 pub use refusal::{EditError, EditRefusal};
 pub use res_path::NoMemory;
 pub use standing::wanted;
