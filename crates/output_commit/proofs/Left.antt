@@ -60,7 +60,7 @@ below_files p (e ∷ es) h = by (is_file e.1.kind) (below_files p es (second _ _
     by true rest = both _ _ (first _ _ h) rest
     by false rest = rest
 
-sorted_files : (es : Entries) → T (sorted es) → T (sorted (filter (λ e. is_file e.1.kind) es))
+pub sorted_files : (es : Entries) → T (sorted es) → T (sorted (filter (λ e. is_file e.1.kind) es))
 sorted_files [] h = tt
 sorted_files (e ∷ es) h = by (is_file e.1.kind) (sorted_files es (second _ _ h))
   where
@@ -84,7 +84,7 @@ find_files q (e ∷ es) h = by (is_file e.1.kind) refl (is_at q e.0) refl (find_
 
 -- ---- the files below o
 
-below_members : (o : Names) (es : Entries) → AllBelow o (filter (λ e. is_file e.1.kind) (filter (λ e. is_below o e.0) es))
+pub below_members : (o : Names) (es : Entries) → AllBelow o (filter (λ e. is_file e.1.kind) (filter (λ e. is_below o e.0) es))
 below_members o [] = tt
 below_members o (e ∷ es) = by (is_below o e.0) refl (below_members o es)
   where
@@ -103,7 +103,7 @@ below_members o (e ∷ es) = by (is_below o e.0) refl (below_members o es)
         front false b h = cc
     by false h rest = rest
 
-under : (o : Names) (n : List ℕ) (k : Names) → is_below o (o ++ n ∷ k) ≡ true
+pub under : (o : Names) (n : List ℕ) (k : Names) → is_below o (o ++ n ∷ k) ≡ true
 under o n k = λ i. prefix_append o (n ∷ k) i && not (not_above o n k i)
 
 -- the file below o at a path from there
@@ -115,7 +115,7 @@ bytes_output t o n k =
 
 -- ---- all of it
 
-wanted_same : (t : Tree) (o : Names) (w : Tree) (es : Entries) → AllByRecursion (λ e. contains_key w e.0 ≡ true) es → AllByRecursion (λ e. get (cleared t o w) e.0 ≡ get t e.0) es
+pub wanted_same : (t : Tree) (o : Names) (w : Tree) (es : Entries) → AllByRecursion (λ e. contains_key w e.0 ≡ true) es → AllByRecursion (λ e. get (cleared t o w) e.0 ≡ get t e.0) es
 wanted_same t o w [] all = tt
 wanted_same t o w (e ∷ es) all = (get-cleared t o w e.0 ∙ ap (λ b. cond (not (is_below o e.0 && not b)) (get t e.0) None) all.0 ∙ by (is_below o e.0) (get t e.0), wanted_same t o w es all.1)
   where
@@ -123,7 +123,7 @@ wanted_same t o w (e ∷ es) all = (get-cleared t o w e.0 ∙ ap (λ b. cond (no
     by true x = refl
     by false x = refl
 
-no_project : (o : Names) (n : List ℕ) (k : Names) → 2 ≤ length o → is_at (o ++ n ∷ k) (project_of o) ≡ false
+pub no_project : (o : Names) (n : List ℕ) (k : Names) → 2 ≤ length o → is_at (o ++ n ∷ k) (project_of o) ≡ false
 no_project o n k h = at_other (o ++ n ∷ k) (project_of o) (λ same.
     let long : length (o ++ n ∷ k) ≡ length o + length (n ∷ k) = length_append o (n ∷ k) in
     let short : length (project_of o) ≤ 1 = project_length o in
@@ -179,7 +179,7 @@ files_left r o index e long good m has = record {
 }
 
 -- edits that aren't refused have no bad path
-unrefused : (r : Resources) (o : Names) (index : ℕ) (e : Edits) → refusal r o index e ≡ None → bad_path e.files (files_after r o e) ≡ None
+pub unrefused : (r : Resources) (o : Names) (index : ℕ) (e : Edits) → refusal r o index e ≡ None → bad_path e.files (files_after r o e) ≡ None
 unrefused r o index e h = by (bad_path e.files (files_after r o e)) h
   where
     by : (x : Option Names) → option_or (option_map BadEdits x) (first_cause (when (goes_too_deep o e.files) TooDeep ∷ when (gets_too_long o e.files) TooLong ∷ room_causes r (committed r o index e))) ≡ None → x ≡ None

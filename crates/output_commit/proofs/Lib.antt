@@ -6,3 +6,5 @@ mod Shown
 mod Wished
 mod Undisputed
 mod Left
+mod Apart
+mod Filled

@@ -42,7 +42,7 @@ last_append q (e ∷ es) fs = ap (λ x. option_or x (cond (is_at q e.0) (Some e.
     assoc (Some f) y = refl
 
 -- what holds of each element at q holds of the last one there
-last_all : (P : Element → Type 0) (q : Names) (es : Entries) → AllByRecursion (λ x. is_at q x.0 ≡ true → P x.1) es → IfSome (last_at q es) P
+pub last_all : (P : Element → Type 0) (q : Names) (es : Entries) → AllByRecursion (λ x. is_at q x.0 ≡ true → P x.1) es → IfSome (last_at q es) P
 last_all P q [] all = tt
 last_all P q (e ∷ es) all = by (last_at q es) (last_all P q es all.1) (is_at q e.0) refl
   where
@@ -55,11 +55,11 @@ all_append : (Q : Names × Element → Type 0) (es fs : Entries) → AllByRecurs
 all_append Q [] fs a b = b
 all_append Q (e ∷ es) fs a b = (a.0, all_append Q es fs a.1 b)
 
-all_flat : (Q : Names × Element → Type 0) (f : Names × Element → Entries) (es : Entries) → AllByRecursion (λ e. AllByRecursion Q (f e)) es → AllByRecursion Q (flat_map f es)
+pub all_flat : (Q : Names × Element → Type 0) (f : Names × Element → Entries) (es : Entries) → AllByRecursion (λ e. AllByRecursion Q (f e)) es → AllByRecursion Q (flat_map f es)
 all_flat Q f [] all = tt
 all_flat Q f (e ∷ es) all = all_append Q (f e) (flat_map f es) all.0 (all_flat Q f es all.1)
 
-all_map : (P Q : Names × Element → Type 0) (es : Entries) → ((e : Names × Element) → P e → Q e) → AllByRecursion P es → AllByRecursion Q es
+pub all_map : (P Q : Names × Element → Type 0) (es : Entries) → ((e : Names × Element) → P e → Q e) → AllByRecursion P es → AllByRecursion Q es
 all_map P Q [] h all = tt
 all_map P Q (e ∷ es) h all = (h e all.0, all_map P Q es h all.1)
 
@@ -90,11 +90,11 @@ all_names P Q [] h all = tt
 all_names P Q (p ∷ ps) h all = (h p all.0, all_names P Q ps h all.1)
 
 -- the path is above p, and isn't p
-record Over (p q : Names) : Type 0 where
+pub record Over (p q : Names) : Type 0 where
   pub under : is_prefix q p ≡ true
   pub shorter : length q < length p
 
-above_over : (n : ℕ) (p : Names) → n < length p → AllByRecursion (Over p) (above n p)
+pub above_over : (n : ℕ) (p : Names) → n < length p → AllByRecursion (Over p) (above n p)
 above_over zero p h = tt
 above_over (suc n) p h =
     let some : p ≡ [] → ⊥ = names_more (suc n) p h in
@@ -105,11 +105,11 @@ above_over (suc n) p h =
           (above_over n (parent p) (omega arith)),
     )
 
-over_below : (p q : Names) → Over p q → is_below q p ≡ true
+pub over_below : (p q : Names) → Over p q → is_below q p ≡ true
 over_below p q o = ap (λ b. b && not (is_prefix p q)) o.under
     ∙ ap not (not_true (is_prefix p q) (λ e. let long : length p ≤ length q = prefix_length p q e in let short : length q < length p = o.shorter in absurd (omega arith)))
 
-prefix_both : (o p q : Names) → is_prefix (o ++ p) (o ++ q) ≡ is_prefix p q
+pub prefix_both : (o p q : Names) → is_prefix (o ++ p) (o ++ q) ≡ is_prefix p q
 prefix_both [] p q = refl
 prefix_both (n ∷ o) p q = ap (λ b. b && is_prefix (o ++ p) (o ++ q)) (itself n) ∙ prefix_both o p q
 
@@ -145,7 +145,7 @@ no_file_wanted o f k none = ap file_bytes (get-put_all empty (flat_map (λ e. st
     folder (Some e) h = h
 
 -- what is wanted at a path, element by element
-get-wanted : (o : Names) (f : Tree) (q : Names) → get (wanted o f) q ≡ last_at q (flat_map (λ e. standing (o ++ e.0) e.1) (entries f))
+pub get-wanted : (o : Names) (f : Tree) (q : Names) → get (wanted o f) q ≡ last_at q (flat_map (λ e. standing (o ++ e.0) e.1) (entries f))
 get-wanted o f q = get-put_all empty (flat_map (λ e. standing (o ++ e.0) e.1) (entries f)) q ∙ ap (option_or (last_at q (flat_map (λ e. standing (o ++ e.0) e.1) (entries f)))) (get-empty path_cmp q)
     ∙ or_none (last_at q (flat_map (λ e. standing (o ++ e.0) e.1) (entries f)))
   where
@@ -184,11 +184,11 @@ some_is : (x : Option Element) (e : Element) → is_some x ≡ true → IfSome x
 some_is None e h g = absurd (never (sym h))
 some_is (Some f) e h g = ap (λ z. Some z) g
 
-fewer : (p : Names) → p ≢ [] → length p - 2 < length p
+pub fewer : (p : Names) → p ≢ [] → length p - 2 < length p
 fewer [] h = absurd (h refl)
 fewer (n ∷ p) h = omega arith
 
-not_root : (o k : Names) → o ≢ [] → o ++ k ≢ []
+pub not_root : (o k : Names) → o ≢ [] → o ++ k ≢ []
 not_root [] k h = absurd (h refl)
 not_root (n ∷ o) k h = λ e. cc
 

@@ -1,8 +1,10 @@
 //! Changing an output by edits, and cleaning it.
-ghost use Rattle.std.specs.Prelude.{◌≡◌, ◌≤◌, None, Some, length, IfOk, IfErr, OnOk, OnErr};
+ghost use Rattle.std.specs.Prelude.{◌≡◌, ◌≤◌, false, None, Some, length, IfOk, IfErr, OnOk, OnErr};
+ghost use Rattle.std.specs.FinMap.{get};
+ghost use Rattle.res_path.specs.Paths.{Names, overlap};
 ghost use Rattle.op_kind.specs.Resources.{resources};
 ghost use Rattle.builder_api.specs.Edits.{committed as committed_files};
-ghost use Rattle.builder_api.specs.Files.{Files, files_of, HasBelow};
+ghost use Rattle.builder_api.specs.Files.{Files, files_of, HasBelow, HasNoEmptyFolder};
 ghost use Rattle.op_plan.specs.Backs.{HasWay};
 ghost use Rattle.op_plan.specs.Edits.{KeepsRoom};
 ghost use Rattle.output_edits.specs.Judging.{IfRefused};
@@ -54,6 +56,10 @@ pub fn commit_edits<T: TreeRep>(
     // Below an output in a project the edits make of the files what builders were told that they make.
     ensures files { OnOk result (2 ≤ length output.now → (m : Files) → HasBelow output.now (committed_files output.now (files_of (T.tree tree.old)) edits.now.files) m
         → HasBelow output.now (files_of (T.tree tree.new)) m) }
+    // Each folder there has something below it.
+    ensures folders { OnOk result (2 ≤ length output.now → HasNoEmptyFolder output.now (T.tree tree.new)) }
+    // What is clear of the output stays as it was.
+    ensures others { OnOk result ((q : Names) → overlap q output.now ≡ false → get (T.tree tree.new) q ≡ get (T.tree tree.old) q) }
     ensures problems { IfOk result (λ done. done.problems ≡ length edits.now.problems) }
     ensures back { IfOk result (λ done. HasWay done.back (T.room tree.new) side.new.shelf.room
         (resources (T.tree tree.new) side.new) (resources (T.tree tree.old) side.old)) }
