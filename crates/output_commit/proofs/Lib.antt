@@ -1,0 +1,10 @@
+mod Gone
+mod Counting
+mod Alone
+mod Planned
+mod Shown
+mod Wished
+mod Undisputed
+mod Left
+mod Apart
+mod Filled

@@ -1,0 +1,5 @@
+pub mod Placed
+pub mod Told
+pub mod Committed
+pub mod Touched
+pub mod Inside

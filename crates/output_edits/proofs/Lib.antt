@@ -1,0 +1,3 @@
+mod Lesser
+mod Below
+mod Placed

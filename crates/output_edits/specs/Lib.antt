@@ -1,0 +1,4 @@
+pub mod Outputs
+pub mod Bad
+pub mod Wanted
+pub mod Judging
