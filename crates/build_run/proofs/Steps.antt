@@ -111,7 +111,7 @@ one_failed b b1 b2 i kind h o hands e2 how = subst (λ (x : Book). Halts b i kin
     Called i h (Err fault.Failed) ∷ [],
     record { mine = ap (λ x. b.mine ++ x ∷ []) same; since = ap (λ x. b.since ++ x ∷ []) same; done = refl; has = refl },
     hands.finds,
-    inr refl,
+    inr (refl, (Err fault.Failed, ap (λ (x : Handed). Called i x (Err fault.Failed) ∷ []) hands.given.1)),
   )
 ])
   where
@@ -149,7 +149,7 @@ itself s = record { alike = λ q. refl; records = refl; descs = refl }
 -- memory wanted before anything was handed
 pub none_handed : (b b1 : Book) (i : Item) (kind : BuildKind) → b1 ≡ b → Halts b i kind outcome.NoMemory b1
 none_handed b b1 i kind e = subst (λ (x : Book). Halts b i kind outcome.NoMemory x) (sym e)
-    ([], [], record { mine = sym (append-nil b.mine); since = sym (append-nil b.since); done = sym (append-nil b.done); has = refl }, itself b.now, inl refl)
+    ([], [], record { mine = sym (append-nil b.mine); since = sym (append-nil b.since); done = sym (append-nil b.done); has = refl }, itself b.now, inl (refl, refl))
 
 -- or after that
 pub none_made : (b b1 b2 b3 : Book) (i : Item) (kind : BuildKind) (h : Handed) (r : Result Edits BuildFault) → Hands b i kind (given.Due h) b1
@@ -159,7 +159,7 @@ none_made b b1 b2 b3 i kind h r hands e2 e3 = subst (λ (x : Book). Halts b i ki
   Called i h r ∷ [],
   record { mine = ap (λ x. b.mine ++ x ∷ []) same; since = ap (λ x. b.since ++ x ∷ []) same; done = refl; has = refl },
   hands.finds,
-  inr refl,
+  inr (refl, (r, ap (λ (x : Handed). Called i x r ∷ []) hands.given.1)),
 )
   where
     same : at hands.found (Handing i.project i.index kind (given.Due h)) ≡ handing hands.found i kind

@@ -1,7 +1,8 @@
 -- How a build comes through, and how it halts.
-use Rattle.std.specs.Prelude.{◌≡◌, ◌⊎◌, ◌<◌, Bool, true, false, List, [], ◌∷◌, ◌++◌, map, length, Ok, Err}
+use Rattle.std.specs.Prelude.{◌≡◌, ◌⊎◌, ◌<◌, Bool, true, false, List, [], ◌∷◌, ◌++◌, map, length, Result, Ok, Err}
 use Rattle.std.specs.List.{flat_map}
 use Rattle.res_path.specs.Paths.{Names}
+use Rattle.builder_api.specs.declared.builder.BuildFault.{BuildFault}
 use Rattle.builder_api.specs.declared.builder.BuildFault.TheVariants as fault
 use Rattle.builder_api.specs.declared.edits.Edits.{Edits}
 use Rattle.builder_api.specs.declared.kind.BuildKind.{BuildKind}
@@ -33,9 +34,9 @@ Halts b i kind (outcome.BuilderFailed p n) b' = (found : State) × Finds b.now f
 -- its commit was refused
 Halts b i kind (outcome.Refused n) b' = (found : State) × (then : State) × (e : Edits) × Finds b.now found × Finds found then × (b.has i.command.builder ≡ true)
     × Adds b b' (handing found i kind ∷ at then (Commit e (taken.Refused n)) ∷ []) (Called i (due found i kind) (Ok e) ∷ []) × (b'.now ≡ then)
--- memory wanted, before or after it was handed something
+-- memory wanted, before it was handed something or after its builder was called
 Halts b i kind outcome.NoMemory b' = (es : List Entry) × (ds : List Did) × Adds b b' es ds × Finds b.now b'.now
-    × ((es ≡ []) ⊎ (es ≡ handing b'.now i kind ∷ []))
+    × (((es ≡ []) × (ds ≡ [])) ⊎ ((es ≡ handing b'.now i kind ∷ []) × ((answer : Result Edits BuildFault) × (ds ≡ Called i (due b'.now i kind) answer ∷ []))))
 -- and never so
 Halts b i kind outcome.Settled b' = ⊥
 Halts b i kind (outcome.Unsettled names) b' = ⊥
