@@ -3,7 +3,8 @@ use Rattle.std.specs.Prelude.{Bool, true, false, if◌then◌else◌, Option, So
 use Rattle.op_kind.specs.declared.op.Op.{Op}
 use Rattle.op_kind.specs.declared.op.Op.TheVariants.{Read}
 use Rattle.core_event.specs.declared.event.Event.{Event}
-use Rattle.core_event.specs.declared.event.Event.TheVariants.{Enter, Leave, Schedule, Sleep, Wake, Cancel, Take, Finish, Begin, TryBegin, End, Transfer, Batch, EndBatch, Checkpoint, Operation}
+use Rattle.core_event.specs.declared.service.ServiceEvent.{ServiceEvent}
+use Rattle.core_event.specs.declared.event.Event.TheVariants.{Enter, Leave, Schedule, Sleep, Wake, Cancel, Take, Finish, Begin, TryBegin, End, Transfer, Batch, EndBatch, Checkpoint, Operation, Service}
 
 abbrev pub is_checkpoint : Event → Bool
 is_checkpoint Checkpoint = true
@@ -31,6 +32,12 @@ operation_of Batch = None
 operation_of EndBatch = None
 operation_of Checkpoint = None
 operation_of (Operation op) = Some op
+operation_of (Service x) = None
+
+-- what the event asks of the services, if it does
+abbrev pub service_of : Event → Option ServiceEvent
+service_of (Service x) = Some x
+service_of event = None
 
 -- whether the operation only reads
 abbrev pub is_read : Op → Bool

@@ -20,6 +20,12 @@ refusal_number (refusals.NotLast held) = 19
 refusal_number refusals.HoldsNothing = 20
 refusal_number (refusals.Conflict holder rule) = 30
 refusal_number refusals.TargetHolds = 31
+refusal_number (refusals.ServicesOut holder) = 32
+refusal_number (refusals.NotServices holder) = 33
+refusal_number (refusals.BadEdits path) = 34
+refusal_number (refusals.NoBuilder name) = 35
+refusal_number (refusals.NoCommand count) = 36
+refusal_number refusals.NoBuild = 37
 refusal_number refusals.UnknownJob = 40
 refusal_number (refusals.WrongState state) = 41
 refusal_number refusals.PassBusy = 42
@@ -51,6 +57,12 @@ is_conflict (refusals.WrongState state) = false
 is_conflict refusals.PassBusy = false
 is_conflict refusals.NoPass = false
 is_conflict refusals.NoBatch = false
+is_conflict (refusals.ServicesOut holder) = false
+is_conflict (refusals.NotServices holder) = false
+is_conflict (refusals.BadEdits path) = false
+is_conflict (refusals.NoBuilder name) = false
+is_conflict (refusals.NoCommand count) = false
+is_conflict refusals.NoBuild = false
 
 -- An attempt that finds that it must wait, which is no event: no job is there to take, or another pass's rule is in the
 -- way of an event that is tried again.
@@ -61,4 +73,7 @@ is_attempt event (answers.Count count) = false
 is_attempt event answers.None = true
 is_attempt event (answers.Job name) = false
 is_attempt event (answers.Seen seen) = false
+is_attempt event (answers.Plan plan) = false
+is_attempt event (answers.Handed handed) = false
+is_attempt event (answers.Committed touched problems) = false
 is_attempt event (answers.Refused r) = is_conflict r && waits event

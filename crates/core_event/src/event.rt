@@ -1,9 +1,9 @@
 //! What a pass may ask.
 ghost use Rattle.std.specs.Prelude.{◌≡◌, IfOk};
 ghost use Rattle.std.specs.Option.{option_copied};
-ghost use Rattle.core_event.specs.Events.{change_of, is_checkpoint, is_read, operation_of, waits};
+ghost use Rattle.core_event.specs.Events.{change_of, is_checkpoint, is_read, operation_of, service_of, waits};
 
-use crate::WsRule;
+use crate::{ServiceEvent, WsRule};
 use op_kind::Op;
 use res_path::{Name, NoMemory};
 
@@ -45,6 +45,8 @@ pub enum Event {
     Checkpoint,
     /// This is to be done to resources, or to be read of them.
     Operation(Op),
+    /// This concerns the services.
+    Service(ServiceEvent),
 }
 
 impl Event {
@@ -68,7 +70,8 @@ impl Event {
             | Event::Transfer(_)
             | Event::Batch
             | Event::EndBatch
-            | Event::Checkpoint => None,
+            | Event::Checkpoint
+            | Event::Service(_) => None,
         }
     }
 
@@ -92,7 +95,18 @@ impl Event {
             | Event::Transfer(_)
             | Event::Batch
             | Event::EndBatch
-            | Event::Checkpoint => None,
+            | Event::Checkpoint
+            | Event::Service(_) => None,
+        }
+    }
+
+    /// What the event asks of the services, if it does.
+    pub fn service(&self) -> Option<&ServiceEvent>
+        ensures { option_copied result ≡ service_of self.now }
+    {
+        match self {
+            Event::Service(event) => Some(event),
+            _ => None,
         }
     }
 
@@ -133,6 +147,7 @@ impl Event {
             Event::EndBatch => Ok(Event::EndBatch),
             Event::Checkpoint => Ok(Event::Checkpoint),
             Event::Operation(op) => operation(op),
+            Event::Service(event) => service(event),
         }
     }
 }
@@ -193,6 +208,12 @@ fn operation(op: &Op) -> Result<Event, NoMemory>
     Ok(Event::Operation(op.copy()?))
 }
 
+fn service(event: &ServiceEvent) -> Result<Event, NoMemory>
+    ensures { IfOk result (λ copy. copy ≡ Event.Service event.now) }
+{
+    Ok(Event::Service(event.copy()?))
+}
+
 /// The operation, unless it only reads.
 fn change(op: &Op) -> Option<&Op>
     ensures { option_copied result ≡ change_of (Event.Operation op.now) }
@@ -218,6 +239,7 @@ pub fn is_read(op: &Op) -> bool
         | Op::Open(_)
         | Op::Close(_)
         | Op::Describe(_, _)
+        | Op::Forget(_)
         | Op::Mark(_, _, _)
         | Op::Attr(_, _, _, _)
         | Op::Unmark(_, _)

@@ -4,9 +4,10 @@ ghost use Rattle.core_event.specs.Replies.{refusal_number, answered, is_attempt,
 ghost use Rattle.core_event.specs.Events.{waits};
 
 use crate::{Apart, Event, NoMemory, Notice, WsRule};
+use builder_api::{Handed, Plan};
 use job_queue::JobState;
 use op_kind::{Entries, OpAnswer, OpRefusal, Partners};
-use res_path::Name;
+use res_path::{Name, Path};
 use std::alloc::Global;
 
 /// Why an event is refused. A refused event changes nothing.
@@ -37,12 +38,25 @@ pub enum Refusal {
     NoPass,
     /// The pass has no open batch.
     NoBatch,
+    /// This pass has the services.
+    ServicesOut(u64),
+    /// The pass that asks hasn't the services, which this one has, or none.
+    NotServices(Option<u64>),
+    /// This path from the output is the root, comes twice among the edits, or is that of a file above another file.
+    BadEdits(Path),
+    /// There is no builder of this name.
+    NoBuilder(Name),
+    /// The project has only so many commands.
+    NoCommand(u64),
+    /// No command is under way.
+    NoBuild,
 }
 
 impl Refusal {
     /// The refusal's number: that of the operation's refusal, 15 for a rule that isn't contained, 18 for used numbers, 19
-    /// for a rule that isn't the last, 20 for no rule, 30 for a conflict, 31 for a target that has rules, 40 for an unknown
-    /// job, 41 for a job in another state, 42 for a busy pass, 43 for no pass, 44 for no batch.
+    /// for a rule that isn't the last, 20 for no rule, 30 for a conflict, 31 for a target that has rules, 32 for services that
+    /// are out, 33 for a pass that hasn't the services, 34 for bad edits, 35 for no builder, 36 for no command, 37 for no build,
+    /// 40 for an unknown job, 41 for a job in another state, 42 for a busy pass, 43 for no pass, 44 for no batch.
     pub fn number(&self) -> u8
         ensures { result ≡ refusal_number self.now }
     {
@@ -54,6 +68,12 @@ impl Refusal {
             Refusal::HoldsNothing => 20,
             Refusal::Conflict(_, _) => 30,
             Refusal::TargetHolds => 31,
+            Refusal::ServicesOut(_) => 32,
+            Refusal::NotServices(_) => 33,
+            Refusal::BadEdits(_) => 34,
+            Refusal::NoBuilder(_) => 35,
+            Refusal::NoCommand(_) => 36,
+            Refusal::NoBuild => 37,
             Refusal::UnknownJob => 40,
             Refusal::WrongState(_) => 41,
             Refusal::PassBusy => 42,
@@ -86,6 +106,12 @@ impl Refusal {
             Refusal::PassBusy => Ok(Refusal::PassBusy),
             Refusal::NoPass => Ok(Refusal::NoPass),
             Refusal::NoBatch => Ok(Refusal::NoBatch),
+            Refusal::ServicesOut(holder) => Ok(Refusal::ServicesOut(*holder)),
+            Refusal::NotServices(holder) => Ok(Refusal::NotServices(*holder)),
+            Refusal::BadEdits(path) => bad_edits(path),
+            Refusal::NoBuilder(name) => no_builder(name),
+            Refusal::NoCommand(count) => Ok(Refusal::NoCommand(*count)),
+            Refusal::NoBuild => Ok(Refusal::NoBuild),
         }
     }
 }
@@ -116,6 +142,18 @@ fn conflict(holder: u64, rule: &WsRule) -> Result<Refusal, NoMemory>
     Ok(Refusal::Conflict(holder, rule.copy()?))
 }
 
+fn bad_edits(path: &Path) -> Result<Refusal, NoMemory>
+    ensures { IfOk result (λ copy. copy ≡ Refusal.BadEdits path.now) }
+{
+    Ok(Refusal::BadEdits(path.copy()?))
+}
+
+fn no_builder(name: &Name) -> Result<Refusal, NoMemory>
+    ensures { IfOk result (λ copy. copy ≡ Refusal.NoBuilder name.now) }
+{
+    Ok(Refusal::NoBuilder(name.copy()?))
+}
+
 /// What an event is answered. What few answers have is kept apart, so that each answer is small.
 #[derive(Drop)]
 pub enum Answer {
@@ -130,6 +168,12 @@ pub enum Answer {
     Job(Apart<Name>),
     /// What was read: elements with their paths, and the names of the synchronisation partners by their numbers.
     Seen(Apart<(Entries, Partners)>),
+    /// What the build is to do.
+    Plan(Apart<Plan>),
+    /// What the builder of the command is to be handed.
+    Handed(Apart<Handed>),
+    /// How many files came, went or got other contents, and how many problems the command has.
+    Committed { touched: u64, problems: u64 },
     Refused(Apart<Refusal>),
 }
 
@@ -167,8 +211,14 @@ impl Answer {
         ensures { result ≡ is_attempt event.now self.now }
     {
         match self {
-            Answer::Done | Answer::Id(_) | Answer::Count(_) | Answer::Job(_) | Answer::Seen(_) =>
-                false,
+            Answer::Done
+            | Answer::Id(_)
+            | Answer::Count(_)
+            | Answer::Job(_)
+            | Answer::Seen(_)
+            | Answer::Plan(_)
+            | Answer::Handed(_)
+            | Answer::Committed { .. } => false,
             Answer::None => true,
             Answer::Refused(refusal) => is_in_the_way(refusal, event),
         }
@@ -185,6 +235,12 @@ impl Answer {
             Answer::None => Ok(Answer::None),
             Answer::Job(name) => job(name),
             Answer::Seen(seen) => what_was_seen(seen),
+            Answer::Plan(plan) => planned(plan),
+            Answer::Handed(handed) => what_is_handed(handed),
+            Answer::Committed { touched, problems } => Ok(Answer::Committed {
+                touched: *touched,
+                problems: *problems,
+            }),
             Answer::Refused(refusal) => refused(refusal),
         }
     }
@@ -214,6 +270,18 @@ fn what_was_seen(seen: &Apart<(Entries, Partners)>) -> Result<Answer, NoMemory>
     ensures { IfOk result (λ copy. copy ≡ Answer.Seen seen.now) }
 {
     Ok(Answer::Seen(seen.clone()?))
+}
+
+fn planned(plan: &Apart<Plan>) -> Result<Answer, NoMemory>
+    ensures { IfOk result (λ copy. copy ≡ Answer.Plan plan.now) }
+{
+    Ok(Answer::Plan(plan.clone()?))
+}
+
+fn what_is_handed(handed: &Apart<Handed>) -> Result<Answer, NoMemory>
+    ensures { IfOk result (λ copy. copy ≡ Answer.Handed handed.now) }
+{
+    Ok(Answer::Handed(handed.clone()?))
 }
 
 fn refused(refusal: &Apart<Refusal>) -> Result<Answer, NoMemory>

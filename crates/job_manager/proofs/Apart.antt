@@ -14,9 +14,10 @@ use Rattle.rule_table.proofs.Kept.{apart_moved, begun_apart, none_of, pairs_filt
 use Rattle.job_queue.specs.States.{is_waiting}
 use Rattle.job_queue.specs.declared.job.Job.{Job}
 use Rattle.job_queue.proofs.Nexts.{may_next}
-use Rattle.pass_table.specs.Passes.{Passes, has_pass, job_of, batches_of, is_busy}
+use Rattle.pass_table.specs.Passes.{Passes, has_pass, job_of, batches_of, is_busy, serves}
+use Rattle.pass_table.proofs.Kept.{neither}
 use Rattle.core_event.specs.declared.event.Event.{Event}
-use Rattle.core_event.specs.declared.event.Event.TheVariants.{Enter, Leave, Schedule, Sleep, Wake, Cancel, Take, Finish, Begin, TryBegin, End, Transfer, Batch, EndBatch, Checkpoint, Operation}
+use Rattle.core_event.specs.declared.event.Event.TheVariants.{Enter, Leave, Schedule, Sleep, Wake, Cancel, Take, Finish, Begin, TryBegin, End, Transfer, Batch, EndBatch, Checkpoint, Operation, Service}
 use Rattle.core_event.specs.declared.reply.Refusal.{Refusal}
 use Rattle.core_event.specs.declared.reply.Refusal.TheVariants as refusals
 use Rattle.job_manager.specs.declared.manager.JobManager.{JobManager}
@@ -68,7 +69,8 @@ run_apart m k name idle next apart =
     outer : outer_rule k m.passes.rules ≡ None
     outer =
         ap (option_map (λ (held : Held WsAtom). held.rule))
-        (nobody_outer k m.passes.rules (none_of k m.passes.rules (no_rule (last_rule k m.passes.rules) (is_some (job_of m.passes k)) (not (batches_of m.passes k == 0)) idle)))
+        (nobody_outer k m.passes.rules (none_of k m.passes.rules (no_rule (last_rule k m.passes.rules) (is_some (job_of m.passes k)) (not (batches_of m.passes k == 0))
+        (neither (is_some (last_rule k m.passes.rules) || is_some (job_of m.passes k) || not (batches_of m.passes k == 0)) (serves m.passes k) idle))))
 
     free : is_free atom_conflicts m.passes.rules (rule_of m.jobs name) ≡ true
     free =
@@ -109,6 +111,7 @@ effect_apart m k Batch h apart = apart
 effect_apart m k EndBatch h apart = apart
 effect_apart m k Checkpoint h apart = apart
 effect_apart m k (Operation op) h apart = apart
+effect_apart m k (Service x) h apart = apart
 
 -- whatever comes of an event, rules are apart
 pub outcome_apart : (m : JobManager) (k : ℕ) (e : Event) → Apart m.passes.rules → Apart (outcome m k e).0.passes.rules

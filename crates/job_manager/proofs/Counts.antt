@@ -9,7 +9,7 @@ use Rattle.sched_rules.specs.declared.ws_atom.WsAtom.{WsAtom}
 use Rattle.rule_table.specs.Tables.{handed, is_of, last_rule, moved, newest, or_before, without, without_last}
 use Rattle.rule_table.specs.declared.held.Held.{Held}
 use Rattle.core_event.specs.declared.event.Event.{Event}
-use Rattle.core_event.specs.declared.event.Event.TheVariants.{Enter, Leave, Schedule, Sleep, Wake, Cancel, Take, Finish, Begin, TryBegin, End, Transfer, Batch, EndBatch, Checkpoint, Operation}
+use Rattle.core_event.specs.declared.event.Event.TheVariants.{Enter, Leave, Schedule, Sleep, Wake, Cancel, Take, Finish, Begin, TryBegin, End, Transfer, Batch, EndBatch, Checkpoint, Operation, Service}
 use Rattle.core_event.specs.declared.reply.Refusal.{Refusal}
 use Rattle.job_manager.specs.declared.manager.JobManager.{JobManager}
 use Rattle.job_manager.specs.Refusals.{refusal}
@@ -85,6 +85,7 @@ effect_length m k Batch = omega arith
 effect_length m k EndBatch = omega arith
 effect_length m k Checkpoint = omega arith
 effect_length m k (Operation op) = omega arith
+effect_length m k (Service x) = omega arith
 
 -- at most one more
 pub held_more : (m : JobManager) (k : ℕ) (e : Event) → length (outcome m k e).0.passes.rules ≤ length m.passes.rules + 1

@@ -11,7 +11,7 @@ use Rattle.job_queue.specs.declared.state.JobState.TheVariants as states
 use Rattle.pass_table.specs.Passes.{Passes, job_of}
 use Rattle.pass_table.specs.Rows as rows
 use Rattle.core_event.specs.declared.event.Event.{Event}
-use Rattle.core_event.specs.declared.event.Event.TheVariants.{Enter, Leave, Schedule, Sleep, Wake, Cancel, Take, Finish, Begin, TryBegin, End, Transfer, Batch, EndBatch, Checkpoint, Operation}
+use Rattle.core_event.specs.declared.event.Event.TheVariants.{Enter, Leave, Schedule, Sleep, Wake, Cancel, Take, Finish, Begin, TryBegin, End, Transfer, Batch, EndBatch, Checkpoint, Operation, Service}
 use Rattle.core_event.specs.declared.reply.Answer.{Answer}
 use Rattle.core_event.specs.declared.reply.Answer.TheVariants.{Done, Id, None, Job as Taken, Refused}
 use Rattle.core_event.specs.declared.reply.Refusal.{Refusal}
@@ -46,7 +46,7 @@ with_jobs m jobs = (record m { jobs = jobs }, Done)
 abbrev pub with_passes : JobManager → Passes WsAtom → JobManager × Answer
 with_passes m passes = (record m { passes = passes }, Done)
 
--- what an event does that isn't refused, and its answer; an operation is none of these events
+-- what an event does that isn't refused, and its answer; an operation is none of these events, nor is what concerns services
 abbrev pub effect : JobManager → ℕ → Event → JobManager × Answer
 effect m pass Enter = (record m { passes = rows.entered m.passes }, Id m.passes.next)
 effect m pass Leave = with_passes m (rows.left m.passes pass)
@@ -64,6 +64,7 @@ effect m pass Batch = with_passes m (rows.in_batch m.passes pass)
 effect m pass EndBatch = with_passes m (rows.out_of_batch m.passes pass)
 effect m pass Checkpoint = (m, Done)
 effect m pass (Operation op) = (m, Done)
+effect m pass (Service x) = (m, Done)
 
 -- a refused event changes nothing
 abbrev pub decided : Option Refusal → JobManager → ℕ → Event → JobManager × Answer

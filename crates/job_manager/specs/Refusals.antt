@@ -14,13 +14,13 @@ use Rattle.job_queue.specs.declared.error.JobError.TheVariants as errors
 use Rattle.job_queue.specs.declared.state.JobState.TheVariants as states
 use Rattle.pass_table.specs.Passes.{Passes, has_pass, job_of, batches_of, is_busy}
 use Rattle.core_event.specs.declared.event.Event.{Event}
-use Rattle.core_event.specs.declared.event.Event.TheVariants.{Enter, Leave, Schedule, Sleep, Wake, Cancel, Take, Finish, Begin, TryBegin, End, Transfer, Batch, EndBatch, Checkpoint, Operation}
+use Rattle.core_event.specs.declared.event.Event.TheVariants.{Enter, Leave, Schedule, Sleep, Wake, Cancel, Take, Finish, Begin, TryBegin, End, Transfer, Batch, EndBatch, Checkpoint, Operation, Service}
 use Rattle.core_event.specs.declared.reply.Refusal.{Refusal}
 use Rattle.core_event.specs.declared.reply.Refusal.TheVariants as refusals
 use Rattle.job_manager.specs.declared.manager.JobManager.{JobManager}
 use Rattle.job_manager.specs.Admission.{admission}
 
--- a pass that has a rule, an open batch or a job
+-- a pass that has a rule, an open batch, a job or the services
 abbrev pub busy : Passes WsAtom → ℕ → Option Refusal
 busy passes pass = when (is_busy passes pass) refusals.PassBusy
 
@@ -49,7 +49,7 @@ by_job (Some (errors.WrongState state)) = Some (refusals.WrongState state)
 by_job (Some errors.NumbersUsed) = Some refusals.NumbersUsed
 by_job (Some errors.Memory) = None
 
--- why an event of a pass is refused, if it is; an operation is none of these events
+-- why an event of a pass is refused, if it is; an operation is none of these events, nor is what concerns services
 abbrev pub refusal : JobManager → ℕ → Event → Option Refusal
 refusal m pass Enter = None
 refusal m pass Leave = busy m.passes pass
@@ -67,3 +67,4 @@ refusal m pass Batch = None
 refusal m pass EndBatch = when (batches_of m.passes pass == 0) refusals.NoBatch
 refusal m pass Checkpoint = None
 refusal m pass (Operation op) = None
+refusal m pass (Service x) = None

@@ -15,8 +15,8 @@ use std::alloc::{AllocError, Global};
 
 impl JobManager {
     /// Does the event of the pass, or refuses it with the first cause in the order of its list, and gives the answer. A
-    /// refused event changes nothing; an operation is none of these events, and changes nothing either. Where memory
-    /// wants, all is as before; it never wants where the pass ends the rule that it began last.
+    /// refused event changes nothing; an operation is none of these events, nor is what concerns the services, and neither
+    /// changes anything. Where memory wants, all is as before; it never wants where the pass ends the rule that it began last.
     ///
     /// Costs a look at the held rules, and for `Take` one at the jobs that wait, in turn.
     pub fn act(
@@ -48,7 +48,9 @@ impl JobManager {
             Event::Transfer(to) => self.transfer(alloc, pass, *to, wants_copy),
             Event::Batch => self.begin_batch(pass, wants_copy),
             Event::EndBatch => self.end_batch(alloc, pass, wants_copy),
-            Event::Checkpoint | Event::Operation(_) => Ok(done_twice(wants_copy)),
+            Event::Checkpoint | Event::Operation(_) | Event::Service(_) => {
+                Ok(done_twice(wants_copy))
+            }
         }
     }
 
@@ -73,7 +75,8 @@ impl JobManager {
             | Event::Transfer(_)
             | Event::Batch
             | Event::Checkpoint
-            | Event::Operation(_) => unreachable!(),
+            | Event::Operation(_)
+            | Event::Service(_) => unreachable!(),
         }
     }
 

@@ -18,7 +18,7 @@ use Rattle.proj_desc.specs.Canonical.{canonical_of}
 use Rattle.op_kind.specs.declared.answer.OpAnswer.{OpAnswer}
 use Rattle.op_kind.specs.declared.answer.OpAnswer.TheVariants.{Done, Id, Count, Seen}
 use Rattle.op_kind.specs.declared.op.Op.{Op}
-use Rattle.op_kind.specs.declared.op.Op.TheVariants.{CreateFile, CreateFolder, CreateProject, Delete, Write, Touch, Derived, Move, Copy, Open, Close, Describe, Mark, Attr, Unmark, ClearMarks, Partner, Sync, Flush, Read}
+use Rattle.op_kind.specs.declared.op.Op.TheVariants.{CreateFile, CreateFolder, CreateProject, Delete, Write, Touch, Derived, Move, Copy, Open, Close, Describe, Forget, Mark, Attr, Unmark, ClearMarks, Partner, Sync, Flush, Read}
 use Rattle.op_kind.specs.declared.op.Want.{Want}
 use Rattle.op_kind.specs.declared.op.Want.TheVariants.{Show, Cat, Tree as AsTree, Digest}
 use Rattle.op_kind.specs.Marking.{with_marks, with_marker, with_attribute_of, unmarked, count_marks, unsynced, count_bytes, reached, change_within, count_all}
@@ -201,6 +201,8 @@ effect r (Copy from to) = (copy r from to, Done)
 effect r (Open p) = (open_project r p, Done)
 effect r (Close p) = (close_project r p, Done)
 effect r (Describe p text) = (describe r p text, Done)
+-- what is remembered of builds stands beside the resources
+effect r (Forget p) = (r, Done)
 effect r (Mark p mark_type attributes) = (mark r p mark_type attributes, Id r.next_marker)
 effect r (Attr p id name value) = (set_attribute r p id name value, Done)
 effect r (Unmark p id) = (unmark r p id, Done)

@@ -13,7 +13,7 @@ use Rattle.mark_set.specs.declared.value.RawValue.{RawValue}
 use Rattle.proj_desc.specs.Causes.{desc_cause}
 use Rattle.proj_desc.specs.FirstCause.{when, first_cause}
 use Rattle.op_kind.specs.declared.op.Op.{Op}
-use Rattle.op_kind.specs.declared.op.Op.TheVariants.{CreateFile, CreateFolder, CreateProject, Delete, Write, Touch, Derived, Move, Copy, Open, Close, Describe, Mark, Attr, Unmark, ClearMarks, Partner, Sync, Flush, Read}
+use Rattle.op_kind.specs.declared.op.Op.TheVariants.{CreateFile, CreateFolder, CreateProject, Delete, Write, Touch, Derived, Move, Copy, Open, Close, Describe, Forget, Mark, Attr, Unmark, ClearMarks, Partner, Sync, Flush, Read}
 use Rattle.op_kind.specs.declared.op.Want.{Want}
 use Rattle.op_kind.specs.declared.op.Want.TheVariants.{Show, Cat, Tree as AsTree, Digest}
 use Rattle.op_kind.specs.declared.refusal.OpRefusal.{OpRefusal}
@@ -238,6 +238,7 @@ causes r (Copy from to) = copy_causes r from to
 causes r (Open p) = project_causes r.tree p
 causes r (Close p) = project_causes r.tree p
 causes r (Describe p text) = describe_causes r p text
+causes r (Forget p) = project_causes r.tree p
 causes r (Mark p mark_type attributes) = mark_causes r p mark_type attributes
 causes r (Attr p id name value) = attr_causes r.tree p id name value
 causes r (Unmark p id) = unmark_causes r.tree p id

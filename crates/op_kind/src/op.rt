@@ -45,6 +45,9 @@ pub enum Op {
     Close(Path),
     /// A project gets the description with this text (`IProject.setDescription`).
     Describe(Path, Bytes),
+    /// What is remembered of the builds of a project goes, so that its builders are handed no delta when they are called next
+    /// (`IncrementalProjectBuilder.forgetLastBuiltState`).
+    Forget(Path),
     /// A marker of this type and with these attributes is made on a resource (`IResource.createMarker`).
     Mark(Path, RawText, RawAttrs),
     /// One attribute of a resource's marker gets this value, or goes (`IMarker.setAttribute`).

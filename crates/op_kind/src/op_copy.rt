@@ -26,6 +26,7 @@ impl Op {
             Op::Open(path) => open(path),
             Op::Close(path) => close(path),
             Op::Describe(path, text) => describe(path, text),
+            Op::Forget(path) => forget(path),
             Op::Mark(path, mark_type, attrs) => mark(path, mark_type, attrs),
             Op::Attr(path, id, name, value) => attr(path, *id, name, value),
             Op::Unmark(path, id) => unmark(path, *id),
@@ -116,6 +117,12 @@ fn describe(path: &Path, text: &Bytes) -> Result<Op, NoMemory>
     ensures { IfOk result (λ copy. copy ≡ Op.Describe path.now text.now) }
 {
     Ok(Op::Describe(path.copy()?, text.clone()?))
+}
+
+fn forget(path: &Path) -> Result<Op, NoMemory>
+    ensures { IfOk result (λ copy. copy ≡ Op.Forget path.now) }
+{
+    Ok(Op::Forget(path.copy()?))
 }
 
 fn mark(path: &Path, mark_type: &RawText, attrs: &RawAttrs) -> Result<Op, NoMemory>

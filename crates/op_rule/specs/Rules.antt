@@ -7,7 +7,7 @@ use Rattle.sched_rules.specs.declared.ws_atom.WsAtom.{WsAtom}
 use Rattle.sched_rules.specs.declared.ws_atom.WsAtom.TheVariants as atoms
 use Rattle.op_kind.specs.Places.{is_project_path}
 use Rattle.op_kind.specs.declared.op.Op.{Op}
-use Rattle.op_kind.specs.declared.op.Op.TheVariants.{CreateFile, CreateFolder, CreateProject, Delete, Write, Touch, Derived, Move, Copy, Open, Close, Describe, Mark, Attr, Unmark, ClearMarks, Partner, Sync, Flush, Read}
+use Rattle.op_kind.specs.declared.op.Op.TheVariants.{CreateFile, CreateFolder, CreateProject, Delete, Write, Touch, Derived, Move, Copy, Open, Close, Describe, Forget, Mark, Attr, Unmark, ClearMarks, Partner, Sync, Flush, Read}
 
 -- what is above a path; a project and the root have nothing above them but themselves
 abbrev pub up : Names → Names
@@ -31,6 +31,7 @@ operation_rule (Copy from to) = at (up to)
 operation_rule (Open p) = at p
 operation_rule (Close p) = at p
 operation_rule (Describe p text) = at p
+operation_rule (Forget p) = at p
 operation_rule (Mark p mark_type attributes) = []
 operation_rule (Attr p id name value) = []
 operation_rule (Unmark p id) = []

@@ -26,6 +26,7 @@ pub fn contains_operation(rule: &Rule<WsAtom>, op: &Op) -> bool
         | Op::Open(path)
         | Op::Close(path)
         | Op::Describe(path, _)
+        | Op::Forget(path)
         | Op::Sync(path, _, _)
         | Op::Flush(path, _, _) => contains_at(rule, path),
         Op::Move(from, to) => contains_both(rule, from, to),
@@ -39,7 +40,7 @@ pub fn contains_operation(rule: &Rule<WsAtom>, op: &Op) -> bool
 }
 
 /// Whether the rule contains that of the path.
-fn contains_at(rule: &Rule<WsAtom>, path: &Path) -> bool
+pub fn contains_at(rule: &Rule<WsAtom>, path: &Path) -> bool
     ensures { result ≡ rule_contains atom_contains rule.now (at path.now) }
 {
     some_is_above(rule.atoms(), path)

@@ -7,5 +7,5 @@
 mod containing;
 mod making;
 
-pub use containing::contains_operation;
+pub use containing::{contains_at, contains_operation};
 pub use making::operation_rule;

@@ -27,6 +27,7 @@ pub fn operation_rule(alloc: Global, op: &Op) -> Result<Rule<WsAtom>, NoMemory>
         | Op::Open(path)
         | Op::Close(path)
         | Op::Describe(path, _)
+        | Op::Forget(path)
         | Op::Sync(path, _, _)
         | Op::Flush(path, _, _) => rule_at(alloc, path),
         Op::Move(from, to) => rule_above_both(alloc, from, to),

@@ -33,11 +33,11 @@ abbrev changed_to : Resources → Names → (Element → Element) → ℕ → Re
 changed_to r p change stamps = record r { tree = change_at r.tree p change; next_stamp = stamps }
 
 -- a change that opening doesn't meet
-record IsBeside (change : Element → Element) : Type 0 where
+pub record IsBeside (change : Element → Element) : Type 0 where
   pub alike : (e : Element) → Alike e (change e)
   pub turns : (e : Element) → opened (change e) ≡ change (opened e)
 
-change_keeps : (Fresh : Element → Type 0) (r : Resources) (p : Names) (change : Element → Element) (stamps : ℕ) → IsConsistent r → IsBeside change
+pub change_keeps : (Fresh : Element → Type 0) (r : Resources) (p : Names) (change : Element → Element) (stamps : ℕ) → IsConsistent r → IsBeside change
     → is_kept (get r.tree) p ≡ false → r.next_stamp ≤ stamps
     → ((e : Element) → get r.tree p ≡ Some e → Comes Fresh r (changed_to r p change stamps) (change e))
     → ((e : Element) → Fresh e → e.kind ≡ File → r.next_stamp ≤ e.stamp) → ((e f : Element) → Fresh e → Fresh f → Same e f)
@@ -76,7 +76,7 @@ change_keeps Fresh r p change stamps x beside shown more comes late same = recor
 abbrev pub IsChanged : Resources → Names → (Element → Element) → Element → Type 0
 IsChanged r p change e = option_map change (get r.tree p) ≡ Some e
 
-all_changed : (A : Element → Type 0) (change : Element → Element) → ((e : Element) → A (change e)) → (x : Option Element) (e : Element) → option_map change x ≡ Some e
+pub all_changed : (A : Element → Type 0) (change : Element → Element) → ((e : Element) → A (change e)) → (x : Option Element) (e : Element) → option_map change x ≡ Some e
     → A e
 all_changed A change h x e is = at_some A (option_map change x) e is (map_if change A x (if_there (λ g. A (change g)) x (λ g _. h g)))
 
@@ -84,7 +84,7 @@ all_changed A change h x e is = at_some A (option_map change x) e is (map_if cha
 abbrev pub rewrite_with : ℕ → (List ℕ → List ℕ) → Element → Element
 rewrite_with stamp bytes e = record e { stamp = stamp; bytes = bytes e.bytes }
 
-contents_keeps : (r : Resources) (p : Names) (bytes : List ℕ → List ℕ) → IsConsistent r → first_cause (contents_causes r p) ≡ None
+pub contents_keeps : (r : Resources) (p : Names) (bytes : List ℕ → List ℕ) → IsConsistent r → first_cause (contents_causes r p) ≡ None
     → Keeps (IsChanged r p (rewrite_with r.next_stamp bytes)) r (changed_to r p (rewrite_with r.next_stamp bytes) (r.next_stamp + 1))
 contents_keeps r p bytes x h = change_keeps (IsChanged r p change) r p change (r.next_stamp + 1) x record { alike = λ e. record { kind = refl; node = refl; opened = refl }; turns = turns }
     (passed (is_in_shut r.tree p) (ProjectClosed (project_of p)) _ h).0 (omega arith)

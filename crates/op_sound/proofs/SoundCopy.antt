@@ -34,13 +34,13 @@ pub record IsCopy (r : Resources) (copied : Entries) (e : Element) : Type 0 wher
   pub is : e ≡ renumbered (node_at r.next_node copied path) (stamp_at r.next_stamp copied path) from
 
 -- a file draws a stamp
-file_stamp : (n s : ℕ) (e : Element) → e.kind ≡ File → (renumbered n s e).stamp ≡ s
+pub file_stamp : (n s : ℕ) (e : Element) → e.kind ≡ File → (renumbered n s e).stamp ≡ s
 file_stamp n s e file = cond_true (is_file e.kind) s e.stamp (ap is_file file)
 
-file_stamps : (e : Element) → is_file e.kind ≡ true → stamps_of e ≡ 1
+pub file_stamps : (e : Element) → is_file e.kind ≡ true → stamps_of e ≡ 1
 file_stamps e h = ap (λ b. cond (b || is_project e.kind) 1 0) h
 
-project_stamps : (e : Element) → is_project e.kind ≡ true → stamps_of e ≡ 1
+pub project_stamps : (e : Element) → is_project e.kind ≡ true → stamps_of e ≡ 1
 project_stamps e h = ap (λ b. cond b 1 0) (by (is_file e.kind) (is_project e.kind) h)
   where
     by : (a b : Bool) → b ≡ true → (a || b) ≡ true
@@ -48,7 +48,7 @@ project_stamps e h = ap (λ b. cond b 1 0) (by (is_file e.kind) (is_project e.ki
     by false b g = g
 
 -- the numbers of a copy are drawn
-copy_drawn : (r after : Resources) (n s : ℕ) (e : Element) → IsDrawn r e → n + 1 ≤ after.next_node → s + stamps_of e ≤ after.next_stamp → r.next_stamp ≤ after.next_stamp
+pub copy_drawn : (r after : Resources) (n s : ℕ) (e : Element) → IsDrawn r e → n + 1 ≤ after.next_node → s + stamps_of e ≤ after.next_stamp → r.next_stamp ≤ after.next_stamp
     → IsDrawn after (renumbered n s e)
 copy_drawn r after n s e d less room more = record {
   node = omega arith;
@@ -63,7 +63,7 @@ copy_drawn r after n s e d less room more = record {
 }
 
 -- a copied file's stamp is fresh
-copy_late : (r : Resources) (copied : Entries) (e : Element) → IsCopy r copied e → e.kind ≡ File → r.next_stamp ≤ e.stamp
+pub copy_late : (r : Resources) (copied : Entries) (e : Element) → IsCopy r copied e → e.kind ≡ File → r.next_stamp ≤ e.stamp
 copy_late r copied e c file =
     let range : Draws r.next_stamp (stamp_at r.next_stamp copied c.path) (stamps_of c.from) (r.next_stamp + stamps_of_all copied) =
     at_some (λ g. Draws r.next_stamp (stamp_at r.next_stamp copied c.path) (stamps_of g) (r.next_stamp + stamps_of_all copied))
@@ -73,7 +73,7 @@ copy_late r copied e c file =
     omega arith
 
 -- copies with one stamp are copies of one file
-copy_same : (r : Resources) (copied : Entries) (e f : Element) → IsCopy r copied e → IsCopy r copied f → Same e f
+pub copy_same : (r : Resources) (copied : Entries) (e f : Element) → IsCopy r copied e → IsCopy r copied f → Same e f
 copy_same r copied e f c d k l same =
     let file : c.from.kind ≡ File = sym (ap (λ g. g.kind) c.is) ∙ k in
     let also : d.from.kind ≡ File = sym (ap (λ g. g.kind) d.is) ∙ l in

@@ -30,11 +30,11 @@ use Rattle.op_sound.proofs.SoundSteps.{Keeps, passed, some_names, names_at_least
 abbrev single : Names → Element → Look
 single p e q = cond (is_at q p) (Some e) None
 
-at_single : (B : Element → Type 0) (p : Names) (e : Element) (q : Names) → (q ≡ p → B e) → IfSome (single p e q) B
+pub at_single : (B : Element → Type 0) (p : Names) (e : Element) (q : Names) → (q ≡ p → B e) → IfSome (single p e q) B
 at_single B p e q h = at_cond (λ y. IfSome y B) (is_at q p) (Some e) None (λ same. h (same_at q p same)) (λ _. tt)
 
 -- where nothing is, one element is a graft
-put_is : (f : Look) (p : Names) (e : Element) → ((q : Names) → is_prefix p q ≡ true → f q ≡ None) → (q : Names)
+pub put_is : (f : Look) (p : Names) (e : Element) → ((q : Names) → is_prefix p q ≡ true → f q ≡ None) → (q : Names)
     → cond (is_at q p) (Some e) (f q) ≡ graft f (single p e) p q
 put_is f p e free q = at_cond (λ y. cond (is_at q p) (Some e) (f q) ≡ y) (is_prefix p q) (single p e q) (f q)
     (λ h. ap (cond (is_at q p) (Some e)) (free q h))
@@ -49,7 +49,7 @@ pub record IsNew (r : Resources) (p : Names) (e : Element) : Type 0 where
   pub stamp : e.kind ≡ File → e.stamp ≡ r.next_stamp
   pub drawn : IsDrawn (create r p e) e
 
-single_graft : (r : Resources) (f : Look) (p : Names) (e : Element) → Place (get r.tree) p → IsSomeAnd (f (parent p)) (λ g. g.kind ≢ File)
+pub single_graft : (r : Resources) (f : Look) (p : Names) (e : Element) → Place (get r.tree) p → IsSomeAnd (f (parent p)) (λ g. g.kind ≢ File)
     → ((q : Names) → IfSome (f q) (λ g. g.node < r.next_node)) → IsNew r p e
     → IsGraft f (single p e) p
 single_graft r f p e at above drawn new = record {
@@ -64,7 +64,7 @@ single_graft r f p e at above drawn new = record {
       (λ h less same. let next : e.node ≡ r.next_node = new.node in absurd (omega arith)) (drawn u));
 }
 
-create_keeps : (r : Resources) (p : Names) (e : Element) → IsConsistent r → Place (get r.tree) p → IsNew r p e → Keeps (λ g. g ≡ e) r (create r p e)
+pub create_keeps : (r : Resources) (p : Names) (e : Element) → IsConsistent r → Place (get r.tree) p → IsNew r p e → Keeps (λ g. g ≡ e) r (create r p e)
 create_keeps r p e x at new = record {
   whole = insert (whole_of r x) p e;
   fits = fits_as (graft (get (whole_of r x)) (single p e) p) (get (insert (whole_of r x) p e)) (is_put (whole_of r x) (whole_free r x p at))
@@ -93,14 +93,14 @@ create_keeps r p e x at new = record {
     put = single_graft r (get (whole_of r x)) p e at (whole_above r x p at) (whole_nodes r x) new
 
 -- the root has a stamp that was drawn
-some_stamp : (r : Resources) → IsConsistent r → 1 ≤ r.next_stamp
+pub some_stamp : (r : Resources) → IsConsistent r → 1 ≤ r.next_stamp
 some_stamp r x = by (get r.tree []) x.tree.root (x.tree_known.drawn [])
   where
     by : (y : Option Element) → IsSomeAnd y (λ e. e.kind ≡ Root) → IfSome y (IsDrawn r) → 1 ≤ r.next_stamp
     by None h d = absurd h
     by (Some e) h d = let less : e.stamp < r.next_stamp = d.stamp in omega arith
 
-created_place : (r : Resources) (p : Names) (stamps : ℕ) → p ≢ [] → first_cause (creation_causes r p stamps) ≡ None → Place (get r.tree) p
+pub created_place : (r : Resources) (p : Names) (stamps : ℕ) → p ≢ [] → first_cause (creation_causes r p stamps) ≡ None → Place (get r.tree) p
 created_place r p stamps below h =
     let a = passed (is_shut r.tree p) (ProjectClosed (project_of p)) _ h in
     free_place r.tree p (number_causes r 1 stamps) below a.0 a.1

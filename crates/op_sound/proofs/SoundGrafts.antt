@@ -13,7 +13,7 @@ use Rattle.op_kind.proofs.Cases.{at_cond, cond_false, if_map}
 use Rattle.op_kind.proofs.Looks.{Look, is_at, not_at, cut}
 use Rattle.op_sound.proofs.SoundParts.{IsOpen, opened_same, open_not_closed, Fits, Parts, Split, is_kept, open_kept, split_false, open_split}
 
-same_look : (f g : Look) → ((q : Names) → f q ≡ g q) → f ≡ g
+pub same_look : (f g : Look) → ((q : Names) → f q ≡ g q) → f ≡ g
 same_look f g h = λ i q. h q i
 
 pub fits_as : (f g : Look) → ((q : Names) → g q ≡ f q) → Fits f → Fits g
@@ -22,7 +22,7 @@ fits_as f g h = subst Fits (sym (same_look g f h))
 pub parts_as : (a b s u f g : Look) → ((q : Names) → a q ≡ b q) → ((q : Names) → s q ≡ u q) → ((q : Names) → f q ≡ g q) → Parts a s f → Parts b u g
 parts_as a b s u f g h k l x = subst (λ z. Parts b u z) (same_look f g l) (subst (λ z. Parts b z f) (same_look s u k) (subst (λ z. Parts z s f) (same_look a b h) x))
 
-other_side : (p q r : Names) → (is_prefix p r ≡ true → is_prefix p q ≡ true) → is_prefix p q ≡ false → is_prefix p r ≡ false
+pub other_side : (p q r : Names) → (is_prefix p r ≡ true → is_prefix p q ≡ true) → is_prefix p q ≡ false → is_prefix p r ≡ false
 other_side p q r h g = not_true (is_prefix p r) (λ e. never (sym (h e) ∙ g))
 
 -- ---- p and all below it are gone
@@ -43,7 +43,7 @@ cut_fits f p below w = record {
       (w.nodes q r));
 }
 
-cut_split : (c b d : Bool) (x s y : Option Element) → (c ≡ false → d ≡ b) → Split b x s y → Split d (cond c None x) (cond c None s) (cond c None y)
+pub cut_split : (c b d : Bool) (x s y : Option Element) → (c ≡ false → d ≡ b) → Split b x s y → Split d (cond c None x) (cond c None s) (cond c None y)
 cut_split true b true x s y same h = (refl, refl)
 cut_split true b false x s y same h = (refl, refl)
 cut_split false b d x s y same h = subst (λ z. Split z x s y) (sym (same refl)) h
@@ -69,12 +69,12 @@ pub record IsGraft (f g : Look) (to : Names) : Type 0 where
   pub nodes : (q r : Names) → is_prefix to q ≡ true → is_prefix to r ≡ true → IfSome (g q) (λ e. IfSome (g r) (λ h. e.node ≡ h.node → q ≡ r))
   pub apart : (q r : Names) → is_prefix to q ≡ true → is_prefix to r ≡ false → IfSome (g q) (λ e. IfSome (f r) (λ h. e.node ≢ h.node))
 
-differs : (P : Type 0) (x y : Option Element) → IfSome x (λ e. IfSome y (λ h. e.node ≢ h.node)) → IfSome x (λ e. IfSome y (λ h. e.node ≡ h.node → P))
+pub differs : (P : Type 0) (x y : Option Element) → IfSome x (λ e. IfSome y (λ h. e.node ≢ h.node)) → IfSome x (λ e. IfSome y (λ h. e.node ≡ h.node → P))
 differs P None y h = tt
 differs P (Some e) None h = tt
 differs P (Some e) (Some g) h = λ same. absurd (h same)
 
-differs_turned : (P : Type 0) (x y : Option Element) → IfSome x (λ e. IfSome y (λ h. e.node ≢ h.node)) → IfSome y (λ e. IfSome x (λ h. e.node ≡ h.node → P))
+pub differs_turned : (P : Type 0) (x y : Option Element) → IfSome x (λ e. IfSome y (λ h. e.node ≢ h.node)) → IfSome y (λ e. IfSome x (λ h. e.node ≡ h.node → P))
 differs_turned P None None h = tt
 differs_turned P None (Some g) h = tt
 differs_turned P (Some e) None h = tt
@@ -111,7 +111,7 @@ graft_fits f g to w x = record {
         subst (λ y. IsSomeAnd y (λ e. e.kind ≢ File)) (sym (ap (λ b. cond b (g (parent q)) (f (parent q))) (parent_below to q in_g (not_at q to h)))) given)
         (x.within q in_g (not_at q to h))
 
-graft_split : (c b d : Bool) (x s y z : Option Element) → (c ≡ true → (d ≡ false) × (s ≡ None) × (option_map opened z ≡ z)) → (c ≡ false → d ≡ b) → Split b x s y
+pub graft_split : (c b d : Bool) (x s y z : Option Element) → (c ≡ true → (d ≡ false) × (s ≡ None) × (option_map opened z ≡ z)) → (c ≡ false → d ≡ b) → Split b x s y
     → Split d (cond c z x) s (cond c z y)
 graft_split true b d x s y z on off h = let at = on refl in open_split d z s z at.0 (at.1, at.2)
 graft_split false b d x s y z on off h = subst (λ e. Split e x s y) (sym (off refl)) h
@@ -141,25 +141,25 @@ pub record Alike (e g : Element) : Type 0 where
   pub node : e.node ≡ g.node
   pub opened : e.opened ≡ g.opened
 
-abbrev AllAlike : Option Element → Option Element → Type 0
+abbrev pub AllAlike : Option Element → Option Element → Type 0
 AllAlike None None = Unit {0}
 AllAlike None (Some g) = ⊥
 AllAlike (Some e) None = ⊥
 AllAlike (Some e) (Some g) = Alike e g
 
-like_if : (A B : Element → Type 0) → ((e g : Element) → Alike e g → A e → B g) → (x y : Option Element) → AllAlike x y → IfSome x A → IfSome y B
+pub like_if : (A B : Element → Type 0) → ((e g : Element) → Alike e g → A e → B g) → (x y : Option Element) → AllAlike x y → IfSome x A → IfSome y B
 like_if A B f None None l h = tt
 like_if A B f None (Some g) l h = absurd l
 like_if A B f (Some e) None l h = absurd l
 like_if A B f (Some e) (Some g) l h = f e g l h
 
-like_some : (A B : Element → Type 0) → ((e g : Element) → Alike e g → A e → B g) → (x y : Option Element) → AllAlike x y → IsSomeAnd x A → IsSomeAnd y B
+pub like_some : (A B : Element → Type 0) → ((e g : Element) → Alike e g → A e → B g) → (x y : Option Element) → AllAlike x y → IsSomeAnd x A → IsSomeAnd y B
 like_some A B f None None l h = h
 like_some A B f None (Some g) l h = absurd l
 like_some A B f (Some e) None l h = absurd l
 like_some A B f (Some e) (Some g) l h = f e g l h
 
-like_fits : (f g : Look) → ((q : Names) → AllAlike (f q) (g q)) → Fits f → Fits g
+pub like_fits : (f g : Look) → ((q : Names) → AllAlike (f q) (g q)) → Fits f → Fits g
 like_fits f g l w = record {
   root = like_some (λ e. e.kind ≡ Root) (λ e. e.kind ≡ Root) (λ e h a k. sym a.kind ∙ k) (f []) (g []) (l []) w.root;
   only_root = λ p. like_if (λ e. e.kind ≡ Root → p ≡ []) (λ e. e.kind ≡ Root → p ≡ []) (λ e h a k i. k (a.kind ∙ i)) (f p) (g p) (l p) (w.only_root p);
@@ -172,11 +172,11 @@ like_fits f g l w = record {
       (λ e h a. like_if (λ k. e.node ≡ k.node → p ≡ q) (λ k. h.node ≡ k.node → p ≡ q) (λ k m b i same. i (a.node ∙ same ∙ sym b.node)) (f q) (g q) (l q)) (f p) (g p) (l p) (w.nodes p q);
 }
 
-like_itself : (x : Option Element) → AllAlike x x
+pub like_itself : (x : Option Element) → AllAlike x x
 like_itself None = tt
 like_itself (Some e) = record { kind = refl; node = refl; opened = refl }
 
-like_map : (change : Element → Element) → ((e : Element) → Alike e (change e)) → (x : Option Element) → AllAlike x (option_map change x)
+pub like_map : (change : Element → Element) → ((e : Element) → Alike e (change e)) → (x : Option Element) → AllAlike x (option_map change x)
 like_map change l None = tt
 like_map change l (Some e) = l e
 
@@ -184,19 +184,19 @@ like_map change l (Some e) = l e
 abbrev pub changed_where : Look → (Names → Bool) → (Element → Element) → Look
 changed_where f test change q = cond (test q) (option_map change (f q)) (f q)
 
-changed_alike : (f : Look) (test : Names → Bool) (change : Element → Element) → ((e : Element) → Alike e (change e)) → (q : Names) → AllAlike (f q) (changed_where f test change q)
+pub changed_alike : (f : Look) (test : Names → Bool) (change : Element → Element) → ((e : Element) → Alike e (change e)) → (q : Names) → AllAlike (f q) (changed_where f test change q)
 changed_alike f test change l q = at_cond (λ y. AllAlike (f q) y) (test q) (option_map change (f q)) (f q) (λ _. like_map change l (f q)) (λ _. like_itself (f q))
 
 pub changed_fits : (f : Look) (test : Names → Bool) (change : Element → Element) → ((e : Element) → Alike e (change e)) → Fits f → Fits (changed_where f test change)
 changed_fits f test change l = like_fits f (changed_where f test change) (changed_alike f test change l)
 
-like_closed : (x y : Option Element) → AllAlike x y → has_closed x ≡ has_closed y
+pub like_closed : (x y : Option Element) → AllAlike x y → has_closed x ≡ has_closed y
 like_closed None None l = refl
 like_closed None (Some g) l = absurd l
 like_closed (Some e) None l = absurd l
 like_closed (Some e) (Some g) l = λ i. has_closed (Some (record e { kind = l.kind i; opened = l.opened i }))
 
-changed_split : (c b d : Bool) (x s y : Option Element) (change : Element → Element) → ((e : Element) → opened (change e) ≡ change (opened e)) → d ≡ b
+pub changed_split : (c b d : Bool) (x s y : Option Element) (change : Element → Element) → ((e : Element) → opened (change e) ≡ change (opened e)) → d ≡ b
     → (c ≡ true → b ≡ false) → Split b x s y
     → Split d (cond c (option_map change x) x) s (cond c (option_map change y) y)
 changed_split false b d x s y change turns same shown h = subst (λ z. Split z x s y) (sym same) h

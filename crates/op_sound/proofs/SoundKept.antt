@@ -4,7 +4,7 @@ use Rattle.std.specs.Prelude.{None}
 use Rattle.ws_elem.specs.Trees.{Tree, branch}
 use Rattle.ws_elem.specs.declared.element.Element.{Element}
 use Rattle.op_kind.specs.declared.op.Op.{Op}
-use Rattle.op_kind.specs.declared.op.Op.TheVariants.{CreateFile, CreateFolder, CreateProject, Delete, Write, Touch, Derived, Move, Copy, Open, Close, Describe, Mark, Attr, Unmark, ClearMarks, Partner, Sync, Flush, Read}
+use Rattle.op_kind.specs.declared.op.Op.TheVariants.{CreateFile, CreateFolder, CreateProject, Delete, Write, Touch, Derived, Move, Copy, Open, Close, Describe, Forget, Mark, Attr, Unmark, ClearMarks, Partner, Sync, Flush, Read}
 use Rattle.op_kind.specs.Resources.{Resources}
 use Rattle.op_kind.specs.Refusals.{refusal}
 use Rattle.op_kind.specs.Effects.{effect, new_file, new_folder, new_project}
@@ -19,7 +19,7 @@ use Rattle.op_sound.proofs.SoundCopy.{IsCopy, copy_keeps}
 use Rattle.op_sound.proofs.SoundNotes.{mark_keeps, attribute_keeps, unmark_keeps, clear_keeps, register_keeps, sync_keeps, flush_keeps}
 
 -- the elements to which an operation gives fresh stamps
-abbrev Fresh : Resources → Op → Element → Type 0
+abbrev pub Fresh : Resources → Op → Element → Type 0
 Fresh r (CreateFile p bytes) e = e ≡ new_file r.next_node r.next_stamp bytes
 Fresh r (CreateFolder p) e = e ≡ new_folder r.next_node
 Fresh r (CreateProject p) e = e ≡ new_project r.next_node r.next_stamp
@@ -32,6 +32,7 @@ Fresh r (Copy from to) e = IsCopy r (branch r.tree from) e
 Fresh r (Open p) e = ⊥
 Fresh r (Close p) e = ⊥
 Fresh r (Describe p text) e = ⊥
+Fresh r (Forget p) e = ⊥
 Fresh r (Mark p mark_type attributes) e = ⊥
 Fresh r (Attr p id name value) e = ⊥
 Fresh r (Unmark p id) e = ⊥
@@ -54,6 +55,7 @@ keeps r (Copy from to) x h = copy_keeps r from to x h
 keeps r (Open p) x h = open_keeps r p x h
 keeps r (Close p) x h = close_keeps r p x h
 keeps r (Describe p text) x h = describe_keeps r p text x h
+keeps r (Forget p) x h = read_keeps r x
 keeps r (Mark p mark_type attributes) x h = mark_keeps r p mark_type attributes x
 keeps r (Attr p id name value) x h = attribute_keeps r p id name value x
 keeps r (Unmark p id) x h = unmark_keeps r p id x

@@ -41,7 +41,7 @@ pub record Transfer (t : Tree) (from to : Names) : Type 0 where
   pub apart : is_prefix from to ≡ false
   pub place : Place (get t) to
 
-same_level : (a b : ℕ) → not (beq (a == 1) (b == 1)) ≡ false → (a ≡ 1) ↔ (b ≡ 1)
+pub same_level : (a b : ℕ) → not (beq (a == 1) (b == 1)) ≡ false → (a ≡ 1) ↔ (b ≡ 1)
 same_level a b h = by (a == 1) refl (b == 1) refl h
   where
     yes_one : (n : ℕ) → (n == 1) ≡ true → n ≡ 1
@@ -97,7 +97,7 @@ rebased_some (n ∷ from) to q h e = cc
 pub rebased_one : (from to p q : Names) → is_prefix to p ≡ true → is_prefix to q ≡ true → rebased to from p ≡ rebased to from q → p ≡ q
 rebased_one from to p q h g e = sym (rebased_back to from p h) ∙ ap (rebased from to) e ∙ rebased_back to from q g
 
-rebased_level : (from to q : Names) → from ≢ [] → to ≢ [] → is_prefix to q ≡ true → (length from ≡ 1) ↔ (length to ≡ 1)
+pub rebased_level : (from to q : Names) → from ≢ [] → to ≢ [] → is_prefix to q ≡ true → (length from ≡ 1) ↔ (length to ≡ 1)
     → (length (rebased to from q) ≡ 1) ↔ (length q ≡ 1)
 rebased_level from to q h g under level =
     let a : length (rebased to from q) ≡ length from + length (drop (length to) q) = length-append from (drop (length to) q) in
@@ -124,7 +124,7 @@ pub record IsLight (change : Names → Element → Element) : Type 0 where
   pub opened : (q : Names) (e : Element) → (change q e).opened ≡ e.opened
 
 -- below what isn't closed all is open
-open_below : (t : Tree) (from q : Names) → Whole t → from ≢ [] → has_closed (get t (project_of from)) ≡ false → is_prefix from q ≡ true → IfSome (get t q) IsOpen
+pub open_below : (t : Tree) (from q : Names) → Whole t → from ≢ [] → has_closed (get t (project_of from)) ≡ false → is_prefix from q ≡ true → IfSome (get t q) IsOpen
 open_below t from q w some shown under = if_there IsOpen (get t q) (λ e h k.
     let one : length q ≡ 1 = (at_some (λ g. (g.kind ≡ Project) ↔ (length q ≡ 1)) (get t q) e h (w.projects q)).0 k in
     is_open e k (ap has_closed (sym h) ∙ ap (λ z. has_closed (get t z)) (sym (project_itself q (one_short q one)) ∙ project_below from q some under) ∙ shown))
@@ -187,12 +187,12 @@ get-brought t u from to free q = get-carried t from to (branch u from) (branch_b
 abbrev as_was : Names → Element → Element
 as_was _ e = e
 
-map_itself : (x : Option Element) → option_map (λ e. e) x ≡ x
+pub map_itself : (x : Option Element) → option_map (λ e. e) x ≡ x
 map_itself None = refl
 map_itself (Some e) = refl
 
 -- the node of what is carried is its own
-carried_apart : (r : Resources) (x : IsConsistent r) (from to q u : Names) → is_prefix from u ≡ false
+pub carried_apart : (r : Resources) (x : IsConsistent r) (from to q u : Names) → is_prefix from u ≡ false
     → IfSome (get r.tree (rebased to from q)) (λ e. IfSome (get (whole_of r x) u) (λ l. e.node ≢ l.node))
 carried_apart r x from to q u away = if_there (λ e. IfSome (get (whole_of r x) u) (λ l. e.node ≢ l.node)) (get r.tree (rebased to from q)) (λ e is.
     if_map (λ l. (opened e).node ≡ l.node → rebased to from q ≡ u) (λ l. e.node ≢ l.node) (get (whole_of r x) u)
@@ -201,14 +201,14 @@ carried_apart r x from to q u away = if_there (λ e. IfSome (get (whole_of r x) 
     (in_whole (get r.tree) (get r.shelf) (get (whole_of r x)) (whole_fits r x) (whole_parts r x) (rebased to from q) e is) ((whole_fits r x).nodes (rebased to from q) u)))
 
 -- the shelf has nothing below what isn't closed
-shelf_left : (r : Resources) (x : IsConsistent r) (from : Names) → from ≢ [] → has_closed (get r.tree (project_of from)) ≡ false → (q : Names)
+pub shelf_left : (r : Resources) (x : IsConsistent r) (from : Names) → from ≢ [] → has_closed (get r.tree (project_of from)) ≡ false → (q : Names)
     → cut (get r.shelf) from q ≡ get r.shelf q
 shelf_left r x from some shown q = at_cond (λ z. z ≡ get r.shelf q) (is_prefix from q) None (get r.shelf q)
     (λ under. sym (split_false (is_kept (get r.tree) q) (get r.tree q) (get r.shelf q) (get (whole_of r x) q)
     (open_kept (get r.tree) q (ap (λ z. has_closed (get r.tree z)) (project_below from q some under) ∙ shown)) (whole_parts r x q)).0)
     (λ _. refl)
 
-moved_graft : (r : Resources) (from to : Names) (x : IsConsistent r) → Transfer r.tree from to
+pub moved_graft : (r : Resources) (from to : Names) (x : IsConsistent r) → Transfer r.tree from to
     → IsGraft (cut (get (whole_of r x)) from) (brought (get r.tree) from to as_was) to
 moved_graft r from to x at = brought_graft r.tree (cut (get (whole_of r x)) from) from to as_was x.tree record { kind = λ _ _. refl; opened = λ _ _. refl } at
     (subst (λ z. IsSomeAnd z (λ e. e.kind ≢ File))
@@ -225,7 +225,7 @@ moved_graft r from to x at = brought_graft r.tree (cut (get (whole_of r x)) from
     (at_cond (λ z. IfSome (get r.tree (rebased to from q)) (λ e. IfSome z (λ l. e.node ≢ l.node))) (is_prefix from u) None (get (whole_of r x) u)
     (λ _. if_there (λ _. Unit {0}) (get r.tree (rebased to from q)) (λ _ _. tt)) (carried_apart r x from to q u)))
 
-moves : (r : Resources) (from to : Names) → IsConsistent r → Transfer r.tree from to → Keeps (λ _. ⊥) r (move r from to)
+pub moves : (r : Resources) (from to : Names) → IsConsistent r → Transfer r.tree from to → Keeps (λ _. ⊥) r (move r from to)
 moves r from to x at = record {
   whole = put_all (without (whole_of r x) from) (carried from to (branch r.tree from));
   fits = fits_as (graft (cut (get (whole_of r x)) from) (brought (get r.tree) from to as_was) to) (get (put_all (without (whole_of r x) from) (carried from to (branch r.tree from))))

@@ -43,52 +43,52 @@ use Rattle.op_kind.proofs.PathsBelow.{never}
 abbrev note : (Marks → Marks) → (Syncs → Syncs) → Element → Element
 note m s e = record e { attached = record e.attached { marks = m e.attached.marks; syncs = s e.attached.syncs } }
 
-alike : (m : Marks → Marks) (s : Syncs → Syncs) (e : Element) → Alike e (note m s e)
+pub alike : (m : Marks → Marks) (s : Syncs → Syncs) (e : Element) → Alike e (note m s e)
 alike m s e = record { kind = refl; node = refl; opened = refl }
 
-turns : (m : Marks → Marks) (s : Syncs → Syncs) (e : Element) → opened (note m s e) ≡ note m s (opened e)
+pub turns : (m : Marks → Marks) (s : Syncs → Syncs) (e : Element) → opened (note m s e) ≡ note m s (opened e)
 turns m s e = elim (is_project e.kind) as (λ b.
     cond b (record (note m s e) { opened = true }) (note m s e)
     ≡ note m s (cond b (record e { opened = true }) e)) [ true ↦ refl | false ↦ refl ]
 
 -- members of closed projects aren't in the tree
-and_shown : (b k : Bool) → (b && not k) ≡ true → k ≡ false
+pub and_shown : (b k : Bool) → (b && not k) ≡ true → k ≡ false
 and_shown true true h = cc
 and_shown true false h = refl
 and_shown false k h = cc
 
-same_look : (change : Element → Element) (b k : Bool) (x : Option Element) → (k ≡ true → x ≡ None) → cond (b && not k) (option_map change x) x ≡ cond b (option_map change x) x
+pub same_look : (change : Element → Element) (b k : Bool) (x : Option Element) → (k ≡ true → x ≡ None) → cond (b && not k) (option_map change x) x ≡ cond b (option_map change x) x
 same_look change true true x h = h refl ∙ sym (ap (option_map change) (h refl))
 same_look change true false x h = refl
 same_look change false k x h = refl
 
 -- ---- ids
 
-put_below : {X : Type 0} (n : ℕ) (m : FinMap nat_cmp X) (k : ℕ) (x : X) → k < n → Below n m → Below n (insert m k x)
+pub put_below : {X : Type 0} (n : ℕ) (m : FinMap nat_cmp X) (k : ℕ) (x : X) → k < n → Below n m → Below n (insert m k x)
 put_below n m k x less all id = subst (λ y. IfSome y (λ _. id < n)) (sym (get_insert m k x id))
     (at_cond (λ y. IfSome y (λ _. id < n)) (nat_eq id k) (Some x) (get m id) (λ same. let is : id ≡ k = eqb-true id k same in omega arith) (λ _. all id))
 
-taken_below : {X : Type 0} (n : ℕ) (m : FinMap nat_cmp X) (k : ℕ) → Below n m → Below n (remove m k)
+pub taken_below : {X : Type 0} (n : ℕ) (m : FinMap nat_cmp X) (k : ℕ) → Below n m → Below n (remove m k)
 taken_below n m k all id = subst (λ y. IfSome y (λ _. id < n)) (sym (get_remove m k id))
     (at_cond (λ y. IfSome y (λ _. id < n)) (nat_eq id k) None (get m id) (λ _. tt) (λ _. all id))
 
-more_below : {X : Type 0} (low high : ℕ) (m : FinMap nat_cmp X) → low ≤ high → Below low m → Below high m
+pub more_below : {X : Type 0} (low high : ℕ) (m : FinMap nat_cmp X) → low ≤ high → Below low m → Below high m
 more_below low high m more all id = below_more (get m id) id low high more (all id)
 
 -- an attribute is set where a marker is
-attribute_below : (n : ℕ) (marks : Marks) (id : ℕ) (name : List ℕ) (value : Option RawValue) → Below n marks → Below n (with_attribute_of marks id name value)
+pub attribute_below : (n : ℕ) (marks : Marks) (id : ℕ) (name : List ℕ) (value : Option RawValue) → Below n marks → Below n (with_attribute_of marks id name value)
 attribute_below n marks id name value all = by (get marks id) refl
   where
     by : (x : Option Marker) → get marks id ≡ x → Below n (put_marker marks id (option_map (λ marker. with_attribute marker name value) x))
     by None is = all
     by (Some marker) is = put_below n marks id (with_attribute marker name value) (subst (λ y. IfSome y (λ _. id < n)) is (all id)) all
 
-bytes_below : (n : ℕ) (syncs : Syncs) (number : ℕ) (bytes : Option (List ℕ)) → number < n → Below n syncs → Below n (with_bytes syncs number bytes)
+pub bytes_below : (n : ℕ) (syncs : Syncs) (number : ℕ) (bytes : Option (List ℕ)) → number < n → Below n syncs → Below n (with_bytes syncs number bytes)
 bytes_below n syncs number None less all = taken_below n syncs number all
 bytes_below n syncs number (Some b) less all = put_below n syncs number b less all
 
 -- a registered partner's number is below their count
-number_below : (partners : Partners) (name : List ℕ) → is_partner partners name ≡ true → number_of partners name < length partners
+pub number_below : (partners : Partners) (name : List ℕ) → is_partner partners name ≡ true → number_of partners name < length partners
 number_below partners name h = by (nat_lt place (length partners)) refl h
   where
     place : ℕ
@@ -101,7 +101,7 @@ number_below partners name h = by (nat_lt place (length partners)) refl h
 -- ---- one change
 
 -- what is at some paths is changed, and ids are drawn
-note_keeps : (r : Resources) (tree : Tree) (next : ℕ) (test : Names → Bool) (m : Marks → Marks) (s : Syncs → Syncs) → IsConsistent r → r.next_marker ≤ next
+pub note_keeps : (r : Resources) (tree : Tree) (next : ℕ) (test : Names → Bool) (m : Marks → Marks) (s : Syncs → Syncs) → IsConsistent r → r.next_marker ≤ next
     → ((q : Names) → get tree q ≡ changed_where (get r.tree) test (note m s) q)
     → ((marks : Marks) → Below r.next_marker marks → Below next (m marks)) → ((syncs : Syncs) → Below (length r.partners) syncs → Below (length r.partners) (s syncs))
     → Keeps (λ _. ⊥) r (record r { tree = tree; next_marker = next })
@@ -178,7 +178,7 @@ register_keeps r name x = at_cond (Keeps (λ _. ⊥) r) (is_partner r.partners n
     (λ _. stays r r.partners x (omega arith))
     (λ _. let more : length (r.partners ++ name ∷ []) ≡ length r.partners + 1 = length-append r.partners (name ∷ []) in stays r (r.partners ++ name ∷ []) x (omega arith))
 
-synced_number : (r : Resources) (p : Names) (name : List ℕ) → first_cause (sync_causes r p name) ≡ None → number_of r.partners name < length r.partners
+pub synced_number : (r : Resources) (p : Names) (name : List ℕ) → first_cause (sync_causes r p name) ≡ None → number_of r.partners name < length r.partners
 synced_number r p name h =
     let a = passed (is_root_path p) (WrongKind p) _ h in
     let b = passed (is_shut r.tree p) (ProjectClosed (project_of p)) _ a.1 in

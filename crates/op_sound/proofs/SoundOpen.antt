@@ -29,15 +29,15 @@ use Rattle.op_sound.proofs.SoundCreate.{one_name}
 
 -- ---- what is below a path
 
-below_prefix : (p q : Names) → is_below p q ≡ true → (is_prefix p q ≡ true) × (q ≢ p)
+pub below_prefix : (p q : Names) → is_below p q ≡ true → (is_prefix p q ≡ true) × (q ≢ p)
 below_prefix p q h =
     let parts = both (is_prefix p q) (not (is_prefix q p)) h in
     (parts.0, λ same. never (sym (ap (λ z. is_prefix z p) same ∙ prefix_itself p) ∙ is_away (is_prefix q p) parts.1))
 
-is_below_of : (p q : Names) → is_prefix p q ≡ true → q ≢ p → is_below p q ≡ true
+pub is_below_of : (p q : Names) → is_prefix p q ≡ true → q ≢ p → is_below p q ≡ true
 is_below_of p q h other = ap (λ b. b && not (is_prefix q p)) h ∙ ap not (not_true (is_prefix q p) (λ g. other (prefix_turned q p g h)))
 
-below_itself : (p : Names) → is_below p p ≡ false
+pub below_itself : (p : Names) → is_below p p ≡ false
 below_itself p = not_true (is_below p p) (λ h. (below_prefix p p h).1 refl)
 
 -- ---- a project that is opened or closed, and its members that change sides
@@ -53,23 +53,23 @@ sided a g p on q = cond (is_below p q) (g q) (changed_at a p (set_to on) q)
 abbrev beside : Look → Look → Names → Look
 beside s h p q = cond (is_below p q) (h q) (s q)
 
-again : (on : Bool) (e : Element) → e.kind ≡ Project → opened (set_to on e) ≡ opened e
+pub again : (on : Bool) (e : Element) → e.kind ≡ Project → opened (set_to on e) ≡ opened e
 again on e k =
     cond_true (is_project e.kind) (record e { opened = true }) (set_to on e) (project_true e.kind k)
     ∙ sym (cond_true (is_project e.kind) (record e { opened = true }) e (project_true e.kind k))
 
-all_again : (on : Bool) (x : Option Element) → IfSome x (λ e. e.kind ≡ Project) → option_map opened (option_map (set_to on) x) ≡ option_map opened x
+pub all_again : (on : Bool) (x : Option Element) → IfSome x (λ e. e.kind ≡ Project) → option_map opened (option_map (set_to on) x) ≡ option_map opened x
 all_again on None k = refl
 all_again on (Some e) k = ap (λ z. Some z) (again on e k)
 
-sided_split : (c m b d : Bool) (x y s g h z : Option Element) → (c ≡ true → Split d g h z)
+pub sided_split : (c m b d : Bool) (x y s g h z : Option Element) → (c ≡ true → Split d g h z)
     → (c ≡ false → m ≡ true → (d ≡ false) × (s ≡ None) × (option_map opened y ≡ z)) → (c ≡ false → m ≡ false → d ≡ b) → Split b x s z
     → Split d (cond c g (cond m y x)) (cond c h s) z
 sided_split true m b d x y s g h z on at off was = on refl
 sided_split false true b d x y s g h z on at off was = let here = at refl refl in open_split d y s z here.0 (here.1, here.2)
 sided_split false false b d x y s g h z on at off was = subst (λ k. Split k x s z) (sym (off refl refl)) was
 
-sided_parts : (a s f g h : Look) (p : Names) (on : Bool) → length p ≡ 1 → IfSome (a p) (λ e. e.kind ≡ Project) → Fits f → Parts a s f
+pub sided_parts : (a s f g h : Look) (p : Names) (on : Bool) → length p ≡ 1 → IfSome (a p) (λ e. e.kind ≡ Project) → Fits f → Parts a s f
     → ((q : Names) → is_below p q ≡ true → Split (has_closed (option_map (set_to on) (a p))) (g q) (h q) (f q)) → Parts (sided a g p on) (beside s h p) f
 sided_parts a s f g h p on one project w x moved q =
     sided_split (is_below p q) (is_at q p) (is_kept a q) (is_kept (sided a g p on) q) (a q) (option_map (set_to on) (a q)) (s q) (g q) (h q) (f q)
@@ -102,7 +102,7 @@ sided_parts a s f g h p on one project w x moved q =
         ∙ cond_false (is_at (project_of q) p) (option_map (set_to on) (a (project_of q))) (a (project_of q)) (at_other (project_of q) p (λ same.
         never (sym (is_below_of p q (in_project p q same) (λ e. never (sym (ap (λ z. is_at z p) e ∙ at_itself p) ∙ other))) ∙ out)))
 
-or_is : (c : Bool) (x y : Option Element) → (c ≡ true → y ≡ None) → option_or (cond c x None) y ≡ cond c x y
+pub or_is : (c : Bool) (x y : Option Element) → (c ≡ true → y ≡ None) → option_or (cond c x None) y ≡ cond c x y
 or_is true x y h = ap (option_or x) (h refl) ∙ or_none x
 or_is false x y h = refl
 
@@ -116,17 +116,17 @@ get-members t u p q free =
 -- ---- the project
 
 -- a project is there
-record IsProject (r : Resources) (p : Names) : Type 0 where
+pub record IsProject (r : Resources) (p : Names) : Type 0 where
   pub one : length p ≡ 1
   pub there : is_some (get r.tree p) ≡ true
 
-project_there : (r : Resources) (p : Names) → first_cause (project_causes r.tree p) ≡ None → IsProject r p
+pub project_there : (r : Resources) (p : Names) → first_cause (project_causes r.tree p) ≡ None → IsProject r p
 project_there r p h =
     let a = passed (not (is_project_path p)) (WrongKind p) _ h in
     let b = passed (not (contains_key r.tree p)) (NotFound p) None a.1 in
     record { one = one_name p a.0; there = is_there (contains_key r.tree p) b.0 }
 
-kind_there : (r : Resources) (p : Names) → IsConsistent r → length p ≡ 1 → IfSome (get r.tree p) (λ e. e.kind ≡ Project)
+pub kind_there : (r : Resources) (p : Names) → IsConsistent r → length p ≡ 1 → IfSome (get r.tree p) (λ e. e.kind ≡ Project)
 kind_there r p x one = if_map (λ e. (e.kind ≡ Project) ↔ (length p ≡ 1)) (λ e. e.kind ≡ Project) (get r.tree p) (λ e h. h.1 one) (x.tree.projects p)
 
 -- what neither comes nor goes, whatever partners come
@@ -151,14 +151,14 @@ pub read_keeps : (r : Resources) → IsConsistent r → Keeps (λ _. ⊥) r r
 read_keeps r x = stays r r.partners x (omega arith)
 
 -- being open or not is neither contents nor a number
-set_comes : (r after : Resources) (on : Bool) (e : Element) → Comes (λ _. ⊥) r after e → Comes (λ _. ⊥) r after (set_to on e)
+pub set_comes : (r after : Resources) (on : Bool) (e : Element) → Comes (λ _. ⊥) r after e → Comes (λ _. ⊥) r after (set_to on e)
 set_comes r after on e c = record { drawn = record { node = c.drawn.node; stamp = c.drawn.stamp; desc_stamp = c.drawn.desc_stamp; marks = c.drawn.marks; syncs = c.drawn.syncs }; whence = by c.whence }
   where
     by : IsOld r e ⊎ ⊥ → IsOld r (set_to on e) ⊎ ⊥
     by (inl old) = inl record { from = old.from; stood = old.stood; kind = old.kind; stamp = old.stamp; bytes = old.bytes }
     by (inr never_fresh) = absurd never_fresh
 
-sided_comes : (r after : Resources) (g : Look) (p : Names) (on : Bool) → ((q : Names) → IfSome (get r.tree q) (Comes (λ _. ⊥) r after))
+pub sided_comes : (r after : Resources) (g : Look) (p : Names) (on : Bool) → ((q : Names) → IfSome (get r.tree q) (Comes (λ _. ⊥) r after))
     → ((q : Names) → IfSome (g q) (Comes (λ _. ⊥) r after))
     → (q : Names) → IfSome (sided (get r.tree) g p on q) (Comes (λ _. ⊥) r after)
 sided_comes r after g p on here there q = at_cond (λ z. IfSome z (Comes (λ _. ⊥) r after)) (is_below p q) (g q) (changed_at (get r.tree) p (set_to on) q) (λ _. there q)
@@ -167,13 +167,13 @@ sided_comes r after g p on here there q = at_cond (λ z. IfSome z (Comes (λ _. 
     (if_map (Comes (λ _. ⊥) r after) (λ e. Comes (λ _. ⊥) r after (set_to on e)) (get r.tree q) (set_comes r after on) (here q)))
     (λ _. here q))
 
-beside_comes : (r after : Resources) (h : Look) (p : Names) → ((q : Names) → IfSome (get r.shelf q) (Comes (λ _. ⊥) r after))
+pub beside_comes : (r after : Resources) (h : Look) (p : Names) → ((q : Names) → IfSome (get r.shelf q) (Comes (λ _. ⊥) r after))
     → ((q : Names) → IfSome (h q) (Comes (λ _. ⊥) r after))
     → (q : Names) → IfSome (beside (get r.shelf) h p q) (Comes (λ _. ⊥) r after)
 beside_comes r after h p here there q = at_cond (λ z. IfSome z (Comes (λ _. ⊥) r after)) (is_below p q) (h q) (get r.shelf q) (λ _. there q) (λ _. here q)
 
 -- members have changed sides, and the numbers are as they were
-sided_keeps : (r : Resources) (tree shelf : Tree) (g h : Look) (p : Names) (on : Bool) (x : IsConsistent r) → IsProject r p
+pub sided_keeps : (r : Resources) (tree shelf : Tree) (g h : Look) (p : Names) (on : Bool) (x : IsConsistent r) → IsProject r p
     → ((q : Names) → get tree q ≡ sided (get r.tree) g p on q) → ((q : Names) → get shelf q ≡ beside (get r.shelf) h p q)
     → ((q : Names) → is_below p q ≡ true → Split (has_closed (option_map (set_to on) (get r.tree p))) (g q) (h q) (get (whole_of r x) q))
     → ((q : Names) → IfSome (g q) (Comes (λ _. ⊥) r (record r { tree = tree; shelf = shelf })))
@@ -201,7 +201,7 @@ sided_keeps r tree shelf g h p on x at is_tree is_shelf moved come go = record {
 
 -- ---- opening
 
-opens : (r : Resources) (p : Names) → IsConsistent r → IsProject r p → has_closed (get r.tree (project_of p)) ≡ true
+pub opens : (r : Resources) (p : Names) → IsConsistent r → IsProject r p → has_closed (get r.tree (project_of p)) ≡ true
     → Keeps (λ _. ⊥) r (record r { tree = put_all (set_open r.tree p true) (members r.shelf p); shelf = without_members r.shelf p })
 opens r p x at shut = sided_keeps r (put_all (set_open r.tree p true) (members r.shelf p)) (without_members r.shelf p) (get r.shelf) (λ _. None) p true x at
     (λ q. get-members (set_open r.tree p true) r.shelf p q (λ under. get-change_at r.tree p (set_to true) q ∙ gone q under)
@@ -233,17 +233,17 @@ open_keeps r p x h = at_cond (Keeps (λ _. ⊥) r) (is_shut r.tree p) (record r 
 
 -- ---- closing
 
-cut_then : (c m : Bool) (x : Option Element) (on : Bool)
+pub cut_then : (c m : Bool) (x : Option Element) (on : Bool)
     → cond m (option_map (set_to on) (cond c None x)) (cond c None x) ≡ cond c None (cond m (option_map (set_to on) x) x)
 cut_then true true x on = refl
 cut_then true false x on = refl
 cut_then false m x on = refl
 
-closed_now : (x : Option Element) → is_some x ≡ true → IfSome x (λ e. e.kind ≡ Project) → has_closed (option_map (set_to false) x) ≡ true
+pub closed_now : (x : Option Element) → is_some x ≡ true → IfSome x (λ e. e.kind ≡ Project) → has_closed (option_map (set_to false) x) ≡ true
 closed_now None h k = absurd (never (sym h))
 closed_now (Some e) h k = ap (λ b. b && true) (project_true e.kind k)
 
-closes : (r : Resources) (p : Names) → IsConsistent r → IsProject r p → has_closed (get r.tree (project_of p)) ≡ false
+pub closes : (r : Resources) (p : Names) → IsConsistent r → IsProject r p → has_closed (get r.tree (project_of p)) ≡ false
     → Keeps (λ _. ⊥) r (record r { tree = set_open (without_members r.tree p) p false; shelf = put_all r.shelf (members r.tree p) })
 closes r p x at shown = sided_keeps r (set_open (without_members r.tree p) p false) (put_all r.shelf (members r.tree p)) (λ _. None) (get r.tree) p false x at
     (λ q. get-change_at (without_members r.tree p) p (set_to false) q

@@ -165,7 +165,7 @@ module _ (a s f : Look) (w : Fits f) (x : Parts a s f) where
   pub at_top : (p : Names) → length p ≤ 1 → f p ≡ option_map opened (a p)
   at_top p h = in_tree p (short_kept a p h)
 
-opened_if : (B : Element → Type 0) (x y : Option Element) → ((e : Element) → B (opened e) → B e) → y ≡ option_map opened x → IsSomeAnd y B → IsSomeAnd x B
+pub opened_if : (B : Element → Type 0) (x y : Option Element) → ((e : Element) → B (opened e) → B e) → y ≡ option_map opened x → IsSomeAnd y B → IsSomeAnd x B
 opened_if B None y f h g = absurd (none_some B y h g)
 opened_if B (Some e) y f h g = f e (subst (λ z. IsSomeAnd z B) h g)
 
@@ -238,7 +238,7 @@ parts_sound r t w x k l = record {
     kept p false h g = none_if (λ _. is_in_shut r.tree p ≡ true) (get r.shelf p) g.0
 
 -- a closed project is there
-if_closed : (B : Type 0) (y : Option Element) → has_closed y ≡ true → IfSome y (λ e. e.kind ≡ Project → e.opened ≡ false → B) → B
+pub if_closed : (B : Type 0) (y : Option Element) → has_closed y ≡ true → IfSome y (λ e. e.kind ≡ Project → e.opened ≡ false → B) → B
 if_closed B None h g = absurd (never (sym h))
 if_closed B (Some e) h g = let parts = both (is_project e.kind) (not e.opened) h in g (project_only e.kind parts.0) (shut e.opened parts.1)
   where
@@ -246,7 +246,7 @@ if_closed B (Some e) h g = let parts = both (is_project e.kind) (not e.opened) h
     shut true h = absurd (never (sym h))
     shut false h = refl
 
-longer : (p : Names) → 2 ≤ length p → p ≢ take 1 p
+pub longer : (p : Names) → 2 ≤ length p → p ≢ take 1 p
 longer p h e = let less : length (take 1 p) ≤ 1 = project_length p in let same : length p ≡ length (take 1 p) = ap length e in absurd (omega arith)
 
 -- the whole tree whose parts sound resources are

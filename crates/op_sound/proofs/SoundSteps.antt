@@ -92,18 +92,18 @@ free_place t p rs below shown h =
     record { below = below; shown = shown; above = no_file_there (get t (parent p)) (is_there (contains_key t (parent p)) a.0) b.0; absent = none_there (get t p) c.0 }
 
 -- a path's parent is a member of no closed project where the path is none
-parent_shown : (a : Look) (p : Names) → has_closed (a (project_of p)) ≡ false → is_kept a (parent p) ≡ false
+pub parent_shown : (a : Look) (p : Names) → has_closed (a (project_of p)) ≡ false → is_kept a (parent p) ≡ false
 parent_shown a [] h = short_kept a [] (omega arith)
 parent_shown a (n ∷ []) h = short_kept a [] (omega arith)
 parent_shown a (n ∷ m ∷ p) h = open_kept a (parent (n ∷ m ∷ p)) h
 
 -- what is above the place in the whole tree
-place_above : (a s f : Look) (p : Names) → Fits f → Parts a s f → Place a p → IsSomeAnd (f (parent p)) (λ e. e.kind ≢ File)
+pub place_above : (a s f : Look) (p : Names) → Fits f → Parts a s f → Place a p → IsSomeAnd (f (parent p)) (λ e. e.kind ≢ File)
 place_above a s f p w x at = subst (λ y. IsSomeAnd y (λ e. e.kind ≢ File)) (sym (in_tree a s f w x (parent p) (parent_shown a p at.shown)))
     (map_some opened (λ e. e.kind ≢ File) (a (parent p)) (some_map (λ e. e.kind ≢ File) (λ e. (opened e).kind ≢ File) (a (parent p)) (λ e h k. h (sym (opened_kind e) ∙ k)) at.above))
 
 -- nothing is below what isn't there
-nothing_below : (f : Look) → Fits f → (p : Names) → f p ≡ None → (q : Names) → is_prefix p q ≡ true → f q ≡ None
+pub nothing_below : (f : Look) → Fits f → (p : Names) → f p ≡ None → (q : Names) → is_prefix p q ≡ true → f q ≡ None
 nothing_below f w p none q = by (length q) q (omega arith)
   where
     above : (q : Names) → q ≢ [] → f (parent q) ≡ None → f q ≡ None
@@ -126,14 +126,14 @@ nothing_below f w p none q = by (length q) q (omega arith)
             above q below (rest (omega arith) (not_at q p g))
 
 -- what is in the tree is in the whole one
-none_in_tree : (a s f : Look) → Fits f → Parts a s f → (p : Names) → f p ≡ None → a p ≡ None
+pub none_in_tree : (a s f : Look) → Fits f → Parts a s f → (p : Names) → f p ≡ None → a p ≡ None
 none_in_tree a s f w x p h = if_none (a p) (if_there (λ _. ⊥) (a p) (λ e g. some_none (opened e) (sym (in_whole a s f w x p e g) ∙ h)))
 
-place_free : (a s f : Look) (p : Names) → Fits f → Parts a s f → Place a p → (q : Names) → is_prefix p q ≡ true → f q ≡ None
+pub place_free : (a s f : Look) (p : Names) → Fits f → Parts a s f → Place a p → (q : Names) → is_prefix p q ≡ true → f q ≡ None
 place_free a s f p w x at = nothing_below f w p (in_tree a s f w x p (open_kept a p at.shown) ∙ ap (option_map opened) at.absent)
 
 -- the numbers of the whole tree are drawn, too
-nodes_drawn : (r : Resources) (f : Look) → Fits f → Parts (get r.tree) (get r.shelf) f → AllDrawn r r.tree
+pub nodes_drawn : (r : Resources) (f : Look) → Fits f → Parts (get r.tree) (get r.shelf) f → AllDrawn r r.tree
     → AllDrawn r r.shelf
     → (q : Names) → IfSome (f q) (λ e. e.node < r.next_node)
 nodes_drawn r f w x k l q = by (is_kept (get r.tree) q) (x q)

@@ -19,10 +19,10 @@ use Rattle.builder_api.specs.declared.edits.Problem.{Problem}
 use Rattle.builder_api.proofs.Places.{clear_below, prefix_append, or_true, neither}
 use Rattle.output_edits.specs.Wanted.{above, standing, wanted}
 use Rattle.output_commit.specs.Committed.{changed_to}
-use Rattle.output_commit.specs.Placed.{fresh, nodes_of, stamps_of, placed, cleared}
+use Rattle.output_commit.specs.Placed.{fresh, nodes_of, stamps_of, placed, cleared, with_wanted}
 use Rattle.output_commit.specs.Told.{told_at}
 use Rattle.output_commit.proofs.Gone.{get-cleared}
-use Rattle.output_commit.proofs.Counting.{put_first}
+use Rattle.output_commit.proofs.Counting.{put_first, project_stays}
 use Rattle.output_commit.proofs.Shown.{get-put_some}
 use Rattle.output_commit.proofs.Wished.{Over, above_over, last_all, all_flat, all_map, entries_got, get-wanted, fewer, not_root}
 
@@ -92,3 +92,7 @@ stays r o f index ps q clear =
 -- the same of resources that are those after a change
 pub stays_now : (r now : Resources) (o : Names) (f : Tree) (index : ℕ) (ps : List Problem) → now ≡ changed_to r o (wanted o f) index ps → (q : Names) → overlap q o ≡ false → get now.tree q ≡ get r.tree q
 stays_now r now o f index ps is q clear = ap (λ (x : Resources). get x.tree q) is ∙ stays r o f index ps q clear
+
+-- where nothing is wanted at the project's path, the project stays
+pub project_same : (r : Resources) (o : Names) (w : Tree) → get w (project_of o) ≡ None → get (with_wanted r o w).tree (project_of o) ≡ get r.tree (project_of o)
+project_same r o w none = not_placed r.tree (cleared r.tree o w) r.next_node r.next_stamp (entries w) (project_of o) (sym (get-entries w (project_of o)) ∙ none) ∙ project_stays r.tree o w

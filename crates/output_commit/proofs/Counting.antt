@@ -45,7 +45,7 @@ module _ (P Q : Names → Type 0) (p : Names) (kept : (q : Names) → is_at q p 
   still_all [] h all = tt
   still_all (e ∷ es) h all = (kept e.0 (later_other p e.0 (first _ _ h)) all.0, still_all es (second _ _ h) all.1)
 
-all_filter : (P : Names × Element → Type 0) (test : Names × Element → Bool) (es : Entries) → AllByRecursion P es → AllByRecursion P (filter test es)
+pub all_filter : (P : Names × Element → Type 0) (test : Names × Element → Bool) (es : Entries) → AllByRecursion P es → AllByRecursion P (filter test es)
 all_filter P test [] all = tt
 all_filter P test (e ∷ es) all = by (test e) (all_filter P test es all.1)
   where
@@ -147,14 +147,14 @@ still_put u (e ∷ es) q h = still_put (insert u e.0 e.1) es q (ap is_some (get-
     by true x h = refl
     by false x h = h
 
-not_below : (o : Names) → is_below o (project_of o) ≡ false
+pub not_below : (o : Names) → is_below o (project_of o) ≡ false
 not_below o = ap (λ b. is_prefix o (project_of o) && not b) (project_prefix o) ∙ and_false (is_prefix o (project_of o))
   where
     and_false : (b : Bool) → (b && false) ≡ false
     and_false true = refl
     and_false false = refl
 
-project_stays : (t : Tree) (o : Names) (w : Tree) → get (cleared t o w) (project_of o) ≡ get t (project_of o)
+pub project_stays : (t : Tree) (o : Names) (w : Tree) → get (cleared t o w) (project_of o) ≡ get t (project_of o)
 project_stays t o w = get-cleared t o w (project_of o) ∙ ap (λ b. cond (not (b && not (contains_key w (project_of o)))) (get t (project_of o)) None) (not_below o)
 
 len_again : (u : Tree) (p : Names) (x f : Option Element) → (is_some x ≡ true → contains_key u p ≡ true) → (is_some f ≡ true → is_some x ≡ true) → len (put_some u p f) ≡ len u

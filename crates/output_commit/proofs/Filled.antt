@@ -43,7 +43,7 @@ use Rattle.output_commit.proofs.Apart.{not_placed}
 
 -- ---- all files after edits are files
 
-abbrev IsFile : Element → Type 0
+abbrev pub IsFile : Element → Type 0
 IsFile e = is_file e.kind ≡ true
 
 found_file : (q : Names) (es : Entries) → IfSome (find_at q (filter (λ e. is_file e.1.kind) es)) IsFile
@@ -61,12 +61,12 @@ found_file q (e ∷ es) = by (is_file e.1.kind) refl (found_file q es)
     by true h rest = inner (is_at q e.0) h rest
     by false h rest = rest
 
-output_files : (t : Tree) (o k : Names) → IfSome (get (outputs t o) k) IsFile
+pub output_files : (t : Tree) (o k : Names) → IfSome (get (outputs t o) k) IsFile
 output_files t o k = subst (λ x. IfSome x IsFile)
     (sym (get-carried empty o [] (filter (λ e. is_file e.1.kind) (members t o)) (below_members o (entries t)) (sorted_files (members t o) (sorted-members t o)) (λ q h. get-empty path_cmp q) k))
     (found_file (o ++ k) (members t o))
 
-edited_files : (f : Tree) (es : List Edit) → ((k : Names) → IfSome (get f k) IsFile) → (k : Names) → IfSome (get (edited f es) k) IsFile
+pub edited_files : (f : Tree) (es : List Edit) → ((k : Names) → IfSome (get f k) IsFile) → (k : Names) → IfSome (get (edited f es) k) IsFile
 edited_files f [] all k = all k
 edited_files f (e ∷ es) all k = edited_files (edit f e) es (λ j. subst (λ x. IfSome x IsFile) (sym (get-set_at f e.0 (option_map (new_file 0 0) e.1) j)) (by (is_at j e.0) e.1 (get f j) (all j))) k
   where

@@ -107,11 +107,13 @@ pub under : (o : Names) (n : List ℕ) (k : Names) → is_below o (o ++ n ∷ k)
 under o n k = λ i. prefix_append o (n ∷ k) i && not (not_above o n k i)
 
 -- the file below o at a path from there
+pub bytes_outputs : (t : Tree) (o k : Names) → file_bytes (get (outputs t o) k) ≡ file_bytes (cond (is_below o (o ++ k)) (get t (o ++ k)) None)
+bytes_outputs t o k =
+    ap file_bytes (get-carried empty o [] (filter (λ e. is_file e.1.kind) (members t o)) (below_members o (entries t)) (sorted_files (members t o) (sorted-members t o)) (λ q h. get-empty path_cmp q) k)
+    ∙ find_files (o ++ k) (members t o) (sorted-members t o) ∙ ap file_bytes (find-members t o (o ++ k))
+
 bytes_output : (t : Tree) (o : Names) (n : List ℕ) (k : Names) → file_bytes (get (outputs t o) (n ∷ k)) ≡ file_bytes (get t (o ++ n ∷ k))
-bytes_output t o n k =
-    ap file_bytes (get-carried empty o [] (filter (λ e. is_file e.1.kind) (members t o)) (below_members o (entries t)) (sorted_files (members t o) (sorted-members t o)) (λ q h. get-empty path_cmp q) (n ∷ k))
-    ∙ find_files (o ++ n ∷ k) (members t o) (sorted-members t o)
-    ∙ ap file_bytes (find-members t o (o ++ n ∷ k) ∙ ap (λ b. cond b (get t (o ++ n ∷ k)) None) (under o n k))
+bytes_output t o n k = bytes_outputs t o (n ∷ k) ∙ ap (λ b. file_bytes (cond b (get t (o ++ n ∷ k)) None)) (under o n k)
 
 -- ---- all of it
 
@@ -168,15 +170,18 @@ bytes_left r o index e n k long good =
     by (Some g) is = ap (λ x. pick x (file_bytes (get (cleared r.tree o w) q))) (file_wanted o f (n ∷ k) g some_names is (λ j there. none_over e.files f good (n ∷ k) j (ap is_some is) there)) ∙ ap file_bytes (sym is)
     by None is = gone (get w q) refl (no_file_wanted o f (n ∷ k) is) ∙ ap file_bytes (sym is)
 
+-- what the builders' view says of it
+pub file_left : (r : Resources) (o : Names) (index : ℕ) (e : Edits) (n : List ℕ) (k : Names) → 2 ≤ length o → bad_path e.files (files_after r o e) ≡ None
+    → get (files_of (committed r o index e).tree) (o ++ n ∷ k) ≡ get (committed_files o (files_of r.tree) e.files) (o ++ n ∷ k)
+file_left r o index e n k long good =
+    get-files_of (committed r o index e).tree (o ++ n ∷ k) ∙ bytes_left r o index e n k long good ∙ bytes_edited (outputs r.tree o) e.files (n ∷ k)
+    ∙ ap (after_edits e.files (n ∷ k)) (bytes_output r.tree o n k ∙ sym (get-files_of r.tree (o ++ n ∷ k)))
+    ∙ sym (committed_below o (files_of r.tree) e.files n k)
+
 -- the files below the output are those that the edits make of the ones before
 pub files_left : (r : Resources) (o : Names) (index : ℕ) (e : Edits) → 2 ≤ length o → bad_path e.files (files_after r o e) ≡ None
     → (m : Files) → HasBelow o (committed_files o (files_of r.tree) e.files) m → HasBelow o (files_of (committed r o index e).tree) m
-files_left r o index e long good m has = record {
-  at = λ n k.
-      get-files_of (committed r o index e).tree (o ++ n ∷ k) ∙ bytes_left r o index e n k long good ∙ bytes_edited (outputs r.tree o) e.files (n ∷ k)
-      ∙ ap (after_edits e.files (n ∷ k)) (bytes_output r.tree o n k ∙ sym (get-files_of r.tree (o ++ n ∷ k)))
-      ∙ sym (committed_below o (files_of r.tree) e.files n k) ∙ has.at n k;
-}
+files_left r o index e long good m has = record { at = λ n k. file_left r o index e n k long good ∙ has.at n k }
 
 -- edits that aren't refused have no bad path
 pub unrefused : (r : Resources) (o : Names) (index : ℕ) (e : Edits) → refusal r o index e ≡ None → bad_path e.files (files_after r o e) ≡ None

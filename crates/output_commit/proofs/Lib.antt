@@ -1,10 +1,19 @@
-mod Gone
-mod Counting
+pub mod Gone
+pub mod Counting
 mod Alone
 mod Planned
-mod Shown
-mod Wished
+pub mod Shown
+pub mod Wished
 mod Undisputed
-mod Left
-mod Apart
-mod Filled
+pub mod Left
+pub mod Apart
+pub mod Filled
+mod Under
+mod Pruned
+mod Spots
+mod Grown
+pub mod Reasons
+mod Noted
+pub mod SoundCommit
+pub mod Cleaned
+pub mod AllFiles

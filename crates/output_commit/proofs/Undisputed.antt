@@ -41,8 +41,8 @@ least_none : (ps : List Names) → least_of None ps ≡ None → ps ≡ []
 least_none [] h = refl
 least_none (p ∷ ps) h = absurd (never (sym (least_some (Some p) ps refl) ∙ ap is_some h))
 
-append_none : (ps qs : List Names) → ps ++ qs ≡ [] → qs ≡ []
-append_none [] qs h = h
+append_none : (ps qs : List Names) → ps ++ qs ≡ [] → (ps ≡ []) × (qs ≡ [])
+append_none [] qs h = (refl, h)
 append_none (p ∷ ps) qs h = cc
 
 filter_none : (test : Names → Bool) (ps : List Names) (k : Names) → filter test ps ≡ [] → list_any (is_at k) ps ≡ true → test k ≡ false
@@ -65,11 +65,21 @@ any_none test (p ∷ ps) j h g = by (test p) refl h (is_at j p) refl g (any_none
     by false e h true at g next = ap test (same_at j p at) ∙ e
     by false e h false at g next = next h g
 
+-- no path is the root's
+pub no_root : (es : List Edit) (f : Tree) → bad_path es f ≡ None → filter is_root_path (edit_paths es) ≡ []
+no_root es f h = (append_none (filter is_root_path (edit_paths es)) (repeated (λ _. false) (edit_paths es))
+    (append_none (filter is_root_path (edit_paths es) ++ repeated (λ _. false) (edit_paths es)) (above_another f) (least_none (bad_paths es f) h)).0).0
+
+-- none comes again
+pub no_repeated : (es : List Edit) (f : Tree) → bad_path es f ≡ None → repeated (λ _. false) (edit_paths es) ≡ []
+no_repeated es f h = (append_none (filter is_root_path (edit_paths es)) (repeated (λ _. false) (edit_paths es))
+    (append_none (filter is_root_path (edit_paths es) ++ repeated (λ _. false) (edit_paths es)) (above_another f) (least_none (bad_paths es f) h)).0).1
+
 -- no file lies above another
 pub none_above : (es : List Edit) (f : Tree) → bad_path es f ≡ None → (k j : Names) → is_some (get f k) ≡ true → is_some (get f j) ≡ true → is_below k j ≡ false
 none_above es f h k j a b = any_none (is_below k) (keys f) j
     (filter_none (λ p. list_any (is_below p) (keys f)) (keys f) k
-    (append_none (filter is_root_path (edit_paths es) ++ repeated (λ _. false) (edit_paths es)) (above_another f) (least_none (bad_paths es f) h))
+    (append_none (filter is_root_path (edit_paths es) ++ repeated (λ _. false) (edit_paths es)) (above_another f) (least_none (bad_paths es f) h)).1
     (sym (contains_key-keys f k) ∙ a))
     (sym (contains_key-keys f j) ∙ b)
 

@@ -29,7 +29,7 @@ second : (a b : Bool) → T (a && b) → T b
 second true b h = h
 second false b h = absurd h
 
-last_append : (q : Names) (es fs : Entries) → last_at q (es ++ fs) ≡ option_or (last_at q fs) (last_at q es)
+pub last_append : (q : Names) (es fs : Entries) → last_at q (es ++ fs) ≡ option_or (last_at q fs) (last_at q es)
 last_append q [] fs = or_none (last_at q fs)
   where
     or_none : (x : Option Element) → x ≡ option_or x None
@@ -80,7 +80,7 @@ entries_got t = all_map (λ x. find_at x.0 (entries t) ≡ Some x.1) (λ e. get 
 names_more : (n : ℕ) (p : Names) → n < length p → p ≡ [] → ⊥
 names_more n p h e = let none : length p ≡ 0 = ap length e in omega arith
 
-parent_length : (p : Names) → length (parent p) ≡ length p - 1
+pub parent_length : (p : Names) → length (parent p) ≡ length p - 1
 parent_length [] = refl
 parent_length (n ∷ []) = refl
 parent_length (n ∷ m ∷ p) = let h : length (parent (m ∷ p)) ≡ length (m ∷ p) - 1 = parent_length (m ∷ p) in omega arith
@@ -113,7 +113,7 @@ pub prefix_both : (o p q : Names) → is_prefix (o ++ p) (o ++ q) ≡ is_prefix 
 prefix_both [] p q = refl
 prefix_both (n ∷ o) p q = ap (λ b. b && is_prefix (o ++ p) (o ++ q)) (itself n) ∙ prefix_both o p q
 
-below_both : (o p q : Names) → is_below (o ++ p) (o ++ q) ≡ is_below p q
+pub below_both : (o p q : Names) → is_below (o ++ p) (o ++ q) ≡ is_below p q
 below_both o p q = λ i. prefix_both o p q i && not (prefix_both o q p i)
 
 -- ---- what is wanted at a path below o
@@ -153,11 +153,11 @@ get-wanted o f q = get-put_all empty (flat_map (λ e. standing (o ++ e.0) e.1) (
     or_none None = refl
     or_none (Some e) = refl
 
-some_or : (x y : Option Element) → is_some y ≡ true → is_some (option_or x y) ≡ true
+pub some_or : (x y : Option Element) → is_some y ≡ true → is_some (option_or x y) ≡ true
 some_or None y h = h
 some_or (Some e) y h = refl
 
-or_some : (x y : Option Element) → is_some x ≡ true → is_some (option_or x y) ≡ true
+pub or_some : (x y : Option Element) → is_some x ≡ true → is_some (option_or x y) ≡ true
 or_some None y h = absurd (never (sym h))
 or_some (Some e) y h = refl
 

@@ -1,8 +1,9 @@
 -- What a commit of edits does, and why it is refused.
-use Rattle.std.specs.Prelude.{ℕ, ◌+◌, ◌-◌, Bool, ◌||◌, nat_lt, List, [], ◌∷◌, ◌++◌, Option}
-use Rattle.std.specs.FinMap.{len, empty}
+use Rattle.std.specs.Prelude.{◌≡◌, ◌≤◌, ℕ, ◌+◌, ◌-◌, Bool, false, true, ◌||◌, nat_lt, List, [], ◌∷◌, ◌++◌, length, Option}
+use Rattle.std.specs.FinMap.{len, empty, contains_key}
 use Rattle.res_path.specs.Paths.{Names}
 use Rattle.ws_elem.specs.Trees.{Tree}
+use Rattle.op_kind.specs.Places.{project_of, is_shut}
 use Rattle.op_kind.specs.Refusals.{max_elements, is_spent}
 use Rattle.op_kind.specs.Resources.{Resources}
 use Rattle.proj_desc.specs.FirstCause.{when, first_cause}
@@ -15,6 +16,12 @@ use Rattle.output_edits.specs.Outputs.{outputs, edited}
 use Rattle.output_edits.specs.Wanted.{wanted}
 use Rattle.output_commit.specs.Placed.{with_wanted}
 use Rattle.output_commit.specs.Told.{with_told}
+
+-- o lies below a project that is there and open
+pub record IsOpenOutput (t : Tree) (o : Names) : Type 0 where
+  pub long : 2 ≤ length o
+  pub there : contains_key t (project_of o) ≡ true
+  pub opened : is_shut t o ≡ false
 
 -- the files below o after the edits, by their paths from there
 abbrev pub files_after : Resources → Names → Edits → Tree

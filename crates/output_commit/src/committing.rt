@@ -1,15 +1,19 @@
 //! Changing an output by edits, and cleaning it.
-ghost use Rattle.std.specs.Prelude.{◌≡◌, ◌≤◌, false, None, Some, length, IfOk, IfErr, OnOk, OnErr};
+ghost use Rattle.std.specs.Prelude.{◌≡◌, ◌≢◌, ◌≤◌, false, true, None, Some, length, option_map, IfOk, IfErr, OnOk, OnErr};
 ghost use Rattle.std.specs.FinMap.{get};
 ghost use Rattle.res_path.specs.Paths.{Names, overlap};
+ghost use Rattle.op_kind.specs.Marking.{with_marks, removed};
+ghost use Rattle.op_kind.specs.Places.{project_of};
 ghost use Rattle.op_kind.specs.Resources.{resources};
 ghost use Rattle.builder_api.specs.Edits.{committed as committed_files};
 ghost use Rattle.builder_api.specs.Files.{Files, files_of, HasBelow, HasNoEmptyFolder};
+ghost use Rattle.builder_api.specs.Places.{is_below};
 ghost use Rattle.op_plan.specs.Backs.{HasWay};
 ghost use Rattle.op_plan.specs.Edits.{KeepsRoom};
 ghost use Rattle.output_edits.specs.Judging.{IfRefused};
 ghost use Rattle.output_edits.specs.Wanted.{wanted};
 ghost use Rattle.output_commit.specs.Committed.{committed, cleaned, files_after, refusal};
+ghost use Rattle.output_commit.specs.Told.{problem_ids};
 ghost use Rattle.output_commit.specs.Touched.{touched};
 ghost use Rattle.output_commit.specs.Inside.Plans.{changed_by};
 
@@ -82,7 +86,7 @@ pub fn commit_edits<T: TreeRep>(
 }
 
 /// Takes away all that lies below the output of the command with this index of the project in which it lies, and the
-/// command's problems. Gives the way back. Where memory wants, nothing was done.
+/// command's problems, and nothing else. Gives the way back. Where memory wants, nothing was done.
 #[tactic(auto, using(op_plan::proofs::Made::keeps_itself, crate::proofs::Planned::changed_is))]
 pub fn clean_output<T: TreeRep>(
     alloc: Global,
@@ -92,6 +96,13 @@ pub fn clean_output<T: TreeRep>(
     index: u16,
 ) -> Result<Back, NoMemory>
     ensures resources { OnOk result (resources (T.tree tree.new) side.new ≡ cleaned (resources (T.tree tree.old) side.old) output.now index) }
+    // Nothing is left below the output.
+    ensures gone { OnOk result ((q : Names) → is_below output.now q ≡ true → get (T.tree tree.new) q ≡ None) }
+    // Its project loses the command's problems.
+    ensures project { OnOk result (get (T.tree tree.new) (project_of output.now)
+        ≡ option_map (with_marks (λ marks. removed marks (problem_ids index marks))) (get (T.tree tree.old) (project_of output.now))) }
+    // All else stays as it was.
+    ensures others { OnOk result ((q : Names) → is_below output.now q ≡ false → q ≢ project_of output.now → get (T.tree tree.new) q ≡ get (T.tree tree.old) q) }
     ensures back { IfOk result (λ back. HasWay back (T.room tree.new) side.new.shelf.room
         (resources (T.tree tree.new) side.new) (resources (T.tree tree.old) side.old)) }
     ensures room { KeepsRoom (T.room tree.old) (T.room tree.new) }

@@ -223,6 +223,11 @@ no_batches true y true h = cc
 no_batches false true true h = cc
 no_batches false false true h = cc
 
+-- what holds of one of two that both fail
+pub neither : (x y : Bool) → (x || y) ≡ false → x ≡ false
+neither false y h = refl
+neither true y h = cc
+
 pub idle_bit : (x y : Bool) (k : Option Pass) → (x || y || not (batches_in k == 0)) ≡ false → bit_at has_batch k ≡ 0
 idle_bit x y None h = refl
 idle_bit x y (Some pass) h = ap bit (no_batches x y (not (pass.batches == 0)) h)

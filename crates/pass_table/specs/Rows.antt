@@ -46,6 +46,14 @@ out_of_batch p n = record p { there = changed (λ pass. with_batches (pass.batch
 abbrev pub running : {A : Type 0} → Passes A → ℕ → List ℕ → List A → Passes A
 running p n name rule = record (begun p n rule) { there = changed (with_job (Some name)) n p.there }
 
+-- Checkout: the pass has the services
+abbrev pub checked_out : {A : Type 0} → Passes A → ℕ → Passes A
+checked_out p n = record p { services = Some n }
+
+-- CheckIn: no pass has them
+abbrev pub checked_in : {A : Type 0} → Passes A → Passes A
+checked_in p = record p { services = None }
+
 -- Finish: the pass has neither a job nor a rule nor an open batch any more
 abbrev pub finished : {A : Type 0} → Passes A → ℕ → Passes A
 finished p n = record p { there = changed (λ _. idle) n p.there; rules = without n p.rules }

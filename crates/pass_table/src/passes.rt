@@ -6,8 +6,8 @@ ghost use Rattle.rule_table.specs.Tables.{IsApart, admits, is_free, last_rule, o
 ghost use Rattle.rule_table.specs.Refusals.{RefusesBegin, RefusesEnd};
 ghost use Rattle.rule_table.specs.declared.error.BeginError.{BeginError};
 ghost use Rattle.rule_table.specs.declared.error.BeginError.TheVariants.{Conflict, Memory};
-ghost use Rattle.pass_table.specs.Passes.{first_pass, has_pass, job_of, batches_of, is_busy, is_quiet};
-ghost use Rattle.pass_table.specs.Rows.{RefusesTransfer, begun, ended, entered, finished, in_batch, left, out_of_batch, running, transferred};
+ghost use Rattle.pass_table.specs.Passes.{first_pass, has_pass, job_of, batches_of, is_busy, is_quiet, serves};
+ghost use Rattle.pass_table.specs.Rows.{RefusesTransfer, begun, checked_in, checked_out, ended, entered, finished, in_batch, left, out_of_batch, running, transferred};
 
 use crate::table::Table;
 use crate::{NoMemory, Pass, TransferError};
@@ -20,7 +20,7 @@ use std::marker::Model;
 /// The greatest number of a pass.
 const MAX_NUMBER: u64 = (1 << 63) - 1;
 
-/// The pass has a rule, a job or an open batch.
+/// The pass has a rule, a job, an open batch or the services.
 #[derive(Clone, Copy, Debug, PartialEq, Eq)]
 pub struct PassBusy;
 
@@ -29,7 +29,7 @@ pub struct PassBusy;
 pub struct NoBatch;
 
 /// The passes that have entered a workspace and haven't left it. A contract sees the number that the next one gets, what
-/// each has by its number, and the rules that they hold in the order in which they were begun.
+/// each has by its number, the rules that they hold in the order in which they were begun, and which pass has the services.
 ///
 /// Within a pass each rule is within the ones below it, and no rules of two passes conflict. Where a call is refused, or
 /// wants memory, the passes are as before.
@@ -38,6 +38,8 @@ pub struct Passes<A: Atom> {
     next: u64,
     there: Table,
     rules: RuleTable<A>,
+    // The pass that has the services.
+    services: Option<u64>,
     // How many passes have an open batch.
     in_batch: u64,
 }
@@ -51,7 +53,7 @@ impl<A: Atom> Model for Passes<A> {
 
     ghost coded = { passes_code A.code };
 
-    ghost view = { λ p. record { next = p.next; there = p.there; rules = p.rules } };
+    ghost view = { λ p. record { next = p.next; there = p.there; rules = p.rules; services = p.services } };
 
     ghost invariant = { λ p. IsKept p.there p.next p.in_batch };
 }
@@ -67,6 +69,7 @@ impl<A: Atom> Passes<A> {
             next: 1,
             there,
             rules: RuleTable::empty(alloc),
+            services: None,
             in_batch: 0,
         })
     }
@@ -112,11 +115,28 @@ impl<A: Atom> Passes<A> {
         &self.rules
     }
 
-    /// Whether the pass has a rule, a job or an open batch. Costs a look at the held rules.
+    /// The pass that has the services; none where no pass has them.
+    pub fn services(&self) -> Option<u64>
+        ensures { result ≡ self.now.services }
+    {
+        self.services
+    }
+
+    /// Whether the pass has the services.
+    pub fn serves(&self, pass: u64) -> bool
+        ensures { result ≡ serves self.now pass }
+    {
+        self.services == Some(pass)
+    }
+
+    /// Whether the pass has a rule, a job, an open batch or the services. Costs a look at the held rules.
     pub fn is_busy(&self, pass: u64) -> bool
         ensures { result ≡ is_busy self.now pass }
     {
-        self.rules.last(pass).is_some() || self.job(pass).is_some() || self.batches(pass) != 0
+        self.rules.last(pass).is_some()
+            || self.job(pass).is_some()
+            || self.batches(pass) != 0
+            || self.serves(pass)
     }
 
     /// Whether no pass has an open batch.
@@ -161,7 +181,21 @@ impl<A: Atom> Passes<A> {
         Ok(number)
     }
 
-    /// The pass is gone. Refused where it has a rule, a job or an open batch. Takes no memory.
+    /// The pass has the services from now on. Takes no memory.
+    pub fn check_out(&mut self, pass: u64)
+        ensures { self.new ≡ checked_out self.old pass }
+    {
+        self.services = Some(pass);
+    }
+
+    /// No pass has the services any more. Takes no memory.
+    pub fn check_in(&mut self)
+        ensures { self.new ≡ checked_in self.old }
+    {
+        self.services = None;
+    }
+
+    /// The pass is gone. Refused where it has a rule, a job, an open batch or the services. Takes no memory.
     pub fn leave(&mut self, pass: u64) -> Result<(), PassBusy>
         ensures ok { OnOk result (self.new ≡ left self.old pass) }
         ensures idle { OnOk result (is_busy self.old pass ≡ false) }
@@ -301,6 +335,7 @@ impl<A: Atom> Passes<A> {
             next: self.next,
             there: self.there.copy()?,
             rules: self.rules.copy()?,
+            services: self.services,
             in_batch: self.in_batch,
         })
     }

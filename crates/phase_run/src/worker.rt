@@ -55,7 +55,10 @@ fn job_of(answer: Answer) -> Option<Apart<Name>>
 {
     match answer {
         Answer::Job(name) => Some(name),
-        _ => None,
+        other => {
+            drop(other);
+            None
+        }
     }
 }
 

@@ -26,12 +26,12 @@ use Rattle.run_order.specs.Plans.{JobPlan, Phase, HaveOwnNames, is_name}
 use Rattle.run_order.specs.Orders.{cancelled, is_asleep, sleeps, sleepers}
 use Rattle.run_order.specs.Counts.{one_if, named}
 use Rattle.run_order.proofs.Lists.{acts_append, acts_cut}
-use Rattle.run_order.proofs.Managed.{step_manager}
+use Rattle.ws_core.proofs.Roomy.{step_manager}
 use Rattle.run_order.proofs.Taken.{put_other}
 
 -- a job of another name is cancelled
 pub cancel_other : (s : Moment) (k : ℕ) (n name : List ℕ) → is_name name n ≡ false → state_of (step s k (Cancel n)).0.manager.jobs name ≡ state_of s.manager.jobs name
-cancel_other s k n name other = ap (λ (m : JobManager). state_of m.jobs name) (step_manager s k (Cancel n)) ∙ by (refusal s.manager k (Cancel n))
+cancel_other s k n name other = ap (λ (m : JobManager). state_of m.jobs name) (step_manager s k (Cancel n) refl) ∙ by (refusal s.manager k (Cancel n))
   where
     by : (r : Option Refusal) → state_of (decided r s.manager k (Cancel n)).0.jobs name ≡ state_of s.manager.jobs name
     by None = ap (λ o. option_map (λ (job : Job WsAtom). job.state) o) (put_other s.manager.jobs.jobs n name (option_map queue.over (get s.manager.jobs.jobs n)) other)

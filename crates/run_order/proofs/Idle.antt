@@ -1,7 +1,7 @@
 -- One worker alone, between its parts: it has nothing, so it may take a job, and where it gets none, none is left.
 use Rattle.std.proofs.Common.{◌≡◌, ◌⊎◌, inl, inr, ℕ, ◌+◌, ◌-◌, Bool, true, false, cond, not, ◌&&◌, ◌||◌, ◌==◌, if◌then◌else◌, List, [], ◌∷◌, length, refl, ap, sym, ◌∙◌, subst, arith}
 use Rattle.std.specs.Prelude.{Option, Some, None, is_some, is_none, filter, find}
-use Rattle.std.specs.Option.{option_map}
+use Rattle.std.specs.Option.{option_eq, option_map}
 use Rattle.std.specs.FinMap.{get, entries, entries_sorted, get-insert, get-empty, get-entries}
 use Rattle.std.proofs.lemmas.Cmp.{nat_cmp_total}
 use Rattle.sched_rules.specs.Atoms.{atom_conflicts}
@@ -21,7 +21,7 @@ use Rattle.pass_table.specs.Passes.{has_pass, job_of, job_in, batches_in, idle, 
 use Rattle.pass_table.specs.Rows as rows
 use Rattle.proj_desc.specs.FirstCause.{when}
 use Rattle.core_event.specs.declared.event.Event.{Event}
-use Rattle.core_event.specs.declared.event.Event.TheVariants.{Enter, Leave, Schedule, Sleep, Wake, Cancel, Take, Finish, Begin, TryBegin, End, Transfer, Batch, EndBatch, Checkpoint, Operation}
+use Rattle.core_event.specs.declared.event.Event.TheVariants.{Enter, Leave, Schedule, Sleep, Wake, Cancel, Take, Finish, Begin, TryBegin, End, Transfer, Batch, EndBatch, Checkpoint, Operation, Service}
 use Rattle.core_event.specs.declared.reply.Answer.TheVariants as answers
 use Rattle.core_event.specs.declared.reply.Refusal.{Refusal}
 use Rattle.core_event.specs.declared.reply.Refusal.TheVariants as refusals
@@ -32,7 +32,9 @@ use Rattle.ws_core.specs.States.{Moment}
 use Rattle.ws_core.specs.Steps.{step}
 use Rattle.ws_core.specs.Histories.{fresh}
 use Rattle.run_order.specs.Alone.{AllOfOne, IsSingle, IsPlain, IsIdle, IsBusy, IsCommand}
-use Rattle.run_order.proofs.Managed.{step_manager, step_answer}
+use Rattle.run_order.proofs.Managed.{step_services, step_answer}
+use Rattle.run_order.proofs.Waiting.{command_plain}
+use Rattle.ws_core.proofs.Roomy.{step_manager}
 use Rattle.run_order.proofs.Single.{step_single, none_without, table_put, batches_job, job_given, finished_single, first_other, over_other, put_runs, changed_runs}
 
 -- ---- jobs of a queue
@@ -105,22 +107,29 @@ idle_over m i none = none_pass (λ job. is_live job.state) m.jobs.jobs each
 
 -- in the fresh workspace, once pass 1 was let in
 pub entered_idle : IsIdle (step fresh 0 Enter).0.manager
-entered_idle = subst IsIdle (sym (step_manager fresh 0 Enter)) (record {
+entered_idle = subst IsIdle (sym (step_manager fresh 0 Enter refl)) (record {
   rules = refl;
   there = get-insert nat_cmp_total fresh.manager.passes.there 1 idle 1 ∙ ap (λ b. cond b (Some idle) (get fresh.manager.passes.there 1)) (itself nat_cmp_total 1);
   runs = λ name is. not_Some states.Running (sym (ap (option_map (λ (j : Job WsAtom). j.state)) (get-empty name_cmp name)) ∙ is);
+  services = refl;
 })
 
 -- ---- Take
 
 may_take : (m : JobManager) → IsIdle m → refusal m 1 Take ≡ None
-may_take m i = ap (λ b. when b refusals.PassBusy) (none ∙ free)
+may_take m i = ap (λ b. when b refusals.PassBusy) (none ∙ free ∙ unserved)
   where
-    none : is_busy m.passes 1 ≡ ((false || is_some (job_in (get m.passes.there 1))) || not (batches_in (get m.passes.there 1) == 0))
-    none = ap (λ (all : List (Held WsAtom)). (is_some (last_rule 1 all) || is_some (job_in (get m.passes.there 1))) || not (batches_in (get m.passes.there 1) == 0)) i.rules
+    busy_with : Bool → Option Pass → Option ℕ → Bool
+    busy_with b p services = b || is_some (job_in p) || not (batches_in p == 0) || option_eq (λ a b. a == b) services (Some 1)
 
-    free : ((false || is_some (job_in (get m.passes.there 1))) || not (batches_in (get m.passes.there 1) == 0)) ≡ false
-    free = ap (λ p. (false || is_some (job_in p)) || not (batches_in p == 0)) i.there
+    none : is_busy m.passes 1 ≡ busy_with false (get m.passes.there 1) m.passes.services
+    none = ap (λ (all : List (Held WsAtom)). busy_with (is_some (last_rule 1 all)) (get m.passes.there 1) m.passes.services) i.rules
+
+    free : busy_with false (get m.passes.there 1) m.passes.services ≡ busy_with false (Some idle) m.passes.services
+    free = ap (λ p. busy_with false p m.passes.services) i.there
+
+    unserved : busy_with false (Some idle) m.passes.services ≡ false
+    unserved = ap (busy_with false (Some idle)) i.services
 
 -- ---- a job is taken, run and finished
 
@@ -144,13 +153,14 @@ take_gives s i = by (next_job s.manager) refl
 
     by : (n : Option (List ℕ)) → next_job s.manager ≡ n
         → ((name : List ℕ) × ((step s 1 Take).1.answer ≡ answers.Job name) × IsBusy name (step s 1 Take).0.manager) ⊎ (((step s 1 Take).1.answer ≡ answers.None) × (live s.manager.jobs ≡ 0) × IsIdle (step s 1 Take).0.manager)
-    by None is = inr (step_answer s 1 Take refl ∙ (ap (λ d. d.1) takes ∙ ap (λ n. (taken s.manager 1 n).1) is), idle_over s.manager i is, subst IsIdle (sym (step_manager s 1 Take ∙ (ap (λ d. d.0) takes ∙ ap (λ n. (taken s.manager 1 n).0) is))) i)
+    by None is = inr (step_answer s 1 Take refl refl ∙ (ap (λ d. d.1) takes ∙ ap (λ n. (taken s.manager 1 n).1) is), idle_over s.manager i is, subst IsIdle (sym (step_manager s 1 Take refl ∙ (ap (λ d. d.0) takes ∙ ap (λ n. (taken s.manager 1 n).0) is))) i)
     by (Some name) is = inl (
       name,
-      step_answer s 1 Take refl ∙ (ap (λ d. d.1) takes ∙ ap (λ n. (taken s.manager 1 n).1) is),
+      step_answer s 1 Take refl refl ∙ (ap (λ d. d.1) takes ∙ ap (λ n. (taken s.manager 1 n).1) is),
       record {
         single = step_single s 1 Take there refl (idle_single s.manager i);
-        job = ap (λ (m : JobManager). job_of m.passes 1) (step_manager s 1 Take ∙ (ap (λ d. d.0) takes ∙ ap (λ n. (taken s.manager 1 n).0) is)) ∙ job_given s.manager.passes.there name there;
+        job = ap (λ (m : JobManager). job_of m.passes 1) (step_manager s 1 Take refl ∙ (ap (λ d. d.0) takes ∙ ap (λ n. (taken s.manager 1 n).0) is)) ∙ job_given s.manager.passes.there name there;
+        services = step_services s 1 Take refl ∙ i.services;
       },
     )
 
@@ -171,6 +181,7 @@ effect_job m Batch c = batches_job m.passes (λ pass. rows.with_batches (pass.ba
 effect_job m EndBatch c = batches_job m.passes (λ pass. rows.with_batches (pass.batches - 1) pass) (λ _. refl)
 effect_job m Checkpoint c = refl
 effect_job m (Operation op) c = refl
+effect_job m (Service x) c = absurd c
 
 plain_command : (e : Event) → IsCommand e → IsPlain 1 e
 plain_command Enter c = c
@@ -189,12 +200,14 @@ plain_command Batch c = refl
 plain_command EndBatch c = refl
 plain_command Checkpoint c = tt
 plain_command (Operation op) c = tt
+plain_command (Service x) c = absurd c
 
 -- a command leaves the pass its job
 pub command_keeps : (s : Moment) (e : Event) (name : List ℕ) → IsCommand e → IsBusy name s.manager → IsBusy name (step s 1 e).0.manager
 command_keeps s e name c b = record {
   single = step_single s 1 e (is_there s.manager name b.job) (plain_command e c) b.single;
-  job = ap (λ (m : JobManager). job_of m.passes 1) (step_manager s 1 e) ∙ (by (refusal s.manager 1 e) ∙ b.job);
+  job = ap (λ (m : JobManager). job_of m.passes 1) (step_manager s 1 e (command_plain e c)) ∙ (by (refusal s.manager 1 e) ∙ b.job);
+  services = step_services s 1 e (command_plain e c) ∙ b.services;
 }
   where
     by : (r : Option Refusal) → job_of (decided r s.manager 1 e).0.passes 1 ≡ job_of s.manager.passes 1
@@ -203,10 +216,11 @@ command_keeps s e name c b = record {
 
 -- Finish leaves it nothing
 pub finish_idles : (s : Moment) (name : List ℕ) → IsBusy name s.manager → IsIdle (step s 1 Finish).0.manager
-finish_idles s name b = subst IsIdle (sym (step_manager s 1 Finish ∙ ap (λ r. (decided r s.manager 1 Finish).0) none)) (record {
+finish_idles s name b = subst IsIdle (sym (step_manager s 1 Finish refl ∙ ap (λ r. (decided r s.manager 1 Finish).0) none)) (record {
   rules = none_without s.manager.passes.rules b.single.held;
   there = table_put s.manager.passes.there (λ _. idle) (get s.manager.passes.there 1) refl ∙ made (get s.manager.passes.there 1) (is_there s.manager name b.job);
   runs = λ other is. finished_single s.manager (job_of s.manager.passes 1) refl (ap is_none b.job) b.single other is;
+  services = b.services;
 })
   where
     none : refusal s.manager 1 Finish ≡ None
@@ -219,15 +233,15 @@ finish_idles s name b = subst IsIdle (sym (step_manager s 1 Finish ∙ ap (λ r.
 -- ---- pass 0 between parts
 
 pub schedule_keeps : (s : Moment) (k : ℕ) (name : List ℕ) (priority : ℕ) (rule : List WsAtom) (asleep : Bool) → IsIdle s.manager → IsIdle (step s k (Schedule name priority rule asleep)).0.manager
-schedule_keeps s k name priority rule asleep i = subst IsIdle (sym (step_manager s k (Schedule name priority rule asleep))) (by (refusal s.manager k (Schedule name priority rule asleep)))
+schedule_keeps s k name priority rule asleep i = subst IsIdle (sym (step_manager s k (Schedule name priority rule asleep) refl)) (by (refusal s.manager k (Schedule name priority rule asleep)))
   where
     by : (r : Option Refusal) → IsIdle (decided r s.manager k (Schedule name priority rule asleep)).0
-    by None = record { rules = i.rules; there = i.there; runs = λ other is. i.runs other (put_runs s.manager.jobs.jobs name other _ (first_other asleep) is) }
+    by None = record { rules = i.rules; there = i.there; runs = λ other is. i.runs other (put_runs s.manager.jobs.jobs name other _ (first_other asleep) is); services = i.services }
     by (Some r) = i
 
 pub cancel_keeps : (s : Moment) (k : ℕ) (name : List ℕ) → IsIdle s.manager → IsIdle (step s k (Cancel name)).0.manager
-cancel_keeps s k name i = subst IsIdle (sym (step_manager s k (Cancel name))) (by (refusal s.manager k (Cancel name)))
+cancel_keeps s k name i = subst IsIdle (sym (step_manager s k (Cancel name) refl)) (by (refusal s.manager k (Cancel name)))
   where
     by : (r : Option Refusal) → IsIdle (decided r s.manager k (Cancel name)).0
-    by None = record { rules = i.rules; there = i.there; runs = λ other is. i.runs other (changed_runs s.manager.jobs.jobs name other over (λ _. over_other) is).0 }
+    by None = record { rules = i.rules; there = i.there; runs = λ other is. i.runs other (changed_runs s.manager.jobs.jobs name other over (λ _. over_other) is).0; services = i.services }
     by (Some r) = i

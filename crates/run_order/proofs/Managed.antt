@@ -1,33 +1,24 @@
 -- What a step leaves of the jobs and passes, and what it answers of them.
-use Rattle.std.proofs.Common.{◌≡◌, ◌⊎◌, inl, inr, ℕ, Bool, true, false, refl, sym, ap, ◌∙◌, subst}
+use Rattle.std.proofs.Common.{◌≡◌, ◌⊎◌, inl, inr, ℕ, Bool, true, false, List, refl, sym, ap, ◌∙◌, subst}
 use Rattle.std.specs.Prelude.{Option, Some, None}
 use Rattle.job_queue.proofs.Found.{same_Some}
 use Rattle.op_kind.specs.declared.op.Op.{Op}
 use Rattle.op_kind.specs.Effects as ops
 use Rattle.core_event.specs.declared.event.Event.{Event}
-use Rattle.core_event.specs.declared.event.Event.TheVariants.{Enter, Leave, Schedule, Sleep, Wake, Cancel, Take, Finish, Begin, TryBegin, End, Transfer, Batch, EndBatch, Checkpoint, Operation}
+use Rattle.core_event.specs.declared.event.Event.TheVariants.{Enter, Leave, Schedule, Sleep, Wake, Cancel, Take, Finish, Begin, TryBegin, End, Transfer, Batch, EndBatch, Checkpoint, Operation, Service}
 use Rattle.core_event.specs.declared.reply.Answer.{Answer}
 use Rattle.core_event.specs.declared.reply.Answer.TheVariants.{Refused}
 use Rattle.core_event.specs.declared.reply.Refusal.{Refusal}
 use Rattle.core_event.specs.Replies.{answered}
-use Rattle.core_event.specs.Events.{operation_of}
+use Rattle.core_event.specs.Events.{operation_of, service_of}
+use Rattle.job_manager.specs.declared.manager.JobManager.{JobManager}
 use Rattle.job_manager.specs.Refusals as managers
 use Rattle.job_manager.specs.Effects as managing
 use Rattle.ws_core.specs.States.{Moment}
-use Rattle.ws_core.specs.Refusals.{refusal, refusal_by}
-use Rattle.ws_core.specs.Effects.{effect_by, managed}
+use Rattle.ws_core.specs.Refusals.{refusal}
 use Rattle.ws_core.specs.Steps.{acted, act, told, tells, step}
-
-act_managed : (s : Moment) (k : ℕ) (e : Event) → operation_of e ≡ None → act s k e ≡ managed s (managing.outcome s.manager k e)
-act_managed s k e none = ap (λ o. acted (refusal_by o s k e) s k e) none ∙ by (managers.refusal s.manager k e)
-  where
-    by : (r : Option Refusal) → acted r s k e ≡ managed s (managing.decided r s.manager k e)
-    by None = ap (λ o. effect_by o s k e) none
-    by (Some r) = refl
-
-operation_manager : (s : Moment) (k : ℕ) (op : Op) (r : Option Refusal) → (acted r s k (Operation op)).0.manager ≡ s.manager
-operation_manager s k op None = refl
-operation_manager s k op (Some r) = refl
+use Rattle.ws_core.proofs.Roomy.{service_manager, serving, step_manager}
+use Rattle.ws_core.proofs.Stepped.{Concern, OfOperation, OfService, OfManager, concern_of, act_managed}
 
 pub only_operation : (e : Event) (op : Op) → operation_of e ≡ Some op → e ≡ Operation op
 only_operation (Operation op) other is = ap Operation (same_Some op other is)
@@ -46,27 +37,60 @@ only_operation (Transfer to) op is = cc
 only_operation Batch op is = cc
 only_operation EndBatch op is = cc
 only_operation Checkpoint op is = cc
+only_operation (Service x) op is = cc
 
-act_manager : (s : Moment) (k : ℕ) (e : Event) → (act s k e).0.manager ≡ (managing.outcome s.manager k e).0
-act_manager s k e = by (operation_of e) refl
+-- what a step leaves of the jobs and passes, but for who has the services
+pub step_serving : (s : Moment) (k : ℕ) (e : Event) → (services : Option ℕ) × ((step s k e).0.manager ≡ serving (managing.outcome s.manager k e).0 services)
+step_serving s k e = by (concern_of e)
   where
-    by : (o : Option Op) → operation_of e ≡ o → (act s k e).0.manager ≡ (managing.outcome s.manager k e).0
-    by None none = ap (λ (d : Moment × Answer). d.0.manager) (act_managed s k e none)
-    by (Some op) is = subst (λ x. (act s k x).0.manager ≡ (managing.outcome s.manager k x).0) (sym (only_operation e op is)) (operation_manager s k op (refusal s k (Operation op)))
+    Is : Event → Type 0
+    Is x = (services : Option ℕ) × ((step s k x).0.manager ≡ serving (managing.outcome s.manager k x).0 services)
 
-told_manager : (b : Bool) (s : Moment) (a : Answer) → (told b s a).0.manager ≡ s.manager
-told_manager true s a = refl
-told_manager false s a = refl
+    plainly : service_of e ≡ None → Is e
+    plainly plain = ((managing.outcome s.manager k e).0.passes.services, step_manager s k e plain)
 
-pub step_manager : (s : Moment) (k : ℕ) (e : Event) → (step s k e).0.manager ≡ (managing.outcome s.manager k e).0
-step_manager s k e = told_manager (tells e (act s k e).0) (act s k e).0 (act s k e).1 ∙ act_manager s k e
+    by : Concern e → Is e
+    by (OfOperation op is) = plainly (ap service_of is)
+    by (OfService x is) = subst Is (sym is) (service_manager s k x)
+    by (OfManager none plain) = plainly plain
 
-told_answer : (b : Bool) (s : Moment) (a : Answer) → (told b s a).1.answer ≡ a
+pub told_answer : (b : Bool) (s : Moment) (a : Answer) → (told b s a).1.answer ≡ a
 told_answer true s a = refl
 told_answer false s a = refl
 
-pub step_answer : (s : Moment) (k : ℕ) (e : Event) → operation_of e ≡ None → (step s k e).1.answer ≡ (managing.outcome s.manager k e).1
-step_answer s k e none = told_answer (tells e (act s k e).0) (act s k e).0 (act s k e).1 ∙ ap (λ (d : Moment × Answer). d.1) (act_managed s k e none)
+pub step_answer : (s : Moment) (k : ℕ) (e : Event) → operation_of e ≡ None → service_of e ≡ None → (step s k e).1.answer ≡ (managing.outcome s.manager k e).1
+step_answer s k e none plain = told_answer (tells e (act s k e).0) (act s k e).0 (act s k e).1 ∙ ap (λ (d : Moment × Answer). d.1) (act_managed s k e none plain)
+
+-- only what concerns the services changes who has them
+effect_services : (m : JobManager) (k : ℕ) (e : Event) → (managing.effect m k e).0.passes.services ≡ m.passes.services
+effect_services m k Enter = refl
+effect_services m k Leave = refl
+effect_services m k (Schedule name priority rule asleep) = refl
+effect_services m k (Sleep name) = refl
+effect_services m k (Wake name) = refl
+effect_services m k (Cancel name) = refl
+effect_services m k Take = by (managing.next_job m)
+  where
+    by : (o : Option (List ℕ)) → (managing.taken m k o).0.passes.services ≡ m.passes.services
+    by None = refl
+    by (Some name) = refl
+effect_services m k Finish = refl
+effect_services m k (Begin rule) = refl
+effect_services m k (TryBegin rule) = refl
+effect_services m k (End rule) = refl
+effect_services m k (Transfer to) = refl
+effect_services m k Batch = refl
+effect_services m k EndBatch = refl
+effect_services m k Checkpoint = refl
+effect_services m k (Operation op) = refl
+effect_services m k (Service x) = refl
+
+pub step_services : (s : Moment) (k : ℕ) (e : Event) → service_of e ≡ None → (step s k e).0.manager.passes.services ≡ s.manager.passes.services
+step_services s k e plain = ap (λ (m : JobManager). m.passes.services) (step_manager s k e plain) ∙ by (managers.refusal s.manager k e)
+  where
+    by : (r : Option Refusal) → (managing.decided r s.manager k e).0.passes.services ≡ s.manager.passes.services
+    by None = effect_services s.manager k e
+    by (Some r) = refl
 
 -- an operation is refused, or answered as operations are
 pub operation_answer : (s : Moment) (k : ℕ) (op : Op) → ((r : Refusal) × (refusal s k (Operation op) ≡ Some r) × ((step s k (Operation op)).1.answer ≡ Refused r)) ⊎ ((step s k (Operation op)).1.answer ≡ answered (ops.effect s.resources op).1)

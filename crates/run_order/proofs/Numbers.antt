@@ -11,7 +11,7 @@ use Rattle.pass_table.specs.declared.pass.Pass.{Pass}
 use Rattle.pass_table.specs.Passes.{Table, idle}
 use Rattle.core_event.specs.declared.entry.Entry.{Entry}
 use Rattle.core_event.specs.declared.event.Event.{Event}
-use Rattle.core_event.specs.declared.event.Event.TheVariants.{Enter, Leave, Schedule, Sleep, Wake, Cancel, Take, Finish, Begin, TryBegin, End, Transfer, Batch, EndBatch, Checkpoint, Operation}
+use Rattle.core_event.specs.declared.event.Event.TheVariants.{Enter, Leave, Schedule, Sleep, Wake, Cancel, Take, Finish, Begin, TryBegin, End, Transfer, Batch, EndBatch, Checkpoint, Operation, Service}
 use Rattle.core_event.specs.declared.reply.Refusal.{Refusal}
 use Rattle.job_manager.specs.declared.manager.JobManager.{JobManager}
 use Rattle.job_manager.specs.Refusals.{refusal}
@@ -19,7 +19,7 @@ use Rattle.job_manager.specs.Effects.{effect, taken, next_job, decided}
 use Rattle.ws_core.specs.States.{Moment}
 use Rattle.ws_core.specs.Steps.{step}
 use Rattle.ws_core.specs.Histories.{after, has_entered, entered}
-use Rattle.run_order.proofs.Managed.{step_manager}
+use Rattle.run_order.proofs.Managed.{step_serving}
 use Rattle.run_order.specs.Lists.{own, Cut, InTurn}
 use Rattle.run_order.specs.Fronts.{lets_in, enters}
 use Rattle.run_order.proofs.Lists.{own_yes, own_no}
@@ -83,6 +83,7 @@ effect_below m k Batch b = changed_below m.passes.there k m.passes.next _ b
 effect_below m k EndBatch b = changed_below m.passes.there k m.passes.next _ b
 effect_below m k Checkpoint b = b
 effect_below m k (Operation op) b = b
+effect_below m k (Service x) b = b
 
 effect_next : (m : JobManager) (k : ℕ) (e : Event) → (effect m k e).0.passes.next ≡ m.passes.next + lets_in e
 effect_next m k Enter = refl
@@ -105,6 +106,7 @@ effect_next m k Batch = omega arith
 effect_next m k EndBatch = omega arith
 effect_next m k Checkpoint = omega arith
 effect_next m k (Operation op) = omega arith
+effect_next m k (Service x) = omega arith
 
 refused_none : (m : JobManager) (k : ℕ) (e : Event) (r : Refusal) → refusal m k e ≡ Some r → lets_in e ≡ 0
 refused_none m k Enter r h = cc
@@ -123,16 +125,17 @@ refused_none m k Batch r h = refl
 refused_none m k EndBatch r h = refl
 refused_none m k Checkpoint r h = refl
 refused_none m k (Operation op) r h = refl
+refused_none m k (Service x) r h = refl
 
 step_below : (s : Moment) (k : ℕ) (e : Event) → IsBelow s.manager → IsBelow (step s k e).0.manager
-step_below s k e b = subst IsBelow (sym (step_manager s k e)) (by (refusal s.manager k e))
+step_below s k e b = subst IsBelow (sym (step_serving s k e).1) (by (refusal s.manager k e))
   where
     by : (r : Option Refusal) → IsBelow (decided r s.manager k e).0
     by None = effect_below s.manager k e b
     by (Some r) = b
 
 step_next : (s : Moment) (k : ℕ) (e : Event) → (step s k e).0.manager.passes.next ≡ s.manager.passes.next + lets_in e
-step_next s k e = ap (λ (m : JobManager). m.passes.next) (step_manager s k e) ∙ by (refusal s.manager k e) refl
+step_next s k e = ap (λ (m : JobManager). m.passes.next) (step_serving s k e).1 ∙ by (refusal s.manager k e) refl
   where
     by : (r : Option Refusal) → refusal s.manager k e ≡ r → (decided r s.manager k e).0.passes.next ≡ s.manager.passes.next + lets_in e
     by None h = effect_next s.manager k e

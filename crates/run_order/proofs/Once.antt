@@ -31,7 +31,7 @@ use Rattle.run_order.specs.Orders.{scheduled, cancelled, is_asleep, sleeps, slee
 use Rattle.run_order.specs.Counts.{one_if, schedules_in, schedules_of, takes_of, still, pending, named}
 use Rattle.run_order.proofs.Lists.{own_yes}
 use Rattle.run_order.proofs.Taken.{put_same, step_pending, taken_at_most}
-use Rattle.run_order.proofs.Managed.{step_manager}
+use Rattle.ws_core.proofs.Roomy.{step_manager}
 
 schedules_append : (name : List ℕ) (a b : List Entry) → schedules_of name (a ++ b) ≡ schedules_of name a + schedules_of name b
 schedules_append name [] b = omega arith
@@ -157,7 +157,7 @@ asleep_or_none s name over_all = by (get s.manager.jobs.jobs name) refl
 
 -- a job that is cancelled may not be taken any more
 cancel_clears : (s : Moment) (k : ℕ) (name : List ℕ) → pending name (step s k (Cancel name)).0 ≡ 0
-cancel_clears s k name = ap (λ (m : JobManager). still (state_of m.jobs name)) (step_manager s k (Cancel name)) ∙ by (refusal s.manager k (Cancel name)) refl
+cancel_clears s k name = ap (λ (m : JobManager). still (state_of m.jobs name)) (step_manager s k (Cancel name) refl) ∙ by (refusal s.manager k (Cancel name)) refl
   where
     cleared : (o : Option (Job WsAtom)) → still (option_map (λ (job : Job WsAtom). job.state) (option_map over o)) ≡ 0
     cleared None = refl

@@ -17,22 +17,24 @@ use Rattle.job_queue.specs.Queues as queue
 use Rattle.job_queue.proofs.Named.{name_cmp_total, name_cmp_exact}
 use Rattle.job_queue.proofs.Found.{differ, itself, same_key, same_Some, not_Some}
 use Rattle.pass_table.specs.declared.pass.Pass.{Pass}
-use Rattle.pass_table.specs.Passes.{Passes, Table, has_pass, job_of, job_in, batches_of, is_busy}
+use Rattle.pass_table.specs.Passes.{Passes, Table, has_pass, job_of, job_in, batches_of, is_busy, serves}
 use Rattle.pass_table.specs.Rows as rows
+use Rattle.pass_table.proofs.Kept.{neither}
 use Rattle.proj_desc.specs.FirstCause.{when}
 use Rattle.core_event.specs.declared.event.Event.{Event}
-use Rattle.core_event.specs.declared.event.Event.TheVariants.{Enter, Leave, Schedule, Sleep, Wake, Cancel, Take, Finish, Begin, TryBegin, End, Transfer, Batch, EndBatch, Checkpoint, Operation}
+use Rattle.core_event.specs.declared.event.Event.TheVariants.{Enter, Leave, Schedule, Sleep, Wake, Cancel, Take, Finish, Begin, TryBegin, End, Transfer, Batch, EndBatch, Checkpoint, Operation, Service}
 use Rattle.core_event.specs.declared.reply.Refusal.{Refusal}
 use Rattle.core_event.specs.declared.reply.Refusal.TheVariants as refusals
 use Rattle.job_manager.specs.declared.manager.JobManager.{JobManager}
 use Rattle.job_manager.specs.Refusals.{refusal}
-use Rattle.job_manager.specs.Effects.{effect, taken, job_done, next_job, decided, rule_of}
+use Rattle.job_manager.specs.Effects.{effect, taken, job_done, next_job, decided, outcome, rule_of}
 use Rattle.ws_core.specs.States.{Moment}
 use Rattle.ws_core.specs.Steps.{step}
 use Rattle.ws_core.specs.Histories.{has_entered}
 use Rattle.run_order.specs.Plans.{is_name}
 use Rattle.run_order.specs.Alone.{AllOfOne, IsSingle, IsPlain}
-use Rattle.run_order.proofs.Managed.{step_manager}
+use Rattle.ws_core.proofs.Roomy.{serving}
+use Rattle.run_order.proofs.Managed.{step_serving}
 use Rattle.run_order.proofs.Taken.{put_other, put_same}
 
 -- ---- rules of one pass
@@ -123,7 +125,9 @@ no_job (Some name) h = cc
 
 -- a pass that may take a job has none
 free_of_jobs : (m : JobManager) (k : ℕ) → refusal m k Take ≡ None → job_of m.passes k ≡ None
-free_of_jobs m k r = no_job (job_of m.passes k) (either (is_some (last_rule k m.passes.rules)) (is_some (job_of m.passes k)) (not (batches_of m.passes k == 0)) (unless (is_busy m.passes k) refusals.PassBusy r))
+free_of_jobs m k r =
+    no_job (job_of m.passes k) (either (is_some (last_rule k m.passes.rules)) (is_some (job_of m.passes k)) (not (batches_of m.passes k == 0))
+    (neither (is_some (last_rule k m.passes.rules) || is_some (job_of m.passes k) || not (batches_of m.passes k == 0)) (serves m.passes k) (unless (is_busy m.passes k) refusals.PassBusy r)))
 
 pub first_other : (asleep : Bool) → queue.first_state asleep ≢ states.Running
 first_other true h = cc
@@ -179,11 +183,17 @@ effect_single m k Batch there plain r s = subst (λ j. IsSingle (effect m j Batc
 effect_single m k EndBatch there plain r s = subst (λ j. IsSingle (effect m j EndBatch).0) (sym plain) (record { held = s.held; runs = λ name is. batches_job m.passes (λ pass. rows.with_batches (pass.batches - 1) pass) (λ _. refl) ∙ s.runs name is })
 effect_single m k Checkpoint there plain r s = s
 effect_single m k (Operation op) there plain r s = s
+effect_single m k (Service x) there plain r s = s
 
 -- what holds is kept by what pass 0 does between parts, and by what pass 1 does in its own
 pub step_single : (s : Moment) (k : ℕ) (e : Event) → has_entered k s ≡ true → IsPlain k e → IsSingle s.manager → IsSingle (step s k e).0.manager
-step_single s k e there plain single = subst IsSingle (sym (step_manager s k e)) (by (refusal s.manager k e) refl)
+step_single s k e there plain single =
+    let now = step_serving s k e in
+    subst IsSingle (sym now.1) (served (outcome s.manager k e).0 now.0 (by (refusal s.manager k e) refl))
   where
+    served : (m : JobManager) (services : Option ℕ) → IsSingle m → IsSingle (serving m services)
+    served m services x = record { held = x.held; runs = x.runs }
+
     by : (r : Option Refusal) → refusal s.manager k e ≡ r → IsSingle (decided r s.manager k e).0
     by None is = effect_single s.manager k e there plain is single
     by (Some r) is = single

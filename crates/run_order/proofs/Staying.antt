@@ -10,7 +10,7 @@ use Rattle.job_queue.proofs.Found.{same_key}
 use Rattle.pass_table.specs.declared.pass.Pass.{Pass}
 use Rattle.pass_table.specs.Passes.{Table, has_pass, idle}
 use Rattle.core_event.specs.declared.event.Event.{Event}
-use Rattle.core_event.specs.declared.event.Event.TheVariants.{Enter, Leave, Schedule, Sleep, Wake, Cancel, Take, Finish, Begin, TryBegin, End, Transfer, Batch, EndBatch, Checkpoint, Operation}
+use Rattle.core_event.specs.declared.event.Event.TheVariants.{Enter, Leave, Schedule, Sleep, Wake, Cancel, Take, Finish, Begin, TryBegin, End, Transfer, Batch, EndBatch, Checkpoint, Operation, Service}
 use Rattle.core_event.specs.declared.reply.Refusal.{Refusal}
 use Rattle.job_manager.specs.declared.manager.JobManager.{JobManager}
 use Rattle.job_manager.specs.Refusals.{refusal}
@@ -18,7 +18,7 @@ use Rattle.job_manager.specs.Effects.{effect, taken, next_job, decided}
 use Rattle.ws_core.specs.States.{Moment}
 use Rattle.ws_core.specs.Steps.{step}
 use Rattle.ws_core.specs.Histories.{has_entered}
-use Rattle.run_order.proofs.Managed.{step_manager}
+use Rattle.run_order.proofs.Managed.{step_serving}
 
 put_stays : (t : Table) (n j : ℕ) (pass : Pass) → contains_key t j ≡ true → contains_key (insert t n pass) j ≡ true
 put_stays t n j pass there = ap is_some (get-insert nat_cmp_total t n pass j) ∙ by (eq_by_cmp nat_cmp j n)
@@ -62,10 +62,11 @@ effect_stays m k Batch j other there = changed_stays m.passes.there k j _ there
 effect_stays m k EndBatch j other there = changed_stays m.passes.there k j _ there
 effect_stays m k Checkpoint j other there = there
 effect_stays m k (Operation op) j other there = there
+effect_stays m k (Service x) j other there = there
 
 -- a pass that has entered is there still after any event, but for its own Leave
 pub step_stays : (s : Moment) (k : ℕ) (e : Event) (j : ℕ) → (e ≡ Leave → k ≢ j) → has_entered j s ≡ true → has_entered j (step s k e).0 ≡ true
-step_stays s k e j other there = ap (λ (m : JobManager). has_pass m.passes j) (step_manager s k e) ∙ by (refusal s.manager k e)
+step_stays s k e j other there = ap (λ (m : JobManager). has_pass m.passes j) (step_serving s k e).1 ∙ by (refusal s.manager k e)
   where
     by : (r : Option Refusal) → has_pass (decided r s.manager k e).0.passes j ≡ true
     by None = effect_stays s.manager k e j other there

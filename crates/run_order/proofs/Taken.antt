@@ -24,20 +24,27 @@ use Rattle.op_kind.specs.declared.op.Op.{Op}
 use Rattle.op_kind.specs.Effects as ops
 use Rattle.core_event.specs.declared.entry.Entry.{Entry}
 use Rattle.core_event.specs.declared.event.Event.{Event}
-use Rattle.core_event.specs.declared.event.Event.TheVariants.{Enter, Leave, Schedule, Sleep, Wake, Cancel, Take, Finish, Begin, TryBegin, End, Transfer, Batch, EndBatch, Checkpoint, Operation}
+use Rattle.core_event.specs.declared.event.Event.TheVariants.{Enter, Leave, Schedule, Sleep, Wake, Cancel, Take, Finish, Begin, TryBegin, End, Transfer, Batch, EndBatch, Checkpoint, Operation, Service}
 use Rattle.core_event.specs.declared.reply.Refusal.{Refusal}
 use Rattle.core_event.specs.declared.reply.Reply.{Reply}
-use Rattle.core_event.specs.Events.{operation_of}
+use Rattle.core_event.specs.declared.service.Purpose.TheVariants.{Build}
+use Rattle.core_event.specs.declared.service.ServiceEvent.{ServiceEvent}
+use Rattle.core_event.specs.declared.service.ServiceEvent.TheVariants.{Checkout, CheckIn, Handed, Commit, Clean}
 use Rattle.core_event.specs.Replies.{answered}
 use Rattle.job_manager.specs.declared.manager.JobManager.{JobManager}
 use Rattle.job_manager.specs.Refusals.{refusal, by_job}
 use Rattle.job_manager.specs.Effects.{effect, taken, job_done, next_job, decided, outcome}
 use Rattle.ws_core.specs.States.{Moment}
-use Rattle.ws_core.specs.Steps.{step}
+use Rattle.build_due.specs.declared.site.Site.{Site}
+use Rattle.service_desk.specs.Sites.{site_in}
+use Rattle.ws_core.specs.Refusals as core
+use Rattle.ws_core.specs.Effects.{clean_for, commit_for, hand, serve}
+use Rattle.ws_core.specs.Steps.{acted, act, tells, step}
 use Rattle.ws_core.specs.Histories.{after, replay, replies}
 use Rattle.run_order.specs.Plans.{is_name}
 use Rattle.run_order.specs.Counts.{one_if, scheduling, schedules_in, schedules_of, giving, taken_in, takes_of, still, pending, left}
-use Rattle.run_order.proofs.Managed.{step_manager, step_answer, operation_answer, only_operation}
+use Rattle.run_order.proofs.Managed.{step_serving, step_answer, told_answer, operation_answer}
+use Rattle.ws_core.proofs.Stepped.{Concern, OfOperation, OfService, OfManager, concern_of}
 
 -- ---- one job whose state changes
 
@@ -162,6 +169,34 @@ operation_none count s k op = elim (operation_answer s k op) [
   | inr done ↦ ap (giving count) done ∙ answered_none count (ops.effect s.resources op).1
 ]
 
+-- nothing that concerns the services gives a job
+service_none : (count : List ℕ → ℕ) (s : Moment) (k : ℕ) (x : ServiceEvent) → giving count (step s k (Service x)).1.answer ≡ 0
+service_none count s k x =
+    ap (giving count) (told_answer (tells (Service x) (act s k (Service x)).0) (act s k (Service x)).0 (act s k (Service x)).1) ∙ by (core.refusal s k (Service x))
+  where
+    served : (v : ServiceEvent) → giving count (serve s k v).1 ≡ 0
+    served (Checkout (Build kind scope)) = refl
+    served (CheckIn outcome) = refl
+    served (Handed project index kind) = of (site_in s.resources.tree project index)
+      where
+        of : (o : Option Site) → giving count (hand s o kind).1 ≡ 0
+        of nothing = refl
+        of (Some site) = refl
+    served (Commit edits) = of (core.current s)
+      where
+        of : (o : Option Site) → giving count (commit_for s o edits).1 ≡ 0
+        of nothing = refl
+        of (Some site) = refl
+    served (Clean project index) = of (site_in s.resources.tree project index)
+      where
+        of : (o : Option Site) → giving count (clean_for s o).1 ≡ 0
+        of nothing = refl
+        of (Some site) = refl
+
+    by : (r : Option Refusal) → giving count (acted r s k (Service x)).1 ≡ 0
+    by nothing = served x
+    by (Some r) = refl
+
 -- a number told of jobs, in which one that may still be taken counts what its name counts, and no other does
 record IsCount (many : Jobs WsAtom → ℕ) (count : List ℕ → ℕ) : Type 0 where
   change : (m : Jobs WsAtom) (n : List ℕ) (f : Job WsAtom → Job WsAtom) (c : Bool) → ((job : Job WsAtom) → get m n ≡ Some job → still (Some (f job).state) + one_if c ≤ still (Some job.state))
@@ -213,6 +248,7 @@ module _ (many : Jobs WsAtom → ℕ) (count : List ℕ → ℕ) (is : IsCount m
   effect_many m k EndBatch r = omega arith
   effect_many m k Checkpoint r = omega arith
   effect_many m k (Operation op) r = omega arith
+  effect_many m k (Service x) r = omega arith
 
   outcome_many : (m : JobManager) (k : ℕ) (e : Event) → many (outcome m k e).0.jobs.jobs + giving count (outcome m k e).1 ≤ many m.jobs.jobs + scheduling count e
   outcome_many m k e = by (refusal m k e) refl
@@ -222,17 +258,18 @@ module _ (many : Jobs WsAtom → ℕ) (count : List ℕ → ℕ) (is : IsCount m
       by (Some r) h = omega arith
 
   step_many : (s : Moment) (k : ℕ) (e : Event) → many (step s k e).0.manager.jobs.jobs + giving count (step s k e).1.answer ≤ many s.manager.jobs.jobs + scheduling count e
-  step_many s k e = by (operation_of e) refl
+  step_many s k e = by (concern_of e)
     where
       out : many (outcome s.manager k e).0.jobs.jobs + giving count (outcome s.manager k e).1 ≤ many s.manager.jobs.jobs + scheduling count e
       out = outcome_many s.manager k e
 
       same : many (step s k e).0.manager.jobs.jobs ≡ many (outcome s.manager k e).0.jobs.jobs
-      same = ap (λ (m : JobManager). many m.jobs.jobs) (step_manager s k e)
+      same = ap (λ (m : JobManager). many m.jobs.jobs) (step_serving s k e).1
 
-      by : (o : Option Op) → operation_of e ≡ o → many (step s k e).0.manager.jobs.jobs + giving count (step s k e).1.answer ≤ many s.manager.jobs.jobs + scheduling count e
-      by nothing none = let answer = ap (giving count) (step_answer s k e none) in omega (arith, out, same, answer)
-      by (Some op) at = let none = subst (λ x. giving count (step s k x).1.answer ≡ 0) (sym (only_operation e op at)) (operation_none count s k op) in omega (arith, out, same, none)
+      by : Concern e → many (step s k e).0.manager.jobs.jobs + giving count (step s k e).1.answer ≤ many s.manager.jobs.jobs + scheduling count e
+      by (OfManager none plain) = let answer = ap (giving count) (step_answer s k e none plain) in omega (arith, out, same, answer)
+      by (OfOperation op at) = let none = subst (λ x. giving count (step s k x).1.answer ≡ 0) (sym at) (operation_none count s k op) in omega (arith, out, same, none)
+      by (OfService x at) = let none = subst (λ x. giving count (step s k x).1.answer ≡ 0) (sym at) (service_none count s k x) in omega (arith, out, same, none)
 
 -- what one event takes and leaves was there before, or is scheduled
 pub step_pending : (name : List ℕ) (s : Moment) (k : ℕ) (e : Event) → pending name (step s k e).0 + taken_in name (step s k e).1.answer ≤ pending name s + schedules_in name e

@@ -23,10 +23,10 @@ use Rattle.op_kind.specs.Refusals as op_refusals
 use Rattle.op_kind.specs.declared.refusal.OpRefusal.{OpRefusal}
 use Rattle.op_rule.specs.Rules.{operation_rule}
 use Rattle.core_event.specs.declared.event.Event.{Event}
-use Rattle.core_event.specs.declared.event.Event.TheVariants.{Enter, Leave, Schedule, Sleep, Wake, Cancel, Take, Finish, Begin, TryBegin, End, Transfer, Batch, EndBatch, Checkpoint, Operation}
+use Rattle.core_event.specs.declared.event.Event.TheVariants.{Enter, Leave, Schedule, Sleep, Wake, Cancel, Take, Finish, Begin, TryBegin, End, Transfer, Batch, EndBatch, Checkpoint, Operation, Service}
 use Rattle.core_event.specs.declared.reply.Refusal.{Refusal}
 use Rattle.core_event.specs.declared.reply.Refusal.TheVariants as refusals
-use Rattle.core_event.specs.Events.{operation_of, waits}
+use Rattle.core_event.specs.Events.{operation_of, service_of, waits}
 use Rattle.core_event.specs.Replies.{answered, is_attempt, is_conflict}
 use Rattle.job_manager.specs.declared.manager.JobManager.{JobManager}
 use Rattle.job_manager.specs.Admission.{admission, refused_under, conflict_with}
@@ -120,6 +120,7 @@ refused_alone m Batch r c o s h = cc
 refused_alone m EndBatch r c o s h = both_false (is_conflict r) true (when_refusal (batches_of m.passes 1 == 0) refusals.NoBatch r refl h)
 refused_alone m Checkpoint r c o s h = cc
 refused_alone m (Operation op) r c o s h = cc
+refused_alone m (Service x) r c o s h = absurd c
 
 done_alone : (m : JobManager) (e : Event) → IsCommand e → is_attempt e (effect m 1 e).1 ≡ false
 done_alone m Enter c = absurd c
@@ -138,6 +139,7 @@ done_alone m Batch c = refl
 done_alone m EndBatch c = refl
 done_alone m Checkpoint c = refl
 done_alone m (Operation op) c = refl
+done_alone m (Service x) c = absurd c
 
 -- ---- an event
 
@@ -158,6 +160,26 @@ operation_alone s op r single h = by (admission s.manager.passes.rules 1 (operat
     by None is g = own (op_refusals.refusal s.resources op) g
     by (Some cause) is g = admits_alone s.manager.passes.rules (operation_rule op) r single.held (is ∙ g)
 
+-- a command isn't one of the services
+pub command_plain : (e : Event) → IsCommand e → service_of e ≡ None
+command_plain Enter c = refl
+command_plain Leave c = refl
+command_plain (Schedule n p u a) c = refl
+command_plain (Sleep n) c = refl
+command_plain (Wake n) c = refl
+command_plain (Cancel n) c = refl
+command_plain Take c = refl
+command_plain Finish c = refl
+command_plain (Begin u) c = refl
+command_plain (TryBegin u) c = refl
+command_plain (End u) c = refl
+command_plain (Transfer to) c = refl
+command_plain Batch c = refl
+command_plain EndBatch c = refl
+command_plain Checkpoint c = refl
+command_plain (Operation op) c = refl
+command_plain (Service x) c = absurd c
+
 -- a command of pass 1 alone makes an entry
 pub never_tried : (s : Moment) (e : Event) → IsCommand e → IsSingle s.manager → only_tried (entry_of s 1 e) ≡ false
 never_tried s e c single = by (operation_of e) refl
@@ -173,5 +195,5 @@ never_tried s e c single = by (operation_of e) refl
     ]
 
     by : (o : Option Op) → operation_of e ≡ o → only_tried (entry_of s 1 e) ≡ false
-    by None none = ap (is_attempt e) (step_answer s 1 e none) ∙ managed none (refusal s.manager 1 e) refl
+    by None none = ap (is_attempt e) (step_answer s 1 e none (command_plain e c)) ∙ managed none (refusal s.manager 1 e) refl
     by (Some op) is = subst (λ x. only_tried (entry_of s 1 x) ≡ false) (sym (only_operation e op is)) (of op)

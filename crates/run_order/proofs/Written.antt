@@ -12,7 +12,7 @@ use Rattle.core_event.specs.declared.event.Event.TheVariants.{Enter, Leave, Sche
 use Rattle.core_event.specs.declared.reply.Answer.TheVariants as answers
 use Rattle.core_event.specs.declared.reply.Refusal.{Refusal}
 use Rattle.core_event.specs.declared.reply.Refusal.TheVariants as refusals
-use Rattle.core_event.specs.Events.{operation_of}
+use Rattle.core_event.specs.Events.{operation_of, service_of}
 use Rattle.core_event.specs.Replies.{is_attempt, is_conflict}
 use Rattle.job_manager.specs.Refusals.{refusal}
 use Rattle.job_manager.specs.Effects.{effect, decided}
@@ -35,31 +35,31 @@ written_none h x tried = ap (λ (b : Bool). if b then h else h ++ x ∷ []) trie
 
 -- ---- events that no rule of another pass may be in the way of
 
-never : (s : Moment) (k : ℕ) (e : Event) → operation_of e ≡ None → ((r : Refusal) → refusal s.manager k e ≡ Some r → is_conflict r ≡ false) → is_attempt e (effect s.manager k e).1 ≡ false → only_tried (entry_of s k e) ≡ false
-never s k e none refused done = ap (is_attempt e) (step_answer s k e none) ∙ by (refusal s.manager k e) refl
+never : (s : Moment) (k : ℕ) (e : Event) → operation_of e ≡ None → service_of e ≡ None → ((r : Refusal) → refusal s.manager k e ≡ Some r → is_conflict r ≡ false) → is_attempt e (effect s.manager k e).1 ≡ false → only_tried (entry_of s k e) ≡ false
+never s k e none plain refused done = ap (is_attempt e) (step_answer s k e none plain) ∙ by (refusal s.manager k e) refl
   where
     by : (r : Option Refusal) → refusal s.manager k e ≡ r → is_attempt e (decided r s.manager k e).1 ≡ false
     by None is = done
     by (Some r) is = both_false (is_conflict r) _ (refused r is)
 
 pub enter_tried : (s : Moment) (k : ℕ) → only_tried (entry_of s k Enter) ≡ false
-enter_tried s k = never s k Enter refl (λ r is. none r is) refl
+enter_tried s k = never s k Enter refl refl (λ r is. none r is) refl
   where
     none : (r : Refusal) → None ≡ Some r → is_conflict r ≡ false
     none r h = cc
 
 pub leave_tried : (s : Moment) (k : ℕ) → only_tried (entry_of s k Leave) ≡ false
-leave_tried s k = never s k Leave refl (λ r is. when_refusal (is_busy s.manager.passes k) refusals.PassBusy r refl is) refl
+leave_tried s k = never s k Leave refl refl (λ r is. when_refusal (is_busy s.manager.passes k) refusals.PassBusy r refl is) refl
 
 pub schedule_tried : (s : Moment) (k : ℕ) (name : List ℕ) (priority : ℕ) (rule : List WsAtom) (asleep : Bool) → only_tried (entry_of s k (Schedule name priority rule asleep)) ≡ false
 schedule_tried s k name priority rule asleep =
-    never s k (Schedule name priority rule asleep) refl (λ r is. job_refusal (queue.schedule_refusal s.manager.jobs.next_number (queue.state_of s.manager.jobs name)) r is) refl
+    never s k (Schedule name priority rule asleep) refl refl (λ r is. job_refusal (queue.schedule_refusal s.manager.jobs.next_number (queue.state_of s.manager.jobs name)) r is) refl
 
 pub cancel_tried : (s : Moment) (k : ℕ) (name : List ℕ) → only_tried (entry_of s k (Cancel name)) ≡ false
-cancel_tried s k name = never s k (Cancel name) refl (λ r is. job_refusal (queue.refusal may_be_cancelled (queue.state_of s.manager.jobs name)) r is) refl
+cancel_tried s k name = never s k (Cancel name) refl refl (λ r is. job_refusal (queue.refusal may_be_cancelled (queue.state_of s.manager.jobs name)) r is) refl
 
 pub finish_tried : (s : Moment) (k : ℕ) → only_tried (entry_of s k Finish) ≡ false
-finish_tried s k = never s k Finish refl (λ r is. when_refusal (is_none (job_of s.manager.passes k)) (refusals.WrongState states.None) r refl is) refl
+finish_tried s k = never s k Finish refl refl (λ r is. when_refusal (is_none (job_of s.manager.passes k)) (refusals.WrongState states.None) r refl is) refl
 
 -- Take is an entry where it gives a job, and none where it gives none
 pub taken_tried : (s : Moment) (k : ℕ) (name : List ℕ) → (step s k Take).1.answer ≡ answers.Job name → only_tried (entry_of s k Take) ≡ false

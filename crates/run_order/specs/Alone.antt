@@ -1,5 +1,5 @@
 -- One worker alone: what holds of the jobs and passes between its parts and in them.
-use Rattle.std.specs.Prelude.{◌≡◌, ◌≢◌, ℕ, List, [], Some}
+use Rattle.std.specs.Prelude.{◌≡◌, ◌≢◌, ℕ, List, [], Some, None}
 use Rattle.std.specs.List.{AllByRecursion}
 use Rattle.std.specs.FinMap.{get}
 use Rattle.sched_rules.specs.declared.ws_atom.WsAtom.{WsAtom}
@@ -8,7 +8,7 @@ use Rattle.job_queue.specs.declared.state.JobState.TheVariants as states
 use Rattle.job_queue.specs.Queues.{state_of}
 use Rattle.pass_table.specs.Passes.{job_of, idle}
 use Rattle.core_event.specs.declared.event.Event.{Event}
-use Rattle.core_event.specs.declared.event.Event.TheVariants.{Enter, Leave, Take, Finish, Begin, TryBegin, End, Transfer, Batch, EndBatch}
+use Rattle.core_event.specs.declared.event.Event.TheVariants.{Enter, Leave, Take, Finish, Begin, TryBegin, End, Transfer, Batch, EndBatch, Service}
 use Rattle.job_manager.specs.declared.manager.JobManager.{JobManager}
 
 -- all rules are pass 1's
@@ -34,16 +34,18 @@ IsPlain k Batch = k ≡ 1
 IsPlain k EndBatch = k ≡ 1
 IsPlain k event = Unit {0}
 
--- pass 1 has nothing, and no job is run
+-- pass 1 has nothing, no job is run, and no pass has the services
 pub record IsIdle (m : JobManager) : Type 0 where
   pub rules : m.passes.rules ≡ []
   pub there : get m.passes.there 1 ≡ Some idle
   pub runs : (name : List ℕ) → state_of m.jobs name ≢ Some states.Running
+  pub services : m.passes.services ≡ None
 
--- pass 1 runs this job
+-- pass 1 runs this job, and no pass has the services
 pub record IsBusy (name : List ℕ) (m : JobManager) : Type 0 where
   pub single : IsSingle m
   pub job : job_of m.passes 1 ≡ Some name
+  pub services : m.passes.services ≡ None
 
 -- an event that a command may be
 abbrev pub IsCommand : Event → Type 0
@@ -52,4 +54,5 @@ IsCommand Leave = ⊥
 IsCommand (Transfer to) = ⊥
 IsCommand Take = ⊥
 IsCommand Finish = ⊥
+IsCommand (Service x) = ⊥
 IsCommand event = Unit {0}

@@ -1,4 +1,5 @@
 pub mod Dropped
+pub mod Projects
 pub mod Written
 pub mod Printed
 pub mod Pieces

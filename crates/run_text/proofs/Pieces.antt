@@ -7,7 +7,7 @@ use Rattle.ws_outside.specs.Streams.{Gains, GainsFront}
 use Rattle.run_text.specs.declared.writing.Unwritten.{Unwritten}
 use Rattle.run_text.specs.declared.writing.Unwritten.TheVariants.{Fault, Memory}
 use Rattle.run_text.specs.Printing.{IsCause, PrintsAll, PrintsFront, Printed}
-use Rattle.run_text.proofs.Printed.{prints_none, prints_all, prints_more, prints_after, prints_end, prints_in, some_none, some_after, some_more, some_before, some_in, some_of}
+use Rattle.run_text.proofs.Printed.{prints_none, prints_all, prints_more, prints_after, prints_end, prints_in, prints_next, some_none, some_after, some_more, some_before, some_in, some_next, some_of}
 
 -- a cause that comes later, where no write failed before
 cause_on : (e : Unwritten) (f g h : ℕ) → g ≡ f → IsCause e g h → IsCause e f h
@@ -62,3 +62,11 @@ left_at_end a b f g p t q d = record { printed = prints_end a b p t q d.printed;
 pub ends_at : {A : Type 0} (a b c : Option (List ℕ)) (f g h : ℕ) (p q : List ℕ) (text : A → List ℕ) (xs : List A) (i : ℕ) (x : A) (e : Unwritten) → i < length xs → x ≡ slice_index_or xs i x
     → PrintsAll a b f g p (flat_map text xs) (q ++ flat_map text (drop i xs)) → PrintsFront b c g h q (text x) e → PrintsFront a c f h p (flat_map text xs) e
 ends_at a b c f g h p q text xs i x e l k d n = record { some = some_in a b c p q text xs i x l k d.printed n.some; cause = cause_on e f g h d.calm n.cause }
+
+-- of a text a part was left to print, of which the front is printed now
+pub left_next : (a b c : Option (List ℕ)) (f g h : ℕ) (p t q u r l : List ℕ) → PrintsAll a b f g p t (q ++ (u ++ r)) → PrintsAll b c g h q u l → PrintsAll a c f h p t (l ++ r)
+left_next a b c f g h p t q u r l d n = record { printed = prints_next a b c p t q u r l d.printed n.printed; calm = n.calm ∙ d.calm }
+
+-- the printing ends in this front
+pub ends_in : (a b c : Option (List ℕ)) (f g h : ℕ) (p t q u r : List ℕ) (e : Unwritten) → PrintsAll a b f g p t (q ++ (u ++ r)) → PrintsFront b c g h q u e → PrintsFront a c f h p t e
+ends_in a b c f g h p t q u r e d n = record { some = some_next a b c p t q u r d.printed n.some; cause = cause_on e f g h d.calm n.cause }

@@ -1,3 +1,5 @@
+pub mod UnderWay
+pub mod Services
 pub mod Replies
 pub mod Lines
 pub mod Printing

@@ -5,6 +5,8 @@ ghost use Rattle.run_text.specs.Replies.{asleep_text, event_text};
 ghost use Rattle.script_words.specs.Words.{word_text};
 
 use crate::NoMemory;
+use crate::service_text::put_service;
+use crate::under_way::Current;
 use core_event::{Event, WsRule};
 use report_text::{put_counted, put_named, put_rule, put_text};
 use res_path::Name;
@@ -47,9 +49,10 @@ fn put_schedule(
     put_ruled(out, " ", rule)
 }
 
-/// Appends the words of an event: the command of a script that it is, or what stands for it.
-pub fn put_event(out: &mut Vec<u8>, event: &Event) -> Result<(), NoMemory>
-    ensures { OnOk result (out.new.items ≡ out.old.items ++ event_text event.now) }
+/// Appends the words of an event: the command of a script that it is, or what stands for it, where this command is under
+/// way.
+pub fn put_event(out: &mut Vec<u8>, under: &Current<'_>, event: &Event) -> Result<(), NoMemory>
+    ensures { OnOk result (out.new.items ≡ out.old.items ++ event_text under.now event.now) }
 {
     match event {
         Event::Enter => put_text(out, "enter"),
@@ -70,5 +73,6 @@ pub fn put_event(out: &mut Vec<u8>, event: &Event) -> Result<(), NoMemory>
         Event::EndBatch => put_text(out, "endbatch"),
         Event::Checkpoint => put_text(out, "checkpoint"),
         Event::Operation(op) => put_operation(out, op),
+        Event::Service(event) => put_service(out, under, event),
     }
 }

@@ -1,5 +1,7 @@
 //! The text of a run's entries: their words and lines, and how these are written to a sink.
 //!
+//! - `under_way`: the command that is under way at each entry.
+//! - `service_text`: the words of what concerns the services.
 //! - `event_text`: the words of events.
 //! - `refusal_text`: the words of refusals.
 //! - `read_text`: what was read.
@@ -13,10 +15,13 @@ mod event_text;
 mod printing;
 mod read_text;
 mod refusal_text;
+mod service_text;
+mod under_way;
 mod writing;
 
 pub use entry_text::{is_shown, put_line};
 pub use event_text::put_event;
 pub use printing::{print_entries, print_headed};
 pub use res_path::NoMemory;
+pub use under_way::Current;
 pub use writing::{Unwritten, write_all, write_waiting};

@@ -2,7 +2,7 @@
 ghost use Rattle.std.specs.Prelude.{◌≡◌, ◌++◌, codes, decimal, OnOk};
 ghost use Rattle.proj_desc.specs.Words.{cause_words};
 ghost use Rattle.report_text.specs.Rules.{rule_words};
-ghost use Rattle.run_text.specs.Replies.{cause_text, value_words, operation_refusal_text, refusal_text};
+ghost use Rattle.run_text.specs.Replies.{cause_text, holder_text, value_words, operation_refusal_text, refusal_text};
 
 use crate::NoMemory;
 use crate::event_text::put_ruled;
@@ -10,7 +10,7 @@ use core_event::{Refusal, WsRule};
 use mark_set::ValueCause;
 use op_kind::OpRefusal;
 use proj_desc::DescCause;
-use report_text::{put_counted, put_named, put_path, put_text};
+use report_text::{put_counted, put_named, put_number, put_path, put_text};
 use std::fmt::Write;
 
 /// Appends a cause that names nothing.
@@ -88,6 +88,23 @@ fn put_conflict(out: &mut Vec<u8>, holder: u64, rule: &WsRule) -> Result<(), NoM
     put_ruled(out, " ", rule)
 }
 
+/// Appends the number of the pass that has the services, if one has them.
+fn put_holder(out: &mut Vec<u8>, holder: Option<u64>) -> Result<(), NoMemory>
+    ensures { OnOk result (out.new.items ≡ out.old.items ++ holder_text holder) }
+{
+    match holder {
+        None => put_text(out, "none"),
+        Some(pass) => put_number(out, pass),
+    }
+}
+
+fn put_not_services(out: &mut Vec<u8>, holder: Option<u64>) -> Result<(), NoMemory>
+    ensures { OnOk result (out.new.items ≡ out.old.items ++ codes "33 " ++ holder_text holder) }
+{
+    put_text(out, "33 ")?;
+    put_holder(out, holder)
+}
+
 fn put_refusal(out: &mut Vec<u8>, refusal: &Refusal) -> Result<(), NoMemory>
     ensures { OnOk result (out.new.items ≡ out.old.items ++ refusal_text refusal.now) }
 {
@@ -99,6 +116,12 @@ fn put_refusal(out: &mut Vec<u8>, refusal: &Refusal) -> Result<(), NoMemory>
         Refusal::HoldsNothing => put_text(out, "20"),
         Refusal::Conflict(holder, rule) => put_conflict(out, *holder, rule),
         Refusal::TargetHolds => put_text(out, "31"),
+        Refusal::ServicesOut(holder) => put_counted(out, "32 ", *holder),
+        Refusal::NotServices(holder) => put_not_services(out, *holder),
+        Refusal::BadEdits(path) => put_path(out, "34 ", path),
+        Refusal::NoBuilder(name) => put_named(out, "35 ", name.text().as_bytes()),
+        Refusal::NoCommand(count) => put_counted(out, "36 ", *count),
+        Refusal::NoBuild => put_text(out, "37"),
         Refusal::UnknownJob => put_text(out, "40"),
         Refusal::WrongState(state) => put_counted(out, "41 ", u64::from(state.number())),
         Refusal::PassBusy => put_text(out, "42"),

@@ -32,7 +32,8 @@ pub record IsLawful (d : Saved) : Type 0 where
   pub stamps : AgreeByStamps (maps d)
   -- descriptions are canonical and valid for their project
   pub described : AllByRecursion (Each IsDescribed) (trees d)
-  -- each built record names a project of the tree and an index below its number of commands, and its command's text is canonical
+  -- each built record names a project of the tree and an index below its number of commands, its command's text is canonical,
+  -- and its references are few
   pub built : AllByRecursion (IsBuiltIn d.tree) d.built
 
 -- It can be told, elements being sound by themselves, without transient markers; and it is lawful.

@@ -42,18 +42,19 @@ fn read_lawful(
     Ok(durable)
 }
 
-/// The image of a state that is valid: its text against nothing. No other image begins with it.
+/// The image of a state that is valid: its text against nothing. It is the only one, and no other image begins with it.
 pub fn image(alloc: Global, durable: &Durable) -> Result<Vec<u8>, NoMemory>
     requires { Valid (saved durable.now) }
     ensures text { IfOk result (λ bytes. IsImage (saved durable.now) bytes.items) }
+    ensures one { IfOk result (λ bytes. (other : List ℕ) → IsImage (saved durable.now) other → other ≡ bytes.items) }
     ensures prefix { IfOk result (λ bytes. (other : Saved) (rest : List ℕ) → IsImage other (bytes.items ++ rest) → (rest ≡ []) × (other ≡ saved durable.now)) }
 {
     let nothing = ElemMap::empty(alloc);
     text_of(alloc, &nothing, &nothing, durable)
 }
 
-/// The valid state whose image these bytes are. Refused with `BadText` at the first place at which they can't go on; and
-/// with `BadState` at 0 where they tell no valid state.
+/// The valid state whose image these bytes are. Refused with `BadText` at the first place at which they can't go on, which is
+/// their end where they are too few; and with `BadState` at 0 where they tell no valid state.
 pub fn read_image(alloc: Global, body: &[u8]) -> Result<Durable, ReadError>
     ensures ok { IfOk result (λ d. IsImage (saved d) body.now) }
     ensures all { (d : Saved) → IsImage d body.now → MatchResult result (λ e. saved e ≡ d) (λ e. e ≡ error.Memory) }
@@ -65,12 +66,13 @@ pub fn read_image(alloc: Global, body: &[u8]) -> Result<Durable, ReadError>
     read_lawful(alloc, &nothing, &nothing, body)
 }
 
-/// The record of a state that is valid: its text against the tree and the shelf of the state before it. No other record
-/// against that state begins with it.
+/// The record of a state that is valid: its text against the tree and the shelf of the state before it. It is the only one,
+/// and no other record against that state begins with it.
 pub fn record(alloc: Global, before: &Durable, now: &Durable) -> Result<Vec<u8>, NoMemory>
     requires before { Valid (saved before.now) }
     requires now { Valid (saved now.now) }
     ensures text { IfOk result (λ bytes. IsRecord (saved before.now) (saved now.now) bytes.items) }
+    ensures one { IfOk result (λ bytes. (other : List ℕ) → IsRecord (saved before.now) (saved now.now) other → other ≡ bytes.items) }
     ensures prefix { IfOk result (λ bytes. (other : Saved) (rest : List ℕ) → IsRecord (saved before.now) other (bytes.items ++ rest) → (rest ≡ []) × (other ≡ saved now.now)) }
 {
     text_of(alloc, &before.tree, &before.shelf, now)

@@ -48,9 +48,9 @@ narrow_all t h p = some_narrow p (get t p) (h p)
 
 -- ---- a state that is read
 
-pub no_other : (s : State) (why : Stuck) (e : ReadError) → Becomes why e → Fails why (Ok s) → e ≡ Memory
-no_other s (stuck.At stop) e is fails = absurd (let n : Ok s ≡ Err stop = fails in cc)
-no_other s stuck.Memory e is fails = is
+pub no_other : (bytes : List ℕ) (s : State) (why : Stuck) (e : ReadError) → Becomes bytes why e → Fails why (Ok s) → e ≡ Memory
+no_other bytes s (stuck.At stop) e is fails = absurd (let n : Ok s ≡ Err stop = fails in cc)
+no_other bytes s stuck.Memory e is fails = is
 
 -- ---- what is kept, whatever room its trees have
 

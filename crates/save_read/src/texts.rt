@@ -7,7 +7,7 @@ ghost use Rattle.save_state.specs.States.{state};
 ghost use Rattle.save_state.specs.declared.state.State.{State as StateValue};
 ghost use Rattle.save_build.specs.Told.{told_tree, AreFit, IsTold};
 ghost use Rattle.save_read.specs.Sayable.{IsSayable, IsSayableTree, AreFew};
-ghost use Rattle.save_read.specs.Texts.{IsText, IsSpelled, StopsAt};
+ghost use Rattle.save_read.specs.Texts.{stop_in, IsText, IsSpelled, StopsAt};
 ghost use Rattle.save_read.specs.Inside.Stops.{Becomes, Stops};
 ghost use Rattle.save_read.specs.declared.error.ReadError.TheVariants as error;
 ghost use Rattle.save_read.specs.declared.error.TextCause.TheVariants.{BadText, BadState};
@@ -15,7 +15,7 @@ ghost use Rattle.save_read.specs.declared.error.TextCause.TheVariants.{BadText, 
 use crate::error::{ReadError, TextCause};
 use crate::few::are_few;
 use save_build::{BaseTree, durable_of};
-use save_form::Stuck;
+use save_form::{Stop, Stuck};
 use save_state::{State, read_state};
 use save_text::put_state;
 use std::alloc::Global;
@@ -23,8 +23,8 @@ use ws_durable::Durable;
 use ws_elem::{ElemMap, NoMemory};
 use ws_wire::Out;
 
-/// The text of what is kept, against a base tree and a base shelf. Asks that all of it can be told. No other text begins
-/// with it.
+/// The text of what is kept, against a base tree and a base shelf. Asks that all of it can be told. It is the only one, and
+/// no other text begins with it.
 pub fn text_of(
     alloc: Global,
     base: &ElemMap,
@@ -35,6 +35,7 @@ pub fn text_of(
     requires shelf { IsSayableTree shelf.now.map }
     requires durable { IsSayable (saved durable.now) }
     ensures text { IfOk result (λ bytes. IsText base.now.map shelf.now.map (saved durable.now) bytes.items) }
+    ensures one { IfOk result (λ bytes. (other : List ℕ) → IsText base.now.map shelf.now.map (saved durable.now) other → other ≡ bytes.items) }
     ensures prefix { IfOk result (λ bytes. (other : Saved) (rest : List ℕ) → IsText base.now.map shelf.now.map other (bytes.items ++ rest)
         → (rest ≡ []) × (other ≡ saved durable.now)) }
 {
@@ -43,12 +44,22 @@ pub fn text_of(
     Ok(out.into_vec())
 }
 
-fn error_of(stuck: Stuck) -> ReadError
-    ensures { Becomes stuck result }
+/// The place at which a text can't go on: its end where its bytes are too few.
+fn place_in(body: &[u8], stop: Stop) -> usize
+    ensures { result ≡ stop_in body.now stop }
+{
+    match stop {
+        Stop::Short(_) => body.len(),
+        Stop::Bad(at) => at,
+    }
+}
+
+fn error_of(body: &[u8], stuck: Stuck) -> ReadError
+    ensures { Becomes body.now stuck result }
 {
     match stuck {
         Stuck::At(stop) => ReadError::Bad {
-            at: stop.place(),
+            at: place_in(body, stop),
             cause: TextCause::BadText,
         },
         Stuck::Memory => ReadError::Memory,
@@ -73,7 +84,7 @@ fn read_told<'a>(
     let shelf = BaseTree::of(shelf);
     match read_state(alloc, body, &base, &shelf) {
         Ok(told) => Ok(told),
-        Err(stuck) => Err(error_of(stuck)),
+        Err(stuck) => Err(error_of(body, stuck)),
     }
 }
 
@@ -105,7 +116,8 @@ fn unless_many(durable: Durable) -> Option<Durable>
 }
 
 /// What is kept whose text these bytes are, against a base tree and a base shelf. Refused with `BadText` at the first
-/// place at which they can't go on; and with `BadState` at 0 where they tell what can't be kept.
+/// place at which they can't go on, which is their end where they are too few; and with `BadState` at 0 where they tell
+/// what can't be kept.
 pub fn read_text(
     alloc: Global,
     base: &ElemMap,

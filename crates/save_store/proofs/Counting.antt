@@ -1,5 +1,5 @@
 -- What is told of both areas, from what each is read as.
-use Rattle.std.proofs.Common.{◌≡◌, inl, inr, ℕ, ◌+◌, List, [], Option, Some, None, Result, Ok, Err, Bool, true, false, cond, refl, sym, ◌∙◌, ap, subst, arith}
+use Rattle.std.proofs.Common.{◌≡◌, inr, ℕ, ◌+◌, [], Option, Some, None, Result, Ok, Err, Bool, true, false, cond, refl, sym, ◌∙◌, ap, subst, arith}
 use Rattle.std.specs.Prelude.{is_some, IfSome}
 use Rattle.std.specs.FinMap.{empty, contains_key, len, len-empty, len-insert, get-empty}
 use Rattle.ws_outside.specs.declared.contents.Contents.{Contents}
@@ -17,7 +17,7 @@ use Rattle.disk_area.specs.declared.damage.Damage.{Damage}
 use Rattle.disk_area.specs.declared.pieces.Head.{Head}
 use Rattle.disk_area.specs.Reading.{Place, head_of, area_of}
 use Rattle.ws_durable.specs.Saved.{Saved}
-use Rattle.area_pair.specs.Reads.{Heads, heads_from, heads_of, chosen, with_end, texts_in, texts_of, reads_by, reads}
+use Rattle.area_pair.specs.Reads.{Heads, heads_from, heads_of, chosen, with_end, texts_in, texts_of, reads_by}
 use Rattle.area_pair.proofs.Choosing.{chosen_head, area_none}
 use Rattle.save_store.specs.declared.faults.OpenFault.{OpenFault}
 use Rattle.save_store.specs.declared.faults.OpenFault.TheVariants as open_fault

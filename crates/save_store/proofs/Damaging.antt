@@ -1,5 +1,5 @@
 -- The first damage of two areas, from what is read of them.
-use Rattle.std.proofs.Common.{◌≡◌, ◌⊎◌, inl, inr, ⊎_elim, ℕ, List, Option, Some, None, Result, Ok, Err, refl, sym, ◌∙◌, ap, subst}
+use Rattle.std.proofs.Common.{◌≡◌, ◌⊎◌, inl, inr, ⊎_elim, ℕ, Option, Some, None, Result, Ok, Err, refl, sym, ◌∙◌, ap, subst}
 use Rattle.ws_outside.specs.declared.contents.Contents.{Contents}
 use Rattle.ws_outside.specs.declared.contents.Which.{Which}
 use Rattle.ws_outside.specs.declared.contents.Which.TheVariants.{Left, Right}
@@ -10,7 +10,6 @@ use Rattle.disk_area.specs.declared.damage.AreaFault.TheVariants as area_fault
 use Rattle.disk_area.specs.declared.damage.Damage.{Damage}
 use Rattle.disk_area.specs.declared.pieces.Head.{Head}
 use Rattle.disk_area.specs.Reading.{Place, head_of, with_head, area_of, Tells}
-use Rattle.ws_durable.specs.Saved.{Saved}
 use Rattle.area_pair.specs.declared.texts.Texts.{Texts}
 use Rattle.area_pair.specs.Reads.{Heads, heads_from, heads_of, chosen, in_area, with_end, texts_in, texts_of, reads_by, reads}
 use Rattle.area_store.specs.declared.desk.Desk.{Desk}
@@ -19,7 +18,6 @@ use Rattle.save_store.specs.declared.faults.OpenFault.{OpenFault}
 use Rattle.save_store.specs.declared.faults.OpenFault.TheVariants as open_fault
 use Rattle.save_store.specs.Faults.{opening}
 use Rattle.save_store.specs.Damages.{texts_of_area, SpoilsTexts, Spoils, IsDamaged, TellsDamage, OfTexts}
-use Rattle.save_store.specs.States.{StandFor}
 
 -- the place of a damage in its area
 abbrev place_of : Damage → Place

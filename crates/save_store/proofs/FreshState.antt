@@ -4,14 +4,14 @@ use Rattle.std.proofs.lemmas.List.{length-map}
 use Rattle.std.specs.Prelude.{Option, Some, None, IfSome, filter, not}
 use Rattle.std.specs.declared.cmp.Ordering.{Ordering}
 use Rattle.std.specs.List.{All, AllByRecursion}
-use Rattle.std.specs.FinMap.{FinMap, empty, get, contains_key, entries, values, insert, len, get-empty, len-empty, len-entries, len-insert}
+use Rattle.std.specs.FinMap.{empty, get, contains_key, entries, len, get-empty, len-empty, len-entries, len-insert}
 use Rattle.std.specs.Ordering.{nat_cmp}
 use Rattle.std.proofs.lemmas.List.Elements.{All-nil, All-cons}
 use Rattle.res_path.specs.Paths.{Names, path_cmp}
 use Rattle.res_path.specs.PathLaws.{path_cmp_total}
 use Rattle.mark_set.specs.Markers.{is_transient}
 use Rattle.mark_set.specs.declared.marker.Marker.{Marker}
-use Rattle.ws_elem.specs.declared.kind.Kind.TheVariants.{File, Project, Root}
+use Rattle.ws_elem.specs.declared.kind.Kind.TheVariants.{File, Root}
 use Rattle.ws_elem.specs.declared.element.Element.{Element}
 use Rattle.ws_elem.specs.Elements.{bare}
 use Rattle.ws_elem.specs.Stamps.{SameContents, AgreeByStamps}
@@ -23,9 +23,9 @@ use Rattle.save_elem.specs.declared.elem.Sync.{Sync}
 use Rattle.save_elem.specs.Fits.{FitsElem, FitsMark, FitsSync}
 use Rattle.save_elem.specs.Sound.{IsSaved, IsSound}
 use Rattle.save_elem.specs.Telling.{told, told_mark, told_sync, lasting}
-use Rattle.save_build.specs.Told.{IsFit, AreFit}
-use Rattle.save_read.specs.Sayable.{IsFew, IsSayable}
-use Rattle.save_valid.specs.Rules.{Each, Counters, IsBelow, counters_of, AllDiffer, nodes_of}
+use Rattle.save_build.specs.Told.{IsFit}
+use Rattle.save_read.specs.Sayable.{IsSayable}
+use Rattle.save_valid.specs.Rules.{Counters, IsBelow, counters_of, AllDiffer, nodes_of}
 use Rattle.save_valid.specs.Descriptions.{IsDescribed}
 use Rattle.save_format.specs.Valid.{IsLawful, Valid}
 use Rattle.save_store.specs.States.{fresh}

@@ -1,12 +1,9 @@
 -- What texts stand for.
-use Rattle.std.proofs.Common.{◌≡◌, inl, inr, ℕ, ◌<◌, ◌+◌, List, [], ◌∷◌, ◌++◌, length, drop, get_or, Option, Some, None, Result, Ok, Err, refl, sym, ◌∙◌, ap, subst}
+use Rattle.std.proofs.Common.{◌≡◌, inl, inr, ℕ, ◌<◌, ◌+◌, List, [], ◌∷◌, ◌++◌, length, drop, get_or, Some, None, Result, Ok, Err, refl, sym, ◌∙◌, ap, subst}
 use Rattle.std.proofs.lemmas.List.{drop_more}
 use Rattle.std.specs.Prelude.{IfErr, IsErrAnd}
-use Rattle.std.specs.FinMap.{empty}
-use Rattle.ws_durable.specs.Saved.{Saved, saved}
-use Rattle.ws_durable.specs.declared.durable.Durable.{Durable}
+use Rattle.ws_durable.specs.Saved.{Saved}
 use Rattle.ws_elem.specs.Trees.{Tree}
-use Rattle.ws_outside.specs.declared.contents.Contents.{Contents}
 use Rattle.save_read.specs.declared.error.ReadError.{ReadError}
 use Rattle.save_read.specs.declared.error.ReadError.TheVariants.{Bad, Memory}
 use Rattle.save_read.specs.declared.error.TextCause.{TextCause}
@@ -14,8 +11,8 @@ use Rattle.save_read.specs.declared.error.TextCause.TheVariants.{BadText, BadSta
 use Rattle.save_read.specs.Texts.{IsText, IsSpelled, StopsAt}
 use Rattle.save_format.specs.Valid.{Valid, IsImage, IsRecord}
 use Rattle.area_pair.specs.declared.texts.Texts.{Texts}
-use Rattle.area_store.specs.Kept.{Point, with_record, recorded}
-use Rattle.save_store.specs.States.{fresh, Lead, StandFor, Mean}
+use Rattle.area_store.specs.Kept.{Point, recorded}
+use Rattle.save_store.specs.States.{Lead, StandFor, Mean}
 use Rattle.save_store.specs.Damages.{further, IsBad, BadRecord, BadTexts, FailsFor, moved}
 use Rattle.save_store.proofs.FreshState.{fresh_valid}
 

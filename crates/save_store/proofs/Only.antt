@@ -1,5 +1,5 @@
 -- What both areas hold is one state, and then they have no damage.
-use Rattle.std.proofs.Common.{◌≡◌, ◌⊎◌, inl, inr, ⊎_elim, ℕ, List, [], ◌∷◌, ◌++◌, Option, Some, None, Result, Ok, Err, refl, sym, ◌∙◌, ap, subst}
+use Rattle.std.proofs.Common.{◌≡◌, inl, inr, ℕ, List, [], ◌∷◌, Option, Some, None, Result, Ok, Err, refl, sym, ◌∙◌, ap, subst}
 use Rattle.std.proofs.lemmas.List.{append-nil}
 use Rattle.std.specs.FinMap.{empty}
 use Rattle.ws_elem.specs.Trees.{Tree}
@@ -13,15 +13,14 @@ use Rattle.ws_durable.specs.Saved.{Saved}
 use Rattle.save_read.specs.declared.error.TextCause.{TextCause}
 use Rattle.save_read.specs.Texts.{IsText}
 use Rattle.save_read.proofs.Whole.{one_prefix}
-use Rattle.save_format.specs.Valid.{Valid, IsImage, IsRecord}
 use Rattle.area_pair.specs.declared.texts.Texts.{Texts}
-use Rattle.area_pair.specs.Reads.{Heads, heads_of, chosen, with_end, texts_in, texts_of, reads_by, reads}
-use Rattle.save_store.specs.Damages.{further, BadRecord, BadTexts, texts_of_area, Spoils, SpoilsTexts, IsDamaged}
+use Rattle.area_pair.specs.Reads.{with_end, texts_in, texts_of, reads_by}
+use Rattle.save_store.specs.Damages.{BadRecord, BadTexts, texts_of_area, Spoils, IsDamaged}
 use Rattle.save_store.specs.States.{Lead, StandFor, Mean, Holds}
 
 -- ---- one state
 
-text_once : (base shelf : Tree) (d e : Saved) (bytes : List ℕ) → IsText base shelf d bytes → IsText base shelf e bytes → e ≡ d
+pub text_once : (base shelf : Tree) (d e : Saved) (bytes : List ℕ) → IsText base shelf d bytes → IsText base shelf e bytes → e ≡ d
 text_once base shelf d e bytes one two = (one_prefix base shelf d e bytes [] one (subst (IsText base shelf e) (sym (append-nil bytes)) two)).1
 
 lead_once : (d x y : Saved) (bodies : List (List ℕ)) → Lead d bodies x → Lead d bodies y → y ≡ x
@@ -51,7 +50,7 @@ lead_sound d end gate (body ∷ bodies) at cause leads (inr bad) =
     let same = text_once d.tree d.shelf bad.0 leads.0 body bad.1.1 leads.1.1 in
     lead_sound bad.0 end _ bodies at cause (subst (λ (n : Saved). Lead n bodies end) same leads.2) bad.2
 
-texts_sound : (texts : Texts) (d : Saved) (at : ℕ) (cause : TextCause) → StandFor texts d → BadTexts texts at cause → ⊥
+pub texts_sound : (texts : Texts) (d : Saved) (at : ℕ) (cause : TextCause) → StandFor texts d → BadTexts texts at cause → ⊥
 texts_sound texts d at cause stands (inl bad) = bad.none stands.0 stands.1.0 stands.1.1
 texts_sound texts d at cause stands (inr bad) =
     let same = text_once empty empty bad.0 stands.0 texts.image bad.1.1 stands.1.1 in

@@ -1,5 +1,5 @@
 -- What opening answers, from the texts that were found.
-use Rattle.std.proofs.Common.{◌≡◌, Option, Some, Ok, Err, ap, ◌∙◌}
+use Rattle.std.proofs.Common.{◌≡◌, Option, Some, Ok, ap, ◌∙◌}
 use Rattle.ws_outside.specs.declared.contents.Contents.{Contents}
 use Rattle.disk_area.specs.declared.damage.Damage.{Damage}
 use Rattle.ws_durable.specs.Saved.{Saved}

@@ -1,5 +1,5 @@
 -- What a crash leaves of a store's areas, as states, and what a save leaves in them.
-use Rattle.std.specs.Prelude.{◌≡◌, ◌⊎◌, ◌≤◌, ◌<◌, ◌+◌, ◌-◌, ◌^◌, ℕ, List, [], ◌∷◌, length, false, if◌then◌else◌, Option, Some, None, is_some, option_map, Result, Err, OnOk, IfErr, IsSomeAnd, MatchResult}
+use Rattle.std.specs.Prelude.{◌≡◌, ◌⊎◌, ◌≤◌, ◌<◌, ◌+◌, ◌^◌, ℕ, List, [], ◌∷◌, length, false, if◌then◌else◌, Option, Some, None, is_some, option_map, Result, Err, OnOk, IfErr, IsSomeAnd, MatchResult}
 use Rattle.std.specs.FinMap.{empty}
 use Rattle.ws_outside.specs.declared.contents.Contents.{Contents}
 use Rattle.ws_outside.specs.Disk.{held, beside, holding, written}

@@ -4,6 +4,7 @@ ghost use Rattle.ws_outside.specs.Disk.{beside, Each, LeavesOnly};
 ghost use Rattle.ws_durable.specs.Saved.{Saved, saved};
 ghost use Rattle.save_format.specs.Valid.{Valid, IsImage};
 ghost use Rattle.area_pair.specs.declared.texts.Texts.{Texts as TextsValue};
+ghost use Rattle.disk_area.specs.declared.damage.Damage.{Damage};
 ghost use Rattle.area_pair.specs.Reads.{other, reads};
 ghost use Rattle.area_store.specs.Begun.{IsBegun};
 ghost use Rattle.area_store.specs.Kept.{IsKept};
@@ -110,7 +111,7 @@ impl<D: Disk> Store<D> {
     /// the greater number, on a tie the left one; the fresh workspace where none is open. It brings both areas to the device
     /// first, and leaves what they hold, whatever it answers.
     ///
-    /// Damaged comes exactly where the areas have that damage: the first of the left head, of the right head, and then of the
+    /// Damaged comes exactly where the areas have that damage, of which there is one: the first of the left head, of the right head, and then of the
     /// chosen area in the order of its bytes: of one text it is told that it is cut short, that its digest is another, that it
     /// can't go on, or that it tells no state. Disk comes exactly where the disk's count of faults rose in this call. With a
     /// fault the disk is given back.
@@ -126,6 +127,7 @@ impl<D: Disk> Store<D> {
         ensures synced { IfOk result (λ o. Each (D.may_leave o.0.areas.disk) (λ c. D.seen disk ≡ Some c)) }
         ensures chosen { IfOk result (λ o. IfSome (D.seen disk) (λ both. IsBegun both o.0.areas)) }
         ensures damaged { IfErr result (λ e. IfSome (D.seen disk) (λ both. TellsDamage (IsDamaged both) e.0)) }
+        ensures spoilt { IfSome (D.seen disk) (λ both. (d : Damage) → IsDamaged both d → MatchResult result (λ _. ⊥) (λ e. TellsDamage (λ x. x ≡ d) e.0)) }
         ensures seen { MatchResult result (λ o. D.seen o.0.areas.disk ≡ D.seen disk) (λ e. D.seen e.1 ≡ D.seen disk) }
         ensures any_moment { MatchResult result (λ o. LeavesOnly D.moment D.left_since D.may_leave disk o.0.areas.disk (D.may_leave disk)) (λ e. LeavesOnly D.moment D.left_since D.may_leave disk e.1 (D.may_leave disk)) }
         ensures cause { MatchResult result (λ o. D.faults o.0.areas.disk ≡ D.faults disk) (λ e. OpenFaultOf (D.faults disk) (D.faults e.1) e.0) }
@@ -205,6 +207,7 @@ impl<D: Disk> Store<D> {
     pub fn check(alloc: Global, disk: &mut D) -> Result<Found, OpenFault>
         ensures found { IfOk result (λ found. IfSome (D.seen disk.old) (λ both. IsLookedAt both found)) }
         ensures damaged { IfErr result (λ fault. IfSome (D.seen disk.old) (λ both. TellsDamage (IsDamaged both) fault)) }
+        ensures spoilt { IfSome (D.seen disk.old) (λ both. (d : Damage) → IsDamaged both d → MatchResult result (λ _. ⊥) (TellsDamage (λ x. x ≡ d))) }
         ensures seen { D.seen disk.new ≡ D.seen disk.old }
         ensures any_moment { LeavesOnly D.moment D.left_since D.may_leave disk.old disk.new (D.may_leave disk.old) }
         ensures cause { MatchResult result (λ _. D.faults disk.new ≡ D.faults disk.old) (OpenFaultOf (D.faults disk.old) (D.faults disk.new)) }

@@ -1,5 +1,5 @@
 -- Descriptions of projects, and built records of their commands.
-use Rattle.std.specs.Prelude.{◌≡◌, ℕ, ◌<◌, List, [], ◌∷◌, length, None, Some, IfSome, IsSomeAnd}
+use Rattle.std.specs.Prelude.{◌≡◌, ℕ, ◌<◌, ◌≤◌, List, [], ◌∷◌, length, None, Some, IfSome, IsSomeAnd}
 use Rattle.std.specs.FinMap.{get}
 use Rattle.proj_desc.specs.Canonical.{described, canonical_of, IsCommandText}
 use Rattle.proj_desc.specs.Causes.{desc_cause}
@@ -23,7 +23,8 @@ abbrev pub IsDescribed : Names → Element → Type 0
 IsDescribed p e = e.kind ≡ Project → IfSome (last_name p) (λ name. IsName name × IsCanonical name e.attached.desc)
 
 -- A built record names a project of the tree, which has a command of its number, and its own command's text is the canonical
--- text of a command of the project.
+-- text of a command of the project. It has no more references than a description may have.
 pub record IsBuiltIn (tree : Tree) (b : SavedBuilt) : Type 0 where
   pub there : IsSomeAnd (get tree (b.project ∷ [])) (λ e. (e.kind ≡ Project) × HasCommand b.project e.attached.desc b.index)
   pub command : IsCommandText b.project b.command
+  pub references : length b.references ≤ 256

@@ -1,5 +1,5 @@
 //! Descriptions of projects, and built records of their commands.
-ghost use Rattle.std.specs.Prelude.{◌≡◌, ◌↔◌, ◌∷◌, [], map, IsTrue, IfOk, IfSome, IsSomeAnd};
+ghost use Rattle.std.specs.Prelude.{◌≡◌, ◌↔◌, ◌≤◌, ◌∷◌, [], length, map, IsTrue, IfOk, IfSome, IsSomeAnd};
 ghost use Rattle.std.specs.List.{AllByRecursion};
 ghost use Rattle.std.specs.Option.{option_copied, option_map};
 ghost use Rattle.res_path.specs.Names.{IsName};
@@ -111,11 +111,17 @@ fn is_built_in(alloc: Global, tree: &ElemMap, built: &Built) -> Result<bool, NoM
     let path = project_path(alloc, project)?;
     let there = is_project_of(alloc, tree.get(&path), project, built.index)?;
     let canonical = Command::is_canonical(alloc, project, &built.command)?;
-    Ok(there && canonical)
+    Ok(there && canonical && has_few_references(built))
 }
 
-/// Whether each built record names a project of the tree, which has a command of its number, and keeps the canonical text of
-/// a command of the project.
+fn has_few_references(built: &Built) -> bool
+    ensures { IsTrue result ↔ (length built.now.references ≤ 256) }
+{
+    built.references.as_slice().len() <= 256
+}
+
+/// Whether each built record names a project of the tree, which has a command of its number, keeps the canonical text of a
+/// command of the project, and has at most 256 references.
 pub fn are_built_in(alloc: Global, tree: &ElemMap, built: &[Built]) -> Result<bool, NoMemory>
     ensures { IfOk result (λ is. IsTrue is ↔ AllByRecursion (IsBuiltIn tree.now.map) (map saved_built built.now)) }
 {

@@ -97,15 +97,15 @@ impl Progress {
     {
         let Progress { phases, place } = self;
         match place {
-            Place::Outside => Ok(after_phases(alloc, phases, line)),
+            Place::Outside => Ok(after_phases(alloc, phases, &line)),
             Place::WithinPhase(jobs) => after_jobs(alloc, phases, jobs, line),
             Place::WithinJob(jobs, job) => after_command(phases, jobs, job, line),
         }
     }
 }
 
-fn after_phases(alloc: Global, phases: Phases, line: Line) -> Option<Progress>
-    ensures { result ≡ goes (record { phases = phases; place = Outside }) line }
+fn after_phases(alloc: Global, phases: Phases, line: &Line) -> Option<Progress>
+    ensures { result ≡ goes (record { phases = phases; place = Outside }) line.now }
 {
     match line {
         Line::BeginPhase => Some(Progress {

@@ -4,7 +4,7 @@ use Rattle.op_kind.specs.declared.op.Op.{Op}
 use Rattle.op_kind.specs.declared.op.Op.TheVariants as op
 use Rattle.op_kind.specs.declared.op.Want.TheVariants as want
 use Rattle.script_ops.specs.declared.verb.Verb.{Verb}
-use Rattle.script_ops.specs.declared.verb.Verb.TheVariants.{Create, Delete, Write, Touch, Derived, Move, Copy, Open, Close, Describe, Mark, Attr, Unmark, ClearMarks, Partner, Sync, NoSync, Flush, Show, Cat, Tree, Digest}
+use Rattle.script_ops.specs.declared.verb.Verb.TheVariants.{Create, Delete, Write, Touch, Derived, Move, Copy, Open, Close, Describe, Forget, Mark, Attr, Unmark, ClearMarks, Partner, Sync, NoSync, Flush, Show, Cat, Tree, Digest}
 use Rattle.script_parts.specs.Parts.{Part, keyword}
 use Rattle.script_ops.specs.Operations.{operation_parts}
 use Rattle.script_ops.specs.Inside.Verbs.{verb_word}
@@ -30,6 +30,7 @@ op_verb (op.Copy p q) = with_verb Copy (drop 1 (operation_parts (op.Copy p q)))
 op_verb (op.Open p) = with_verb Open (drop 1 (operation_parts (op.Open p)))
 op_verb (op.Close p) = with_verb Close (drop 1 (operation_parts (op.Close p)))
 op_verb (op.Describe p text) = with_verb Describe (drop 1 (operation_parts (op.Describe p text)))
+op_verb (op.Forget p) = with_verb Forget (drop 1 (operation_parts (op.Forget p)))
 op_verb (op.Mark p kind attributes) = with_verb Mark (drop 1 (operation_parts (op.Mark p kind attributes)))
 op_verb (op.Attr p id name value) = with_verb Attr (drop 1 (operation_parts (op.Attr p id name value)))
 op_verb (op.Unmark p id) = with_verb Unmark (drop 1 (operation_parts (op.Unmark p id)))

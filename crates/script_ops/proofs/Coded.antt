@@ -5,7 +5,7 @@ use Rattle.std.specs.Str.{bytes_eq}
 use Rattle.std.specs.Str.Parse.{digits_value}
 use Rattle.ws_elem.specs.declared.depth.Depth.TheVariants.{Zero, One, Infinite}
 use Rattle.op_kind.specs.declared.op.Op.{Op}
-use Rattle.op_kind.specs.declared.op.Op.TheVariants.{CreateFile, CreateFolder, CreateProject, Delete, Write, Touch, Derived, Move, Copy, Open, Close, Describe, Mark, Attr, Unmark, ClearMarks, Partner, Sync, Flush, Read}
+use Rattle.op_kind.specs.declared.op.Op.TheVariants.{CreateFile, CreateFolder, CreateProject, Delete, Write, Touch, Derived, Move, Copy, Open, Close, Describe, Forget, Mark, Attr, Unmark, ClearMarks, Partner, Sync, Flush, Read}
 use Rattle.op_kind.specs.declared.op.Want.TheVariants.{Show, Cat, Tree, Digest}
 use Rattle.script_words.specs.Words.{Word}
 use Rattle.script_parts.proofs.Numbers.{number_back}
@@ -29,6 +29,7 @@ operation_at verb words = let path = path_at (nth 0 words) in chosen verb (
     ∷ (codes "open", Open path)
     ∷ (codes "close", Close path)
     ∷ (codes "describe", Describe path (nth 1 words))
+    ∷ (codes "forget", Forget path)
     ∷ (codes "mark", Mark path (nth 1 words) (attributes_at (drop 2 words)))
     ∷ (codes "attr", Attr path (digits_value 10 (nth 1 words)) (nth 2 words) (change_at (drop 3 words)))
     ∷ (codes "unmark", Unmark path (digits_value 10 (nth 1 words)))
@@ -59,6 +60,7 @@ op_back (Copy p q) h = λ i. Copy (path_back p h.1.0 i) (path_back q h.1.1.0 i)
 op_back (Open p) h = ap (λ p. Open p) (path_back p h.1.0)
 op_back (Close p) h = ap (λ p. Close p) (path_back p h.1.0)
 op_back (Describe p text) h = ap (λ p. Describe p text) (path_back p h.1.0)
+op_back (Forget p) h = ap (λ p. Forget p) (path_back p h.1.0)
 op_back (Mark p kind attributes) h = λ i. Mark (path_back p h.1.0 i) kind (attributes_back attributes h.1.1.1 i)
 op_back (Attr p id name value) h =
     let number = number_back id (omega (arith, h.1.1.0.fits)) in

@@ -2,7 +2,7 @@
 use Rattle.std.proofs.Common.{◌≡◌, ℕ, List, Option, Some, None}
 use Rattle.std.specs.Prelude.{MatchOption}
 use Rattle.script_ops.specs.declared.verb.Verb.{Verb}
-use Rattle.script_ops.specs.declared.verb.Verb.TheVariants.{Phase, EndPhase, Job, EndJob, Batch, EndBatch, Checkpoint, Begin, TryBegin, End, Sleep, Wake, Cancel, Create, Delete, Write, Touch, Derived, Move, Copy, Open, Close, Describe, Mark, Attr, Unmark, ClearMarks, Partner, Sync, NoSync, Flush, Show, Cat, Tree, Digest}
+use Rattle.script_ops.specs.declared.verb.Verb.TheVariants.{Phase, EndPhase, Job, EndJob, Batch, EndBatch, Checkpoint, Begin, TryBegin, End, Sleep, Wake, Cancel, Create, Delete, Write, Touch, Derived, Move, Copy, Open, Close, Describe, Forget, Mark, Attr, Unmark, ClearMarks, Partner, Sync, NoSync, Flush, Show, Cat, Tree, Digest}
 use Rattle.script_ops.specs.Inside.Verbs.{verb_word, bounds, changes, notes, reads, IsNamed}
 
 -- a word that is none of any kind is no verb
@@ -30,6 +30,7 @@ no_verb word b c n r Copy e = c.1.1.1.1.1.1.0 e
 no_verb word b c n r Open e = c.1.1.1.1.1.1.1.0 e
 no_verb word b c n r Close e = c.1.1.1.1.1.1.1.1.0 e
 no_verb word b c n r Describe e = c.1.1.1.1.1.1.1.1.1.0 e
+no_verb word b c n r Forget e = c.1.1.1.1.1.1.1.1.1.1.0 e
 no_verb word b c n r Mark e = n.0 e
 no_verb word b c n r Attr e = n.1.0 e
 no_verb word b c n r Unmark e = n.1.1.0 e

@@ -43,6 +43,9 @@ no_opened rest none x h = none (path_at (nth 0 (words rest))) (known_parts verbs
 pub no_closed : (rest : List Token) → ((path : Names) → FitsParts rest (a_path path ∷ []) → ⊥) → (x : Op) → FitsParts (begun_with verbs.Close rest) (operation_parts x) → ⊥
 no_closed rest none x h = none (path_at (nth 0 (words rest))) (known_parts verbs.Close rest x h).1
 
+pub no_forgotten : (rest : List Token) → ((path : Names) → FitsParts rest (a_path path ∷ []) → ⊥) → (x : Op) → FitsParts (begun_with verbs.Forget rest) (operation_parts x) → ⊥
+no_forgotten rest none x h = none (path_at (nth 0 (words rest))) (known_parts verbs.Forget rest x h).1
+
 pub no_shown : (rest : List Token) → ((path : Names) → FitsParts rest (a_path path ∷ []) → ⊥) → (x : Op) → FitsParts (begun_with verbs.Show rest) (operation_parts x) → ⊥
 no_shown rest none x h = none (path_at (nth 0 (words rest))) (known_parts verbs.Show rest x h).1
 

@@ -2,7 +2,7 @@
 use Rattle.std.specs.Prelude.{ℕ, List, [], ◌∷◌, Some, None, codes}
 use Rattle.std.specs.List.{flat_map}
 use Rattle.op_kind.specs.declared.op.Op.{Op}
-use Rattle.op_kind.specs.declared.op.Op.TheVariants.{CreateFile, CreateFolder, CreateProject, Delete, Write, Touch, Derived, Move, Copy, Open, Close, Describe, Mark, Attr, Unmark, ClearMarks, Partner, Sync, Flush, Read}
+use Rattle.op_kind.specs.declared.op.Op.TheVariants.{CreateFile, CreateFolder, CreateProject, Delete, Write, Touch, Derived, Move, Copy, Open, Close, Describe, Forget, Mark, Attr, Unmark, ClearMarks, Partner, Sync, Flush, Read}
 use Rattle.op_kind.specs.declared.op.Want.{Want}
 use Rattle.op_kind.specs.declared.op.Want.TheVariants.{Show, Cat, Tree, Digest}
 use Rattle.script_parts.specs.Parts.{Part, keyword, a_number, a_name, a_path, a_text, a_word, switch_word, depth_word, attribute_parts, set_parts, parts_text}
@@ -27,6 +27,7 @@ operation_parts (Copy path to) = keyword (codes "copy") ∷ a_path path ∷ a_pa
 operation_parts (Open path) = keyword (codes "open") ∷ a_path path ∷ []
 operation_parts (Close path) = keyword (codes "close") ∷ a_path path ∷ []
 operation_parts (Describe path text) = keyword (codes "describe") ∷ a_path path ∷ a_word text ∷ []
+operation_parts (Forget path) = keyword (codes "forget") ∷ a_path path ∷ []
 operation_parts (Mark path type attributes) = keyword (codes "mark") ∷ a_path path ∷ a_text type ∷ flat_map attribute_parts attributes
 operation_parts (Attr path id name value) = keyword (codes "attr") ∷ a_path path ∷ a_number 64 0 id ∷ a_text name ∷ set_parts value
 operation_parts (Unmark path id) = keyword (codes "unmark") ∷ a_path path ∷ a_number 64 0 id ∷ []

@@ -49,6 +49,7 @@ pub fn put_doing(out: &mut Vec<u8>, op: &Op) -> Result<(), NoMemory>
         Op::Open(path) => put_two(out, b"open", path_word(path)),
         Op::Close(path) => put_two(out, b"close", path_word(path)),
         Op::Describe(path, text) => put_three(out, b"describe", path_word(path), any_word(text)),
+        Op::Forget(path) => put_two(out, b"forget", path_word(path)),
         Op::Mark(path, kind, attributes) => put_mark(out, path, kind, attributes),
         Op::Attr(path, id, name, value) => put_attr(out, path, *id, name, value),
         Op::Unmark(path, id) => {

@@ -46,6 +46,7 @@ fn plain_operation(verb: Verb, rest: &mut [Token]) -> Option<Op>
         Verb::Open => opened(rest),
         Verb::Close => closed(rest),
         Verb::Describe => described(rest),
+        Verb::Forget => forgotten(rest),
         Verb::Unmark => unmarked(rest),
         Verb::Partner => registered(rest),
         Verb::Sync => synchronised(rest),
@@ -140,6 +141,15 @@ fn closed(rest: &mut [Token]) -> Option<Op>
     match path_alone(rest) {
         None => None,
         Some(path) => Some(Op::Close(path)),
+    }
+}
+
+fn forgotten(rest: &mut [Token]) -> Option<Op>
+    ensures { IsFound operation_parts (begun_with Verb.Forget rest.old) result }
+{
+    match path_alone(rest) {
+        None => None,
+        Some(path) => Some(Op::Forget(path)),
     }
 }
 

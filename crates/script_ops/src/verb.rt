@@ -33,6 +33,7 @@ pub enum Verb {
     Open,
     Close,
     Describe,
+    Forget,
     Mark,
     Attr,
     Unmark,
@@ -111,6 +112,7 @@ fn change_named(word: &[u8]) -> Option<Verb>
         b"open" => Some(Verb::Open),
         b"close" => Some(Verb::Close),
         b"describe" => Some(Verb::Describe),
+        b"forget" => Some(Verb::Forget),
         _ => None,
     }
 }

@@ -1,21 +1,12 @@
-//! Known bytes, and what areas are opened to and told to hold.
-use crate::asserting::{holds, must, same, same_at};
-use crate::opened::{disk_of, fault_text, opened};
+//! Areas with an image and records, and with bytes that are changed.
+use crate::asserting::{holds, must};
+use crate::opened::disk_of;
 use crate::states::{bytes_of, image_named};
-use crate::stops::saved;
 use area_store::AreaStore;
-use save_store::{Found, Store};
+use disk_area::write_image;
 use std::alloc::Global;
 use std::process::Abort;
 use ws_outside::{MemDisk, Which};
-
-/// An area with the image of the fresh workspace as the save 1.
-const FRESH: &str = "\
-01 575341524541 0001 0000000000000001 000000000000005d \
-ed87d92d7e11a6a0aabd18a779512f2c7db0919a0a2b202b92b049f8424f69d4 \
-0000000000000002 0000000000000001 0000000000000001 00000000 \
-00000001 00000001 2f 01 08 0000000000000001 0000000000000000 00 00 \
-0000000000000000 00000000 00000000 00000000 00000000 00000000 00000000 00000000 00";
 
 /// The image of the fresh workspace with a root that isn't below its counter.
 const LOW: &str = "\
@@ -23,162 +14,151 @@ const LOW: &str = "\
 00000001 00000001 2f 01 08 0000000000000001 0000000000000000 00 00 \
 0000000000000000 00000000 00000000 00000000 00000000 00000000 00000000 00000000";
 
-/// The record of no change behind the fresh workspace, and one with such a counter.
+/// The record of no change behind the fresh workspace; one with such a counter; and one of a project, its file and a kept
+/// state from before the file.
 const SAME: &str =
     "0000000000000002 0000000000000001 0000000000000001 00000000 00000000 00000000 00000000 00000000";
 
 const LESS: &str =
     "0000000000000001 0000000000000001 0000000000000001 00000000 00000000 00000000 00000000 00000000";
 
-/// A row: the image of an area, its records, the place of a byte that is changed, and what is opened, the right area empty.
-const ROWS: &str = "\
-f - - f
-o - - o
-o - 0 f
-f same - f
-f same,same - f
-f - 57 left:57:digest
-low - - left:57:state
-00 - - left:57:text
-00 same - left:57:text
-00 same 67 left:57:text
-f 00 - left:191:text
-f less - left:191:state
-f same,same 244 left:276:digest
-f same,00 - left:276:text
-f 00,same 201 left:191:text
-f less,same 244 left:191:state
-";
+const GROWN: &str = "\
+0000000000000004 0000000000000003 0000000000000001 00000000 \
+00000002 00000002 2f70 01 04 0000000000000002 0000000000000000 01 00 0000000000000001 \
+0000001f 7b22636f6d6d616e6473223a5b5d2c227265666572656e636573223a5b5d7d 00000000 00000000 00000000 \
+00000004 2f702f66 01 01 0000000000000003 0000000000000002 00 00 0000000000000000 \
+00000000 00000003 616263 00000000 00000000 00000000 00000000 \
+00000001 00000001 6b 00000002 abcd 01 00000001 00000004 2f702f66 00";
 
-/// The text that a word of a row stands for.
-fn text_of(rt: &impl Abort, alloc: Global, word: &str) -> Vec<u8> {
-    match word {
+/// The text of this name.
+pub fn text_named(rt: &impl Abort, alloc: Global, name: &str) -> Vec<u8> {
+    match name {
         "low" => bytes_of(rt, alloc, LOW),
         "same" => bytes_of(rt, alloc, SAME),
         "less" => bytes_of(rt, alloc, LESS),
+        "grown" => bytes_of(rt, alloc, GROWN),
         "00" => bytes_of(rt, alloc, "00"),
-        _ => image_named(rt, alloc, word),
+        "long" => longer(rt, image_named(rt, alloc, "f")),
+        _ => image_named(rt, alloc, name),
     }
 }
 
-/// The left area with an image and records.
-fn area_of(rt: &impl Abort, alloc: Global, image: &str, records: &str) -> Vec<u8> {
+fn longer(rt: &impl Abort, bytes: Vec<u8>) -> Vec<u8> {
+    let mut bytes = bytes;
+    must(rt, bytes.push(0));
+    bytes
+}
+
+/// The text that a word tells: of a name, with a change behind a slash.
+fn text_of(rt: &impl Abort, alloc: Global, word: &str) -> Vec<u8> {
+    match word.split_once('/') {
+        Some((name, change)) => changed(text_named(rt, alloc, name), change),
+        None => text_named(rt, alloc, word),
+    }
+}
+
+/// Writes a record, unless it has no bytes.
+fn add(rt: &impl Abort, store: &mut AreaStore<MemDisk>, body: &[u8]) {
+    match store.room() {
+        Some(room) if !body.is_empty() && body.len() as u64 <= room => {
+            holds(rt, store.snapshot(body).is_ok());
+        }
+        _ => {}
+    }
+}
+
+/// The left area with an image and one record, none where it has no bytes.
+pub fn area_with(rt: &impl Abort, alloc: Global, image: &[u8], record: &[u8]) -> Vec<u8> {
     match AreaStore::open(alloc, disk_of(rt, alloc, b"", b"")) {
         Ok((mut store, _)) => {
-            holds(rt, store.full(&text_of(rt, alloc, image)).is_ok());
-            for word in records.split(',') {
-                let body = text_of(rt, alloc, word);
-                match store.room() {
-                    Some(room) if !body.is_empty() && body.len() as u64 <= room => {
-                        holds(rt, store.snapshot(&body).is_ok());
-                    }
-                    _ => {}
-                }
-            }
-            must(
-                rt,
-                store.into_disk().contents().of(Which::Left).to_vec(alloc),
-            )
+            holds(rt, store.full(image).is_ok());
+            add(rt, &mut store, record);
+            left_of(rt, alloc, &store.into_disk())
         }
         Err(_) => Vec::new(alloc),
     }
 }
 
-/// The bytes with another one at a place.
-fn changed(bytes: Vec<u8>, place: &str) -> Vec<u8> {
+fn left_of(rt: &impl Abort, alloc: Global, disk: &MemDisk) -> Vec<u8> {
+    must(rt, disk.contents().of(Which::Left).to_vec(alloc))
+}
+
+/// The left area with the image of a word and the records of the other.
+pub fn area_of(rt: &impl Abort, alloc: Global, image: &str, records: &str) -> Vec<u8> {
+    match AreaStore::open(alloc, disk_of(rt, alloc, b"", b"")) {
+        Ok((mut store, _)) => {
+            holds(rt, store.full(&text_of(rt, alloc, image)).is_ok());
+            for word in records.split(',') {
+                add(rt, &mut store, &text_of(rt, alloc, word));
+            }
+            left_of(rt, alloc, &store.into_disk())
+        }
+        Err(_) => Vec::new(alloc),
+    }
+}
+
+/// An area with this image and save number.
+pub fn numbered(rt: &impl Abort, alloc: Global, number: u64, image: &[u8]) -> Vec<u8> {
+    let mut disk = disk_of(rt, alloc, b"", b"");
+    let number = number.clamp(1, (1 << 63) - 1);
+    if image.len() <= 1 << 20 {
+        must(
+            rt,
+            write_image(&mut disk, Which::Left, number, image, false),
+        );
+    }
+    left_of(rt, alloc, &disk)
+}
+
+/// The number that a word tells, 0 where it tells none.
+pub fn number(word: &str) -> u64 {
+    match word.parse() {
+        Ok(number) => number,
+        Err(_) => 0,
+    }
+}
+
+/// The bytes with these bits of one byte turned.
+pub fn turned(bytes: Vec<u8>, place: usize, bits: u8) -> Vec<u8> {
     let mut bytes = bytes;
-    if let Ok(at) = place.parse::<usize>() {
-        if let Some(byte) = bytes.get_mut(at) {
-            *byte ^= 0x40;
+    if let Some(byte) = bytes.get_mut(place) {
+        *byte ^= bits;
+    }
+    bytes
+}
+
+/// The bytes with this one at a place, or at each from one to another.
+fn filled(bytes: Vec<u8>, places: &str, value: u8) -> Vec<u8> {
+    let mut bytes = bytes;
+    let (first, last) = match places.split_once('-') {
+        Some((first, last)) => (number(first), number(last)),
+        None => (number(places), number(places)),
+    };
+    for place in first..=last {
+        if let Some(byte) = bytes.get_mut(place as usize) {
+            *byte = value;
         }
     }
     bytes
 }
 
-fn number_text(rt: &impl Abort, alloc: Global, area: Option<(u64, u64)>) -> String {
-    match area {
-        Some((number, records)) => must(rt, format!(in alloc; "{number},{records}")),
-        None => must(rt, String::from_str(alloc, "closed")),
+fn cut(bytes: Vec<u8>, len: usize) -> Vec<u8> {
+    let mut bytes = bytes;
+    bytes.truncate(len);
+    bytes
+}
+
+/// The bytes as a word changes them: `57` turns a bit of that byte, `1=0` makes that byte so, `17-24=255` each of these,
+/// `<150` leaves that many; any other leaves all.
+pub fn changed(bytes: Vec<u8>, word: &str) -> Vec<u8> {
+    if let Some(len) = word.strip_prefix('<') {
+        return cut(bytes, number(len) as usize);
     }
-}
-
-/// What both areas are told to hold.
-fn looked_at(rt: &impl Abort, alloc: Global, disk: MemDisk) -> String {
-    let mut disk = disk;
-    match Store::check(alloc, &mut disk) {
-        Ok(found) => found_text(rt, alloc, found),
-        Err(fault) => fault_text(rt, alloc, fault),
+    if let Some((places, value)) = word.split_once('=') {
+        return filled(bytes, places, (number(value) & 255) as u8);
     }
-}
-
-fn found_text(rt: &impl Abort, alloc: Global, found: Found) -> String {
-    let left = number_text(rt, alloc, found.left);
-    let right = number_text(rt, alloc, found.right);
-    let chosen = match found.chosen {
-        Some(Which::Left) => "left",
-        Some(Which::Right) => "right",
-        None => "none",
-    };
-    let elements = found.elements;
-    let (left, right) = (left.as_str(), right.as_str());
-    must(rt, format!(in alloc; "{left} {right} {chosen} {elements}"))
-}
-
-fn is_opened_so(rt: &impl Abort, alloc: Global, row: &str) {
-    let mut words = row.split_whitespace();
-    let image = words.next().unwrap_or("");
-    let records = words.next().unwrap_or("");
-    let place = words.next().unwrap_or("");
-    let expected = words.next().unwrap_or("");
-    let left = changed(area_of(rt, alloc, image, records), place);
-    same_at(rt, row, opened(rt, alloc, &left, b"").as_str(), expected);
-    if expected.contains(':') {
-        let text = looked_at(rt, alloc, disk_of(rt, alloc, &left, b""));
-        same_at(rt, row, text.as_str(), expected);
-    }
-}
-
-#[test]
-fn areas_are_opened_to_their_state_or_to_the_first_damage(rt: HostRuntime) {
-    for row in ROWS.lines() {
-        is_opened_so(&rt, rt.alloc(), row);
-    }
-    same(&rt, ROWS.lines().count(), 16);
-}
-
-#[test]
-fn areas_are_told_to_hold_what_was_saved(rt: HostRuntime) {
-    let alloc = rt.alloc();
-    let text = looked_at(&rt, alloc, disk_of(&rt, alloc, b"", b""));
-    same(&rt, text.as_str(), "closed closed none 1");
-    let (disk, _) = saved(&rt, alloc, Vec::new(alloc));
-    let text = looked_at(&rt, alloc, disk);
-    same(&rt, text.as_str(), "1,1 2,1 right 3");
-    let disk = disk_of(&rt, alloc, b"", b"").failing_at(must(&rt, vec![in alloc; 0u64]));
-    let text = looked_at(&rt, alloc, disk);
-    same(&rt, text.as_str(), "disk");
-}
-
-#[test]
-fn a_full_save_of_the_fresh_workspace_has_the_known_bytes_on_the_left(rt: HostRuntime) {
-    let alloc = rt.alloc();
-    let known = bytes_of(&rt, alloc, FRESH);
-    same(&rt, known.len(), 151);
-    match Store::open(alloc, disk_of(&rt, alloc, b"", b"")) {
-        Ok((store, durable)) => {
-            let mut store = store;
-            same(&rt, store.full(alloc, &durable), Ok(()));
-            let disk = store.into_disk();
-            holds(&rt, disk.contents().of(Which::Left) == known.as_slice());
-            holds(&rt, disk.contents().of(Which::Right).is_empty());
-        }
-        Err(_) => holds(&rt, false),
-    }
-}
-
-#[test]
-fn a_byte_alone_is_the_fresh_workspace(rt: HostRuntime) {
-    for byte in [0u8, 1, 2, 255] {
-        same(&rt, opened(&rt, rt.alloc(), &[byte], b"").as_str(), "f");
+    match word.parse::<usize>() {
+        Ok(place) => turned(bytes, place, 0x40),
+        Err(_) => bytes,
     }
 }

@@ -36,7 +36,12 @@ fn damage_text(rt: &impl Abort, alloc: Global, damage: Damage) -> String {
     };
     let at = damage.at;
     let word = word_of(damage.cause);
-    must(rt, format!(in alloc; "{area}:{at}:{word}"))
+    match damage.cause {
+        DamageCause::BadVersion(version) => {
+            must(rt, format!(in alloc; "{area}:{at}:{word}.{version}"))
+        }
+        _ => must(rt, format!(in alloc; "{area}:{at}:{word}")),
+    }
 }
 
 /// A fault as one word.

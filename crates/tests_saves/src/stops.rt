@@ -1,7 +1,7 @@
 //! Saves, stopped or failed at every call.
 use crate::asserting::{holds, must, same};
 use crate::opened::{disk_of, open_on, opened};
-use crate::states::state;
+use crate::saves;
 use save_store::{SaveFault, Store};
 use std::alloc::Global;
 use std::process::Abort;
@@ -36,8 +36,7 @@ fn answered(rt: &impl Abort, may: &mut String, name: &str, answer: Result<(), Sa
 
 fn full(rt: &impl Abort, alloc: Global, store: &mut Store<MemDisk>, may: &mut String, name: &str) {
     begun(rt, may, name);
-    let now = state(rt, alloc, name);
-    let answer = store.full(alloc, &now);
+    let answer = saves::full(rt, alloc, store, name);
     answered(rt, may, name, answer);
 }
 
@@ -49,8 +48,7 @@ fn snapshot(
     name: &str,
 ) {
     begun(rt, may, name);
-    let now = state(rt, alloc, name);
-    let answer = store.snapshot(alloc, &now);
+    let answer = saves::snapshot(rt, alloc, store, name);
     answered(rt, may, name, answer);
 }
 
@@ -137,10 +135,10 @@ fn the_save_behind_one_that_failed_is_a_full_one(rt: HostRuntime) {
     let (store, _) = open_on(&rt, alloc, disk);
     holds(&rt, store.is_some());
     if let Some(mut store) = store {
-        let (o, c) = (state(&rt, alloc, "o"), state(&rt, alloc, "c"));
-        same(&rt, store.full(alloc, &o), Ok(()));
-        same(&rt, store.snapshot(alloc, &c), Err(SaveFault::Disk));
-        same(&rt, store.snapshot(alloc, &c), Ok(()));
+        same(&rt, saves::full(&rt, alloc, &mut store, "o"), Ok(()));
+        let failed = Err(SaveFault::Disk);
+        same(&rt, saves::snapshot(&rt, alloc, &mut store, "c"), failed);
+        same(&rt, saves::snapshot(&rt, alloc, &mut store, "c"), Ok(()));
         let mut disk = store.into_disk();
         let found = must(&rt, Store::check(alloc, &mut disk));
         same(&rt, found.right, Some((2, 0)));

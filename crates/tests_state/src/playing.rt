@@ -9,7 +9,7 @@ use elem_tree::LayerTree;
 use std::alloc::Global;
 use std::process::Abort;
 use tree_memory::{CopyTree, Remembers};
-use ws_core::{Answer, Core, NoMemory};
+use ws_core::{Answer, BuilderNames, Core, NoMemory};
 use ws_elem::ElemMap;
 
 /// Two cores in which the same was done.
@@ -23,7 +23,7 @@ fn fresh(alloc: Global) -> Result<Both, NoMemory> {
     let tree = ElemMap::fresh(alloc)?;
     Ok(Both {
         layered: Core::fresh(alloc)?,
-        copied: Core::over(alloc, CopyTree::of(alloc, tree))?,
+        copied: Core::over(alloc, CopyTree::of(alloc, tree), BuilderNames::empty(alloc))?,
     })
 }
 

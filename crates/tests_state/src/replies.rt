@@ -63,6 +63,7 @@ fn put_answer(rt: &impl Abort, out: &mut String, answer: &Answer) {
             put(rt, out, name.value().text());
         }
         Answer::Seen(_) => put(rt, out, "seen"),
+        Answer::Plan(_) | Answer::Handed(_) | Answer::Committed { .. } => put(rt, out, "served"),
         Answer::Refused(refusal) => put_refusal(rt, out, refusal.value()),
     }
 }

@@ -8,18 +8,22 @@ use Rattle.op_kind.specs.declared.answer.OpAnswer.TheVariants as op_answers
 use Rattle.op_kind.specs.Effects as ops
 use Rattle.pass_table.specs.Passes.{is_quiet}
 use Rattle.core_event.specs.declared.event.Event.{Event}
-use Rattle.core_event.specs.declared.event.Event.TheVariants.{Enter, Leave, Schedule, Sleep, Wake, Cancel, Take, Finish, Begin, TryBegin, End, Transfer, Batch, EndBatch, Checkpoint, Operation}
+use Rattle.core_event.specs.declared.event.Event.TheVariants.{Enter, Leave, Schedule, Sleep, Wake, Cancel, Take, Finish, Begin, TryBegin, End, Transfer, Batch, EndBatch, Checkpoint, Operation, Service}
 use Rattle.core_event.specs.declared.reply.Answer.{Answer}
-use Rattle.core_event.specs.declared.reply.Answer.TheVariants.{None}
 use Rattle.core_event.specs.declared.reply.Refusal.{Refusal}
 use Rattle.core_event.specs.declared.reply.Reply.{Reply}
-use Rattle.core_event.specs.Events.{is_checkpoint, operation_of}
+use Rattle.core_event.specs.declared.service.Purpose.TheVariants.{Build}
+use Rattle.core_event.specs.declared.service.ServiceEvent.{ServiceEvent}
+use Rattle.core_event.specs.declared.service.ServiceEvent.TheVariants.{Checkout, CheckIn, Handed, Commit, Clean}
+use Rattle.core_event.specs.Events.{is_checkpoint, operation_of, service_of}
 use Rattle.core_event.specs.Replies.{answered, is_attempt}
 use Rattle.job_manager.specs.declared.manager.JobManager.{JobManager}
 use Rattle.job_manager.specs.Effects as managing
 use Rattle.ws_core.specs.States.{Moment}
-use Rattle.ws_core.specs.Refusals.{refusal}
-use Rattle.ws_core.specs.Effects.{effect_by}
+use Rattle.build_due.specs.declared.site.Site.{Site}
+use Rattle.service_desk.specs.Sites.{site_in}
+use Rattle.ws_core.specs.Refusals.{current, refusal}
+use Rattle.ws_core.specs.Effects.{clean_for, commit_for, effect_by, hand, other_effect, serve}
 use Rattle.ws_core.specs.Steps.{acted, act, told, tells, step}
 use Rattle.ws_core.specs.Sessions.{IsConsistent}
 use Rattle.ws_core.proofs.Stepped.{still}
@@ -56,16 +60,40 @@ managed_same m k Batch h = cc
 managed_same m k EndBatch h = cc
 managed_same m k Checkpoint h = cc
 managed_same m k (Operation op) h = cc
+managed_same m k (Service x) h = cc
+
+-- nor is what is served
+serve_done : (s : Moment) (k : ℕ) (e : Event) (x : ServiceEvent) → is_attempt e (serve s k x).1 ≡ true → ⊥
+serve_done s k e (Checkout (Build kind scope)) h = cc
+serve_done s k e (CheckIn outcome) h = cc
+serve_done s k e (Handed project index kind) h = by (site_in s.resources.tree project index) h
+  where
+    by : (o : Option Site) → is_attempt e (hand s o kind).1 ≡ true → ⊥
+    by nothing g = cc
+    by (Some site) g = cc
+serve_done s k e (Commit edits) h = by (current s) h
+  where
+    by : (o : Option Site) → is_attempt e (commit_for s o edits).1 ≡ true → ⊥
+    by nothing g = cc
+    by (Some site) g = cc
+serve_done s k e (Clean project index) h = by (site_in s.resources.tree project index) h
+  where
+    by : (o : Option Site) → is_attempt e (clean_for s o).1 ≡ true → ⊥
+    by nothing g = cc
+    by (Some site) g = cc
 
 act_same : (s : Moment) (k : ℕ) (e : Event) → is_attempt e (act s k e).1 ≡ true → (act s k e).0 ≡ s
-act_same s k e h = by (refusal s k e) (operation_of e) refl h
+act_same s k e h = by (refusal s k e) (operation_of e) (service_of e) refl refl h
   where
-    by : (r : Option Refusal) (o : Option Op) → operation_of e ≡ o → is_attempt e (acted r s k e).1 ≡ true → (acted r s k e).0 ≡ s
-    by (Some r) o is g = refl
-    by nothing nothing is g =
-        let same = managed_same s.manager k e (sym (ap (λ x. is_attempt e (effect_by x s k e).1) is) ∙ g) in
-        ap (λ x. (effect_by x s k e).0) is ∙ ap (λ m. record s { manager = m }) same
-    by nothing (Some op) is g = absurd (op_answer e (ops.effect s.resources op).1 (sym (ap (λ x. is_attempt e (effect_by x s k e).1) is) ∙ g))
+    by : (r : Option Refusal) (o : Option Op) (v : Option ServiceEvent) → operation_of e ≡ o → service_of e ≡ v → is_attempt e (acted r s k e).1 ≡ true → (acted r s k e).0 ≡ s
+    by (Some r) o v is plain g = refl
+    by nothing (Some op) v is plain g = absurd (op_answer e (ops.effect s.resources op).1 (sym (ap (λ x. is_attempt e (effect_by x s k e).1) is) ∙ g))
+    by nothing nothing (Some x) is plain g =
+        absurd (serve_done s k e x (sym (ap (λ y. is_attempt e (effect_by y s k e).1) is ∙ ap (λ y. is_attempt e (other_effect y s k e).1) plain) ∙ g))
+    by nothing nothing nothing is plain g =
+        let path = ap (λ y. effect_by y s k e) is ∙ ap (λ y. other_effect y s k e) plain in
+        let same = managed_same s.manager k e (sym (ap (λ (d : Moment × Answer). is_attempt e d.1) path) ∙ g) in
+        ap (λ (d : Moment × Answer). d.0) path ∙ ap (λ m. record s { manager = m }) same
 
 -- the state after an attempt is the one before it
 pub attempt_same : (s : Moment) (k : ℕ) (e : Event) → IsConsistent s → is_attempt e (step s k e).1.answer ≡ true → (step s k e).0 ≡ s
@@ -94,6 +122,7 @@ attempt_same s k e x h =
         by EndBatch g = refl
         by Checkpoint g = cc
         by (Operation op) g = refl
+        by (Service x) g = refl
 
     place : (act s k e).0 ≡ s → is_attempt e (act s k e).1 ≡ true → tells e (act s k e).0 ≡ true → (act s k e).0.remembered.told ≡ (act s k e).0.resources.tree
     place same g t =

@@ -1,9 +1,9 @@
-mod Four
-mod Stepped
+pub mod Stepped
 pub mod Grown
 mod Told
+pub mod OpenOutput
 pub mod SoundKept
 mod SessionsKept
 mod Attempts
-mod Renewing
-mod Roomy
+pub mod Roomy
+mod Served

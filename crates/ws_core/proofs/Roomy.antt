@@ -1,62 +1,111 @@
 -- Room for entries stays.
-use Rattle.std.proofs.Common.{◌≡◌, ◌≤◌, ◌+◌, ◌⊎◌, inl, inr, ℕ, Bool, true, false, List, length, refl, sym, ap, ◌∙◌, subst, arith}
+use Rattle.std.proofs.Common.{◌≡◌, ◌≤◌, ◌+◌, inl, inr, ℕ, Bool, true, false, length, refl, sym, ap, ◌∙◌, subst, arith}
 use Rattle.std.specs.Prelude.{Option, Some, None, Result, Ok, Err, IfOk, OnErr}
-use Rattle.sched_rules.specs.declared.ws_atom.WsAtom.{WsAtom}
 use Rattle.rule_table.specs.Tables.{last_rule, rules_held}
-use Rattle.rule_table.specs.declared.held.Held.{Held}
 use Rattle.op_kind.specs.declared.op.Op.{Op}
 use Rattle.core_event.specs.declared.event.Event.{Event}
-use Rattle.core_event.specs.declared.event.Event.TheVariants.{Enter, Leave, Schedule, Sleep, Wake, Cancel, Take, Finish, Begin, TryBegin, End, Transfer, Batch, EndBatch, Checkpoint, Operation}
+use Rattle.core_event.specs.declared.event.Event.TheVariants.{End, Operation, Service}
 use Rattle.core_event.specs.declared.reply.Answer.{Answer}
 use Rattle.core_event.specs.declared.reply.Refusal.{Refusal}
 use Rattle.core_event.specs.declared.reply.Reply.{Reply}
 use Rattle.core_event.specs.declared.twice.Twice.{Twice}
-use Rattle.core_event.specs.Events.{operation_of}
+use Rattle.core_event.specs.declared.service.Purpose.TheVariants.{Build}
+use Rattle.core_event.specs.declared.service.ServiceEvent.{ServiceEvent}
+use Rattle.core_event.specs.declared.service.ServiceEvent.TheVariants.{Checkout, CheckIn, Handed, Commit, Clean}
+use Rattle.core_event.specs.Events.{service_of}
 use Rattle.core_event.specs.Twice.{doubled}
 use Rattle.job_manager.specs.declared.manager.JobManager.{JobManager}
 use Rattle.job_manager.specs.Effects as managing
 use Rattle.job_manager.proofs.Counts.{held_more, one_fewer}
 use Rattle.job_manager.proofs.Ended.{is_last}
 use Rattle.ws_core.specs.States.{Moment}
-use Rattle.ws_core.specs.Refusals.{refusal}
+use Rattle.build_due.specs.declared.site.Site.{Site}
+use Rattle.service_desk.specs.Sites.{site_in}
+use Rattle.ws_core.specs.Refusals.{current, refusal}
+use Rattle.ws_core.specs.Effects.{clean_for, commit_for, hand, serve}
 use Rattle.ws_core.specs.Steps.{acted, act, told, tells, step}
 use Rattle.ws_core.specs.Inside.Rooms.{Fits, HasRoom}
 use Rattle.job_manager.specs.Ends.{EndsLast}
-use Rattle.ws_core.proofs.Stepped.{act_managed}
+use Rattle.ws_core.proofs.Stepped.{Concern, OfOperation, OfService, OfManager, concern_of, act_managed}
 
 told_manager : (b : Bool) (s : Moment) (a : Answer) → (told b s a).0.manager ≡ s.manager
 told_manager true s a = refl
 told_manager false s a = refl
 
--- what an operation leaves of the jobs and passes
-operation_manager : (s : Moment) (k : ℕ) (op : Op) (r : Option Refusal) → (acted r s k (Operation op)).0.manager ≡ s.manager
-operation_manager s k op None = refl
-operation_manager s k op (Some r) = refl
+-- what an event leaves of the jobs and passes
+act_manager : (s : Moment) (k : ℕ) (e : Event) → service_of e ≡ None → (act s k e).0.manager ≡ (managing.outcome s.manager k e).0
+act_manager s k e plain = by (concern_of e)
+  where
+    operated : (op : Op) (r : Option Refusal) → (acted r s k (Operation op)).0.manager ≡ s.manager
+    operated op None = refl
+    operated op (Some r) = refl
 
-act_manager : (s : Moment) (k : ℕ) (e : Event) → (act s k e).0.manager ≡ (managing.outcome s.manager k e).0
-act_manager s k (Operation op) = operation_manager s k op (refusal s k (Operation op))
-act_manager s k Enter = ap (λ (d : Moment × Answer). d.0.manager) (act_managed s k Enter refl)
-act_manager s k Leave = ap (λ (d : Moment × Answer). d.0.manager) (act_managed s k Leave refl)
-act_manager s k (Schedule name priority rule asleep) = ap (λ (d : Moment × Answer). d.0.manager) (act_managed s k (Schedule name priority rule asleep) refl)
-act_manager s k (Sleep name) = ap (λ (d : Moment × Answer). d.0.manager) (act_managed s k (Sleep name) refl)
-act_manager s k (Wake name) = ap (λ (d : Moment × Answer). d.0.manager) (act_managed s k (Wake name) refl)
-act_manager s k (Cancel name) = ap (λ (d : Moment × Answer). d.0.manager) (act_managed s k (Cancel name) refl)
-act_manager s k Take = ap (λ (d : Moment × Answer). d.0.manager) (act_managed s k Take refl)
-act_manager s k Finish = ap (λ (d : Moment × Answer). d.0.manager) (act_managed s k Finish refl)
-act_manager s k (Begin rule) = ap (λ (d : Moment × Answer). d.0.manager) (act_managed s k (Begin rule) refl)
-act_manager s k (TryBegin rule) = ap (λ (d : Moment × Answer). d.0.manager) (act_managed s k (TryBegin rule) refl)
-act_manager s k (End rule) = ap (λ (d : Moment × Answer). d.0.manager) (act_managed s k (End rule) refl)
-act_manager s k (Transfer to) = ap (λ (d : Moment × Answer). d.0.manager) (act_managed s k (Transfer to) refl)
-act_manager s k Batch = ap (λ (d : Moment × Answer). d.0.manager) (act_managed s k Batch refl)
-act_manager s k EndBatch = ap (λ (d : Moment × Answer). d.0.manager) (act_managed s k EndBatch refl)
-act_manager s k Checkpoint = ap (λ (d : Moment × Answer). d.0.manager) (act_managed s k Checkpoint refl)
+    never : (x : ServiceEvent) → Some x ≡ None → ⊥
+    never x h = cc
+
+    by : Concern e → (act s k e).0.manager ≡ (managing.outcome s.manager k e).0
+    by (OfOperation op is) = subst (λ z. (act s k z).0.manager ≡ (managing.outcome s.manager k z).0) (sym is) (operated op (refusal s k (Operation op)))
+    by (OfService x is) = absurd (never x (sym (ap service_of is) ∙ plain))
+    by (OfManager none other) = ap (λ (d : Moment × Answer). d.0.manager) (act_managed s k e none other)
 
 -- what a step leaves of the jobs and passes
-pub step_manager : (s : Moment) (k : ℕ) (e : Event) → (step s k e).0.manager ≡ (managing.outcome s.manager k e).0
-step_manager s k e = told_manager (tells e (act s k e).0) (act s k e).0 (act s k e).1 ∙ act_manager s k e
+pub step_manager : (s : Moment) (k : ℕ) (e : Event) → service_of e ≡ None → (step s k e).0.manager ≡ (managing.outcome s.manager k e).0
+step_manager s k e plain = told_manager (tells e (act s k e).0) (act s k e).0 (act s k e).1 ∙ act_manager s k e plain
 
-step_held : (s : Moment) (k : ℕ) (e : Event) → length (step s k e).0.manager.passes.rules ≡ length (managing.outcome s.manager k e).0.passes.rules
-step_held s k e = ap (λ (m : JobManager). length m.passes.rules) (step_manager s k e)
+-- the manager, with these services
+abbrev pub serving : JobManager → Option ℕ → JobManager
+serving m services = record m { passes = record (m.passes) { services = services } }
+
+-- what concerns the services changes of the jobs and passes at most who has them
+pub service_manager : (s : Moment) (k : ℕ) (x : ServiceEvent) → (services : Option ℕ) × ((step s k (Service x)).0.manager ≡ serving s.manager services)
+service_manager s k x =
+    let done = by (refusal s k (Service x)) in
+    (done.0, told_manager (tells (Service x) (act s k (Service x)).0) (act s k (Service x)).0 (act s k (Service x)).1 ∙ done.1)
+  where
+    Is : Moment × Answer → Type 0
+    Is d = (services : Option ℕ) × (d.0.manager ≡ serving s.manager services)
+
+    served : (v : ServiceEvent) → Is (serve s k v)
+    served (Checkout (Build kind scope)) = (Some k, refl)
+    served (CheckIn outcome) = (None, refl)
+    served (Handed project index kind) = of (site_in s.resources.tree project index)
+      where
+        of : (o : Option Site) → Is (hand s o kind)
+        of None = (s.manager.passes.services, refl)
+        of (Some site) = (s.manager.passes.services, refl)
+    served (Commit edits) = of (current s)
+      where
+        of : (o : Option Site) → Is (commit_for s o edits)
+        of None = (s.manager.passes.services, refl)
+        of (Some site) = (s.manager.passes.services, refl)
+    served (Clean project index) = of (site_in s.resources.tree project index)
+      where
+        of : (o : Option Site) → Is (clean_for s o)
+        of None = (s.manager.passes.services, refl)
+        of (Some site) = (s.manager.passes.services, refl)
+
+    by : (r : Option Refusal) → Is (acted r s k (Service x))
+    by None = served x
+    by (Some r) = (s.manager.passes.services, refl)
+
+-- ---- how many rules are held
+
+-- at most one more than before
+held_after : (s : Moment) (k : ℕ) (e : Event) → length (step s k e).0.manager.passes.rules ≤ length s.manager.passes.rules + 1
+held_after s k e = by (concern_of e)
+  where
+    plainly : service_of e ≡ None → length (step s k e).0.manager.passes.rules ≤ length s.manager.passes.rules + 1
+    plainly plain = let same = ap (λ (m : JobManager). length m.passes.rules) (step_manager s k e plain) in let one = held_more s.manager k e in omega (arith, same, one)
+
+    served : (x : ServiceEvent) → length (step s k (Service x)).0.manager.passes.rules ≤ length s.manager.passes.rules + 1
+    served x =
+        let same : length (step s k (Service x)).0.manager.passes.rules ≡ length s.manager.passes.rules = ap (λ (m : JobManager). length m.passes.rules) (service_manager s k x).1 in
+        omega (arith, same)
+
+    by : Concern e → length (step s k e).0.manager.passes.rules ≤ length s.manager.passes.rules + 1
+    by (OfOperation op is) = plainly (ap service_of is)
+    by (OfService x is) = subst (λ z. length (step s k z).0.manager.passes.rules ≤ length s.manager.passes.rules + 1) (sym is) (served x)
+    by (OfManager none plain) = plainly plain
 
 ended_held : (m : JobManager) (k : ℕ) (e : Event) → EndsLast m.passes.rules k e → length (managing.outcome m k e).0.passes.rules + 1 ≡ length m.passes.rules
 ended_held m k e h =
@@ -66,12 +115,9 @@ ended_held m k e h =
 
 stepped : (s : Moment) (k : ℕ) (e : Event) (len capacity after : ℕ) → HasRoom s.manager.passes.rules k e len capacity → after ≤ len + 1
     → Fits (step s k e).0.manager.passes.rules after capacity
-stepped s k e len capacity after (inl fits) more =
-    let held = step_held s k e in
-    let one = held_more s.manager k e in
-    omega (arith, held, one, fits, more)
+stepped s k e len capacity after (inl fits) more = let held = held_after s k e in omega (arith, held, fits, more)
 stepped s k e len capacity after (inr h) more =
-    let held = step_held s k e in
+    let held = ap (λ (m : JobManager). length m.passes.rules) (step_manager s k e (ap service_of h.0.ends)) in
     let one = ended_held s.manager k e h.0 in
     omega (arith, held, one, h.1, more)
 

@@ -9,13 +9,14 @@ use Rattle.delta_kind.specs.declared.node.DeltaNode.{DeltaNode}
 use Rattle.core_event.specs.declared.event.Event.{Event}
 use Rattle.core_event.specs.declared.entry.Entry.{Entry}
 use Rattle.core_event.specs.Replies.{is_attempt}
+use Rattle.res_path.specs.Paths.{Names}
 use Rattle.ws_core.specs.States.{Moment}
 use Rattle.ws_core.specs.Steps.{step}
-use Rattle.ws_core.specs.Histories.{after, fresh, has_entered, notices, replay, told_of, written}
-use Rattle.ws_core.specs.Sessions.{IsConsistent, Session, IsSession}
+use Rattle.ws_core.specs.Histories.{after, fresh_for, has_entered, notices, replay, told_of, written}
+use Rattle.ws_core.specs.Sessions.{AsStart, IsConsistent, Session, IsSession}
 use Rattle.ws_core.proofs.Told.{told_notices}
 use Rattle.ws_core.proofs.Grown.{legal_more, replay_more}
-use Rattle.ws_core.proofs.SoundKept.{fresh_sound, steady, step_sound, step_start}
+use Rattle.ws_core.proofs.SoundKept.{fresh_sound, step_sound, step_start}
 use Rattle.ws_core.proofs.Attempts.{attempt_same}
 
 -- the replies tell the notices
@@ -26,7 +27,7 @@ session_told x is = told_notices x.opened x.history is.opened_told is.legal
 pub told_between : (x : Session) (nodes : List DeltaNode) → IsSession x → (SameContents x.state.remembered.start x.state.resources.tree → TellsContents x.state.remembered.start x.state.resources.tree nodes)
     → TellsContents x.opened.resources.tree x.state.resources.tree nodes
 told_between x nodes is tells =
-    subst (λ t. TellsContents t x.state.resources.tree nodes) is.start (tells (steady x.state is.sound).start_known.tree)
+    subst (λ t. TellsContents t x.state.resources.tree nodes) is.start (tells (is.sound.known x.state.remembered.start (AsStart refl)).tree)
 
 -- at each front of the history the state that it leads to is sound
 replay_sound : (s : Moment) (h : List Entry) → IsConsistent s → IsConsistent (replay s h)
@@ -36,25 +37,26 @@ replay_sound s (e ∷ h) x = replay_sound (after s e) h (step_sound s e.pass e.e
 pub fronts_apart : (x : Session) → IsSession x → (n : ℕ) → IsApart atom_contains atom_conflicts (replay x.opened (take n x.history)).manager.passes.rules
 fronts_apart x is n = (replay_sound x.opened (take n x.history) is.opened_sound).apart
 
-fresh_session : IsSession (record { opened = fresh; history = []; state = fresh })
-fresh_session = record {
+fresh_session : (builders : Names) → IsSession (record { opened = fresh_for builders; history = []; state = fresh_for builders })
+fresh_session builders = record {
   opened_start = refl;
   opened_told = refl;
   start = refl;
-  opened_sound = fresh_sound;
+  opened_sound = fresh_sound builders;
   legal = record { replies = refl; entered = refl; events = refl };
   state = refl;
-  sound = fresh_sound;
+  sound = fresh_sound builders;
 }
 
 -- the fresh workspace is one
-pub opens : (o s : Moment) (h : List Entry) → o ≡ s → s ≡ fresh → h ≡ [] → IsSession (record { opened = o; history = h; state = s })
-opens o s h same is empty =
-    let back : fresh ≡ o = sym (same ∙ is) in
-    let back2 : fresh ≡ s = sym is in
+pub opens : (builders : Names) (o s : Moment) (h : List Entry) → o ≡ s → s ≡ fresh_for builders → h ≡ [] → IsSession (record { opened = o; history = h; state = s })
+opens builders o s h same is empty =
+    let back : fresh_for builders ≡ o = sym (same ∙ is) in
+    let back2 : fresh_for builders ≡ s = sym is in
     let none : [] ≡ h = sym empty in
-    let path : ◌≡◌ {A = Session} (record { opened = fresh; history = []; state = fresh }) (record { opened = o; history = h; state = s }) = λ i. record { opened = back i; history = none i; state = back2 i } in
-    subst IsSession path fresh_session
+    let path : ◌≡◌ {A = Session} (record { opened = fresh_for builders; history = []; state = fresh_for builders }) (record { opened = o; history = h; state = s }) =
+    λ i. record { opened = back i; history = none i; state = back2 i } in
+    subst IsSession path (fresh_session builders)
 
 -- so is what an event leaves
 goes_on : (x : Session) (k : ℕ) (e : Event) → IsSession x → has_entered k x.state ≡ true → (b : Bool) → is_attempt e (step x.state k e).1.answer ≡ b

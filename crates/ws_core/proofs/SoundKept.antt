@@ -1,149 +1,253 @@
 -- Each step keeps a state sound.
-use Rattle.std.proofs.Common.{◌≡◌, ℕ, Bool, true, false, ◌||◌, List, [], ◌∷◌, refl, sym, ap, ◌∙◌, subst}
-use Rattle.std.specs.Prelude.{Option, Some, None, Result, Ok, Err, IfOk, OnErr}
+use Rattle.std.proofs.Common.{◌≡◌, ◌⊎◌, inl, inr, ℕ, Bool, true, false, cond, not, ◌||◌, [], ◌∷◌, refl, sym, ap, ◌∙◌, subst}
+use Rattle.std.specs.Prelude.{Option, Some, None, Result, Ok, Err, IfOk, OnErr, IfSome}
 use Rattle.std.specs.Option.{option_map, option_or}
-use Rattle.ws_elem.specs.Stamps.{SameContents, AgreeByStamps}
-use Rattle.ws_elem.specs.Trees.{Tree, Whole}
-use Rattle.ws_elem.proofs.Fresh.{whole-fresh_tree}
+use Rattle.std.specs.Ordering.{eq_by_cmp}
+use Rattle.std.specs.FinMap.{get, get-empty, get-insert, get-remove, get-retain_keys, insert, remove}
+use Rattle.ws_elem.specs.Stamps.{SameContents}
+use Rattle.ws_elem.specs.Trees.{Tree, Whole, fresh_tree}
+use Rattle.ws_elem.specs.declared.element.Element.{Element}
+use Rattle.ws_elem.specs.declared.kind.Kind.TheVariants.{File}
+use Rattle.builder_api.specs.declared.edits.Edits.{Edits}
 use Rattle.op_kind.specs.declared.op.Op.{Op}
 use Rattle.op_kind.specs.declared.refusal.OpRefusal.{OpRefusal}
 use Rattle.op_kind.specs.Effects as does
 use Rattle.op_kind.specs.Refusals as causes
-use Rattle.op_kind.specs.Resources.{Resources}
 use Rattle.op_kind.specs.Sound as ops
 use Rattle.op_kind.specs.Stamps.{IsKnown}
 use Rattle.op_rule.specs.Rules.{operation_rule}
 use Rattle.op_sound.proofs.SoundFresh as fresh_resources
 use Rattle.op_sound.proofs.SoundKept as kept
+use Rattle.output_edits.specs.declared.refusal.EditRefusal.{EditRefusal}
+use Rattle.output_commit.specs.Committed as outputs
+use Rattle.output_commit.proofs.SoundCommit.{clean_known, clean_sound, commit_known, commit_sound}
+use Rattle.build_due.specs.declared.site.Site.{Site}
 use Rattle.pass_table.specs.Passes.{is_quiet}
+use Rattle.proj_desc.specs.FirstCause.{first_cause}
+use Rattle.service_desk.specs.Refusals.{not_serving, unrooted}
 use Rattle.core_event.specs.declared.event.Event.{Event}
+use Rattle.core_event.specs.declared.event.Event.TheVariants.{Operation, Service}
 use Rattle.core_event.specs.declared.reply.Answer.{Answer}
 use Rattle.core_event.specs.declared.reply.Refusal.{Refusal}
+use Rattle.core_event.specs.declared.reply.Refusal.TheVariants as refusals
 use Rattle.core_event.specs.declared.reply.Reply.{Reply}
+use Rattle.core_event.specs.declared.service.Purpose.TheVariants.{Build}
+use Rattle.core_event.specs.declared.service.ServiceEvent.{ServiceEvent}
+use Rattle.core_event.specs.declared.service.ServiceEvent.TheVariants.{Checkout, CheckIn, Handed, Commit, Clean}
 use Rattle.core_event.specs.declared.twice.Twice.{Twice}
 use Rattle.core_event.specs.Twice.{doubled}
-use Rattle.core_event.specs.declared.reply.Refusal.TheVariants as refusals
-use Rattle.core_event.specs.Events.{is_checkpoint, operation_of}
+use Rattle.core_event.specs.Events.{is_checkpoint}
 use Rattle.job_manager.specs.Admission.{admission}
 use Rattle.job_manager.specs.Effects as managing
 use Rattle.job_manager.proofs.Apart.{Apart, outcome_apart}
-use Rattle.ws_core.specs.States.{Moment, Remembered}
-use Rattle.ws_core.specs.Refusals.{operation_refusal, refusal, refusal_by}
-use Rattle.ws_core.specs.Effects.{effect_by, managed, operate}
+use Rattle.service_desk.specs.declared.desk.UnderWay.{UnderWay}
+use Rattle.service_desk.specs.Desks.{site_of}
+use Rattle.service_desk.specs.Sites.{site_in}
+use Rattle.ws_marks.specs.declared.record.Record.{Record}
+use Rattle.ws_marks.specs.Marked.{is_from}
+use Rattle.ws_marks.specs.Places.{Place, Records, place_cmp}
+use Rattle.ws_marks.proofs.Places.{place_cmp_exact, place_cmp_total}
+use Rattle.ws_content.specs.States.{Remembered, with_built, with_told}
+use Rattle.ws_content.specs.Deeds.{From, edit_refusal, forgets, forgotten, record_of}
+use Rattle.ws_core.specs.States.{Moment}
+use Rattle.ws_core.specs.Refusals.{current, edit_cause, no_build, service_causes}
+use Rattle.ws_core.specs.Effects.{clean_for, commit_for, hand, managed, operate, serve}
 use Rattle.ws_core.specs.Steps.{acted, act, told, tells, step}
-use Rattle.ws_core.specs.Histories.{fresh}
-use Rattle.ws_core.specs.Sessions.{IsConsistent}
-use Rattle.ws_core.proofs.Four.{agree, at, same_back}
-use Rattle.ws_core.proofs.Stepped.{act_managed}
+use Rattle.res_path.specs.Paths.{Names}
+use Rattle.ws_core.specs.Histories.{fresh_for}
+use Rattle.ws_core.specs.Sessions.{IsConsistent, IsPast, AsStart, AsTold, AsBuilt}
+use Rattle.ws_core.proofs.OpenOutput.{open_output}
+use Rattle.ws_core.proofs.Stepped.{Concern, OfOperation, OfService, OfManager, concern_of, act_keeps, act_managed}
 
 -- ---- but for what is quiet
 
 -- what holds of a state before anything is told
 pub record IsSteady (s : Moment) : Type 0 where
   pub resources : ops.IsConsistent s.resources
-  pub start : Whole s.remembered.start
-  pub told : Whole s.remembered.told
-  pub start_known : IsKnown s.resources s.remembered.start
-  pub told_known : IsKnown s.resources s.remembered.told
-  pub start_self : SameContents s.remembered.start s.remembered.start
-  pub told_start : SameContents s.remembered.told s.remembered.start
-  pub told_self : SameContents s.remembered.told s.remembered.told
+  pub whole : (t : Tree) → IsPast s.remembered t → Whole t
+  pub known : (t : Tree) → IsPast s.remembered t → IsKnown s.resources t
+  pub alike : (t u : Tree) → IsPast s.remembered t → IsPast s.remembered u → SameContents t u
   pub apart : Apart s.manager.passes.rules
 
 pub steady : (s : Moment) → IsConsistent s → IsSteady s
-steady s x =
-    let all = at s.resources.tree s.resources.shelf s.remembered.start s.remembered.told x.alike in
-    record {
-      resources = x.resources;
-      start = x.start;
-      told = x.told;
-      start_known = record { drawn = x.start_drawn; tree = all.0; shelf = all.1 };
-      told_known = record { drawn = x.told_drawn; tree = all.3; shelf = all.4 };
-      start_self = all.2;
-      told_start = all.5;
-      told_self = all.6;
-      apart = x.apart;
-    }
+steady s x = record { resources = x.resources; whole = x.whole; known = x.known; alike = x.alike; apart = x.apart }
 
 pub consistent : (s : Moment) → IsSteady s → (is_quiet s.manager.passes ≡ true → s.remembered.told ≡ s.resources.tree) → IsConsistent s
-consistent s x quiet = record {
-  resources = x.resources;
-  start = x.start;
-  told = x.told;
-  start_drawn = x.start_known.drawn;
-  told_drawn = x.told_known.drawn;
-  alike =
-      let tree = x.resources.tree_known in
-      agree s.resources.tree s.resources.shelf s.remembered.start s.remembered.told tree.tree tree.shelf x.resources.shelf_known.shelf
-      x.start_known.tree x.start_known.shelf x.start_self x.told_known.tree x.told_known.shelf x.told_start x.told_self;
-  apart = x.apart;
-  quiet = quiet;
+consistent s x quiet = record { resources = x.resources; whole = x.whole; known = x.known; alike = x.alike; apart = x.apart; quiet = quiet }
+
+-- ---- what is remembered
+
+same_back : (a b : Tree) → SameContents a b → SameContents b a
+same_back a b h p q = by (get b p) (get a q) (h q p)
+  where
+    by : (o u : Option Element)
+        → IfSome u (λ e. IfSome o (λ f. e.kind ≡ File → f.kind ≡ File → e.stamp ≡ f.stamp → e.bytes ≡ f.bytes))
+        → IfSome o (λ e. IfSome u (λ f. e.kind ≡ File → f.kind ≡ File → e.stamp ≡ f.stamp → e.bytes ≡ f.bytes))
+    by None u g = tt
+    by (Some e) None g = tt
+    by (Some e) (Some f) g = λ e_file f_file stamps. sym (g f_file e_file (sym stamps))
+
+-- what is remembered then was remembered before, or is the tree then: such a state is sound too
+goes : (s t : Moment) → IsSteady s → ops.IsConsistent t.resources → ((u : Tree) → IsKnown s.resources u → IsKnown t.resources u)
+    → ((u : Tree) → IsPast t.remembered u → IsPast s.remembered u ⊎ (u ≡ t.resources.tree)) → Apart t.manager.passes.rules → IsSteady t
+goes s t x now known past apart = record {
+  resources = now;
+  whole = λ u p. whole u (past u p);
+  known = λ u p. still_known u (past u p);
+  alike = λ u v p q. alike u v (past u p) (past v q);
+  apart = apart;
 }
+  where
+    Either : Tree → Type 0
+    Either u = IsPast s.remembered u ⊎ (u ≡ t.resources.tree)
+
+    whole : (u : Tree) → Either u → Whole u
+    whole u (inl p) = x.whole u p
+    whole u (inr e) = subst Whole (sym e) now.tree
+
+    still_known : (u : Tree) → Either u → IsKnown t.resources u
+    still_known u (inl p) = known u (x.known u p)
+    still_known u (inr e) = subst (IsKnown t.resources) (sym e) now.tree_known
+
+    alike : (u v : Tree) → Either u → Either v → SameContents u v
+    alike u v (inl p) (inl q) = x.alike u v p q
+    alike u v h (inr e) = subst (SameContents u) (sym e) (still_known u h).tree
+    alike u v (inr e) (inl q) = subst (λ w. SameContents w v) (sym e) (same_back v t.resources.tree (known v (x.known v q)).tree)
+
+-- where what was built last is found there too, or has the tree that is there now
+past_of : (r : Remembered) (built : Records Tree) (now : Tree) → ((place : Place) (b : Record Tree) → get built place ≡ Some b → (get r.built place ≡ Some b) ⊎ (b.tree ≡ now))
+    → (u : Tree) → IsPast (with_built r built) u → IsPast r u ⊎ (u ≡ now)
+past_of r built now found u (AsStart e) = inl (AsStart e)
+past_of r built now found u (AsTold e) = inl (AsTold e)
+past_of r built now found u (AsBuilt place b got e) = by (found place b got)
+  where
+    by : (get r.built place ≡ Some b) ⊎ (b.tree ≡ now) → IsPast r u ⊎ (u ≡ now)
+    by (inl g) = inl (AsBuilt place b g e)
+    by (inr g) = inr (e ∙ g)
+
+told_past : (r : Remembered) (now u : Tree) → IsPast (with_told r now) u → IsPast r u ⊎ (u ≡ now)
+told_past r now u (AsStart e) = inl (AsStart e)
+told_past r now u (AsTold e) = inr e
+told_past r now u (AsBuilt place b got e) = inl (AsBuilt place b got e)
+
+in_all : (c : Bool) (o : Option (Record Tree)) (b : Record Tree) → cond c o None ≡ Some b → o ≡ Some b
+in_all true o b h = h
+in_all false o b h = cc
+
+in_others : (c : Bool) (o : Option (Record Tree)) (b : Record Tree) → cond c None o ≡ Some b → o ≡ Some b
+in_others true o b h = cc
+in_others false o b h = h
+
+in_either : (c : Bool) (o : Option (Record Tree)) (new b : Record Tree) → cond c (Some new) o ≡ Some b → (o ≡ Some b) ⊎ (b.tree ≡ new.tree)
+in_either true o new b h = let same : new ≡ b = cc in inr (ap (λ (x : Record Tree). x.tree) (sym same))
+in_either false o new b h = inl h
+
+forgotten_there : (from : Option From) (built : Records Tree) (place : Place) (b : Record Tree) → get (forgotten from built) place ≡ Some b → get built place ≡ Some b
+forgotten_there None built place b h = h
+forgotten_there (Some from) built place b h =
+    let stays : Place → Bool = λ k. not (is_from from.0 from.1 k) in
+    in_all (stays place) (get built place) b (sym (get-retain_keys built stays place (λ x e. ap stays (sym (place_cmp_exact place x e)))) ∙ h)
+
+removed_there : (built : Records Tree) (k place : Place) (b : Record Tree) → get (remove built k) place ≡ Some b → get built place ≡ Some b
+removed_there built k place b h = in_others (eq_by_cmp place_cmp place k) (get built place) b (sym (get-remove place_cmp_total built k place) ∙ h)
+
+inserted_there : (built : Records Tree) (k : Place) (new : Record Tree) (place : Place) (b : Record Tree) → get (insert built k new) place ≡ Some b
+    → (get built place ≡ Some b) ⊎ (b.tree ≡ new.tree)
+inserted_there built k new place b h = in_either (eq_by_cmp place_cmp place k) (get built place) new b (sym (get-insert place_cmp_total built k new place) ∙ h)
 
 -- ---- what each event leaves
 
 -- the tree is told, with what is there
-told_now : (s : Moment) → IsSteady s → IsSteady (record s { remembered = record (s.remembered) { told = s.resources.tree } })
-told_now s x = record {
-  resources = x.resources;
-  start = x.start;
-  told = x.resources.tree;
-  start_known = x.start_known;
-  told_known = x.resources.tree_known;
-  start_self = x.start_self;
-  told_start = same_back s.remembered.start s.resources.tree x.start_known.tree;
-  told_self = x.resources.tree_known.tree;
-  apart = x.apart;
-}
+told_now : (s : Moment) (a : Answer) → IsSteady s → IsSteady (told true s a).0
+told_now s a x = goes s (told true s a).0 x x.resources (λ u k. k) (told_past s.remembered s.resources.tree) x.apart
 
-not_refused : (a : Option Refusal) (x : Option OpRefusal) → option_or a (option_map refusals.Operation x) ≡ None → (a ≡ None) × (x ≡ None)
-not_refused None None h = (refl, refl)
+not_refused : (a : Option Refusal) (x : Option OpRefusal) → option_or a (option_map refusals.Operation x) ≡ None → x ≡ None
+not_refused None None h = refl
 not_refused None (Some x) h = cc
 not_refused (Some a) x h = cc
 
 operate_steady : (s : Moment) (op : Op) → causes.refusal s.resources op ≡ None → IsSteady s → IsSteady (operate s op).0
 operate_steady s op h x =
-    let r = (does.effect s.resources op).0 in
-    record {
-      resources = kept.effect_sound s.resources op x.resources h;
-      start = x.start;
-      told = x.told;
-      start_known = kept.effect_known s.resources op s.remembered.start x.resources h x.start_known;
-      told_known = kept.effect_known s.resources op s.remembered.told x.resources h x.told_known;
-      start_self = x.start_self;
-      told_start = x.told_start;
-      told_self = x.told_self;
-      apart = x.apart;
-    }
+    goes s (operate s op).0 x (kept.effect_sound s.resources op x.resources h) (λ u k. kept.effect_known s.resources op u x.resources h k)
+    (past_of s.remembered (forgotten (forgets op) s.remembered.built) (does.effect s.resources op).0.tree (λ place b got. inl (forgotten_there (forgets op) s.remembered.built place b got)))
+    x.apart
 
 managed_steady : (s : Moment) (k : ℕ) (e : Event) → IsSteady s → IsSteady (managed s (managing.outcome s.manager k e)).0
-managed_steady s k e x = record {
-  resources = x.resources;
-  start = x.start;
-  told = x.told;
-  start_known = x.start_known;
-  told_known = x.told_known;
-  start_self = x.start_self;
-  told_start = x.told_start;
-  told_self = x.told_self;
-  apart = outcome_apart s.manager k e x.apart;
-}
+managed_steady s k e x = record { resources = x.resources; whole = x.whole; known = x.known; alike = x.alike; apart = outcome_apart s.manager k e x.apart }
+
+commit_steady : (s : Moment) (site : Site) (e : Edits) → outputs.IsOpenOutput s.resources.tree site.output → outputs.refusal s.resources site.output site.index e ≡ None → IsSteady s
+    → IsSteady (commit_for s (Some site) e).0
+commit_steady s site e there h x =
+    let after = outputs.committed s.resources site.output site.index e in
+    goes s (commit_for s (Some site) e).0 x (commit_sound s.resources site.output site.index e there x.resources h)
+    (λ u k. commit_known s.resources site.output site.index e u there x.resources h k)
+    (past_of s.remembered (insert s.remembered.built (site.project, site.index) (record_of site after.tree)) after.tree
+    (λ place b got. inserted_there s.remembered.built (site.project, site.index) (record_of site after.tree) place b got))
+    x.apart
+
+clean_steady : (s : Moment) (site : Site) → outputs.IsOpenOutput s.resources.tree site.output → IsSteady s → IsSteady (clean_for s (Some site)).0
+clean_steady s site there x =
+    goes s (clean_for s (Some site)).0 x (clean_sound s.resources site.output site.index there x.resources) (λ u k. clean_known s.resources site.output site.index u there x.resources k)
+    (past_of s.remembered (remove s.remembered.built (site.project, site.index)) (outputs.cleaned s.resources site.output site.index).tree
+    (λ place b got. inl (removed_there s.remembered.built (site.project, site.index) place b got)))
+    x.apart
+
+-- the command that is under way has its output there
+under_output : (t : Tree) (u : Option UnderWay) (site : Site) → site_of t u ≡ Some site → outputs.IsOpenOutput t site.output
+under_output t None site h = absurd (no h)
+  where
+    no : None ≡ Some site → ⊥
+    no g = cc
+under_output t (Some u) site h = open_output t u.project u.index site h
+
+-- and its edits aren't refused where the commit isn't
+no_cause : (a b : Option Refusal) (r : Option EditRefusal) → option_or a (option_or None (option_or b (option_or (option_map edit_refusal r) None))) ≡ None → r ≡ None
+no_cause None None None h = refl
+no_cause None None (Some r) h = cc
+no_cause None (Some b) r h = cc
+no_cause (Some a) b r h = cc
+
+serve_steady : (s : Moment) (k : ℕ) (x : ServiceEvent) → first_cause (service_causes s k x) ≡ None → IsSteady s → IsSteady (serve s k x).0
+serve_steady s k (Checkout (Build kind scope)) h x = record { resources = x.resources; whole = x.whole; known = x.known; alike = x.alike; apart = x.apart }
+serve_steady s k (CheckIn outcome) h x = record { resources = x.resources; whole = x.whole; known = x.known; alike = x.alike; apart = x.apart }
+serve_steady s k (Handed project index kind) h x = by (site_in s.resources.tree project index)
+  where
+    by : (o : Option Site) → IsSteady (hand s o kind).0
+    by None = x
+    by (Some site) = record { resources = x.resources; whole = x.whole; known = x.known; alike = x.alike; apart = x.apart }
+serve_steady s k (Commit edits) h x = by (current s) refl h
+  where
+    by : (o : Option Site) → current s ≡ o → first_cause (not_serving s.manager.passes k ∷ no_build o ∷ unrooted s.manager.passes.rules k ∷ edit_cause s.resources edits o ∷ []) ≡ None
+        → IsSteady (commit_for s o edits).0
+    by None is g = x
+    by (Some site) is g =
+        commit_steady s site edits (under_output s.resources.tree s.desk.under site is)
+        (no_cause (not_serving s.manager.passes k) (unrooted s.manager.passes.rules k) (outputs.refusal s.resources site.output site.index edits) g) x
+serve_steady s k (Clean project index) h x = by (site_in s.resources.tree project index) refl
+  where
+    by : (o : Option Site) → site_in s.resources.tree project index ≡ o → IsSteady (clean_for s o).0
+    by None is = x
+    by (Some site) is = clean_steady s site (open_output s.resources.tree project index site is) x
 
 act_steady : (s : Moment) (k : ℕ) (e : Event) → IsSteady s → IsSteady (act s k e).0
-act_steady s k e x = by (operation_of e) refl
+act_steady s k e x = by (concern_of e)
   where
-    done : (op : Op) (r : Option Refusal) → operation_of e ≡ Some op → operation_refusal s k op ≡ r → IsSteady (acted r s k e).0
-    done op None is h =
-        subst (λ o. IsSteady (effect_by o s k e).0) (sym is)
-        (operate_steady s op (not_refused (admission s.manager.passes.rules k (operation_rule op)) (causes.refusal s.resources op) h).1 x)
-    done op (Some r) is h = x
+    operated : (op : Op) (r : Option Refusal) → option_or (admission s.manager.passes.rules k (operation_rule op)) (option_map refusals.Operation (causes.refusal s.resources op)) ≡ r
+        → IsSteady (acted r s k (Operation op)).0
+    operated op None h = operate_steady s op (not_refused (admission s.manager.passes.rules k (operation_rule op)) (causes.refusal s.resources op) h) x
+    operated op (Some r) h = x
 
-    by : (o : Option Op) → operation_of e ≡ o → IsSteady (act s k e).0
-    by None is = subst (λ (d : Moment × Answer). IsSteady d.0) (sym (act_managed s k e is)) (managed_steady s k e x)
-    by (Some op) is = subst (λ r. IsSteady (acted r s k e).0) (sym (ap (λ o. refusal_by o s k e) is)) (done op (operation_refusal s k op) is refl)
+    served : (v : ServiceEvent) (r : Option Refusal) → first_cause (service_causes s k v) ≡ r → IsSteady (acted r s k (Service v)).0
+    served v None h = serve_steady s k v h x
+    served v (Some r) h = x
+
+    by : Concern e → IsSteady (act s k e).0
+    by (OfOperation op is) = subst (λ z. IsSteady (act s k z).0) (sym is) (operated op _ refl)
+    by (OfService v is) = subst (λ z. IsSteady (act s k z).0) (sym is) (served v _ refl)
+    by (OfManager none plain) = subst (λ (d : Moment × Answer). IsSteady d.0) (sym (act_managed s k e none plain)) (managed_steady s k e x)
 
 told_sound : (b : Bool) (e : Event) (s : Moment) (a : Answer) → tells e s ≡ b → IsSteady s → IsConsistent (told b s a).0
-told_sound true e s a is x = consistent (told true s a).0 (told_now s x) (λ _. refl)
+told_sound true e s a is x = consistent (told true s a).0 (told_now s a x) (λ _. refl)
 told_sound false e s a is x = consistent s x (λ h. absurd (no (is_checkpoint e) (is_quiet s.manager.passes) is h))
   where
     no : (c q : Bool) → (c || q) ≡ false → q ≡ true → ⊥
@@ -157,21 +261,27 @@ step_sound s k e x = told_sound (tells e (act s k e).0) e (act s k e).0 (act s k
 
 -- ---- the fresh workspace
 
-pub fresh_sound : IsConsistent fresh
-fresh_sound =
+pub fresh_sound : (builders : Names) → IsConsistent (fresh_for builders)
+fresh_sound builders =
     let r = fresh_resources.fresh_sound in
-    let k = r.tree_known in
-    consistent fresh (record {
+    consistent (fresh_for builders) (record {
       resources = r;
-      start = whole-fresh_tree;
-      told = whole-fresh_tree;
-      start_known = k;
-      told_known = k;
-      start_self = k.tree;
-      told_start = k.tree;
-      told_self = k.tree;
+      whole = λ u p. subst Whole (sym (alone u p)) r.tree;
+      known = λ u p. subst (IsKnown (fresh_for builders).resources) (sym (alone u p)) r.tree_known;
+      alike = λ u v p q. subst (λ t. SameContents t v) (sym (alone u p)) (subst (SameContents fresh_tree) (sym (alone v q)) r.tree_known.tree);
       apart = tt;
     }) (λ _. refl)
+  where
+    never : (place : Place) (b : Record Tree) → get (fresh_for builders).remembered.built place ≡ Some b → ⊥
+    never place b h = no (sym (get-empty place_cmp place) ∙ h)
+      where
+        no : None ≡ Some b → ⊥
+        no g = cc
+
+    alone : (u : Tree) → IsPast (fresh_for builders).remembered u → u ≡ fresh_tree
+    alone u (AsStart e) = e
+    alone u (AsTold e) = e
+    alone u (AsBuilt place b got e) = absurd (never place b got)
 
 -- ---- what stays
 
@@ -179,18 +289,9 @@ told_start : (b : Bool) (s : Moment) (a : Answer) → (told b s a).0.remembered.
 told_start false s a = refl
 told_start true s a = refl
 
-act_remembers : (s : Moment) (k : ℕ) (e : Event) → (act s k e).0.remembered ≡ s.remembered
-act_remembers s k e = by (refusal s k e) (operation_of e) refl
-  where
-    by : (r : Option Refusal) (o : Option Op) → operation_of e ≡ o → (acted r s k e).0.remembered ≡ s.remembered
-    by None None is = ap (λ x. (effect_by x s k e).0.remembered) is
-    by None (Some op) is = ap (λ x. (effect_by x s k e).0.remembered) is
-    by (Some r) o is = refl
-
 -- the tree with which the workspace was opened stays the one that is remembered
 pub step_start : (s : Moment) (k : ℕ) (e : Event) → (step s k e).0.remembered.start ≡ s.remembered.start
-step_start s k e =
-    told_start (tells e (act s k e).0) (act s k e).0 (act s k e).1 ∙ ap (λ (r : Remembered). r.start) (act_remembers s k e)
+step_start s k e = told_start (tells e (act s k e).0) (act s k e).0 (act s k e).1 ∙ (act_keeps s k e).0
 
 -- so does a call that makes a step, or changes nothing
 pub sound_after : {E : Type 0} (r : Result (Twice Reply) E) (w : Bool) (s t : Moment) (k : ℕ) (e : Event) → IsConsistent s

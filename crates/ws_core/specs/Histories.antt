@@ -12,16 +12,23 @@ use Rattle.core_event.specs.declared.event.Event.{Event}
 use Rattle.core_event.specs.declared.reply.Reply.{Reply}
 use Rattle.core_event.specs.Replies.{is_attempt, some_nodes}
 use Rattle.job_manager.specs.Managers.{first_manager}
+use Rattle.res_path.specs.Paths.{Names}
+use Rattle.service_desk.specs.Desks.{desk_of}
 use Rattle.ws_core.specs.States.{Moment}
 use Rattle.ws_core.specs.Steps.{step, tells}
 
--- the fresh workspace: the root alone, as node 1, and pass 0
-abbrev pub fresh : Moment
-fresh = record {
+-- the fresh workspace with these builders: the root alone, as node 1, and pass 0; nothing was built
+abbrev pub fresh_for : Names → Moment
+fresh_for builders = record {
   resources = record { tree = fresh_tree; shelf = empty; next_node = 2; next_stamp = 1; next_marker = 1; partners = [] };
-  remembered = record { start = fresh_tree; told = fresh_tree };
+  remembered = record { start = fresh_tree; told = fresh_tree; built = empty };
   manager = first_manager;
+  desk = desk_of builders;
 }
+
+-- the fresh workspace without builders
+abbrev pub fresh : Moment
+fresh = fresh_for []
 
 -- the state after an entry
 abbrev pub after : Moment → Entry → Moment

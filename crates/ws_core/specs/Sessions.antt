@@ -1,13 +1,17 @@
 -- A workspace while it is open.
-use Rattle.std.specs.Prelude.{◌≡◌, true, List, [], ◌∷◌}
-use Rattle.ws_elem.specs.Stamps.{AgreeByStamps}
-use Rattle.ws_elem.specs.Trees.{Whole}
+use Rattle.std.specs.Prelude.{◌≡◌, true, List, Some}
+use Rattle.std.specs.FinMap.{get}
+use Rattle.ws_elem.specs.Stamps.{SameContents}
+use Rattle.ws_elem.specs.Trees.{Tree, Whole}
 use Rattle.sched_rules.specs.Atoms.{atom_contains, atom_conflicts}
 use Rattle.rule_table.specs.Tables.{IsApart}
 use Rattle.op_kind.specs.Sound as ops
-use Rattle.op_kind.specs.Stamps.{AllDrawn}
+use Rattle.op_kind.specs.Stamps.{IsKnown}
 use Rattle.pass_table.specs.Passes.{is_quiet}
 use Rattle.core_event.specs.declared.entry.Entry.{Entry}
+use Rattle.ws_marks.specs.declared.record.Record.{Record}
+use Rattle.ws_marks.specs.Places.{Place}
+use Rattle.ws_content.specs.States.{Remembered}
 use Rattle.ws_core.specs.States.{Moment}
 use Rattle.ws_core.specs.Histories.{Legal, replay}
 
@@ -17,17 +21,22 @@ pub record Session : Type 0 where
   pub history : List Entry
   pub state : Moment
 
+-- a tree that is remembered: as the workspace was opened, as it was told last, or as a command was built last
+pub data IsPast (r : Remembered) (t : Tree) : Type 0 where
+  AsStart : t ≡ r.start → IsPast r t
+  AsTold : t ≡ r.told → IsPast r t
+  AsBuilt : (place : Place) (built : Record Tree) → get r.built place ≡ Some built → t ≡ built.tree → IsPast r t
+
 -- what holds of a state at every moment
 pub record IsConsistent (s : Moment) : Type 0 where
   -- its resources are sound
   pub resources : ops.IsConsistent s.resources
-  -- the trees that are remembered are whole, and their numbers are below their counters
-  pub start : Whole s.remembered.start
-  pub told : Whole s.remembered.told
-  pub start_drawn : AllDrawn s.resources s.remembered.start
-  pub told_drawn : AllDrawn s.resources s.remembered.told
-  -- in what is there and in what is remembered equal stamps mean equal contents
-  pub alike : AgreeByStamps (s.resources.tree ∷ s.resources.shelf ∷ s.remembered.start ∷ s.remembered.told ∷ [])
+  -- the trees that are remembered are whole
+  pub whole : (t : Tree) → IsPast s.remembered t → Whole t
+  -- their numbers are below their counters, and equal stamps in them and in what is there mean equal contents
+  pub known : (t : Tree) → IsPast s.remembered t → IsKnown s.resources t
+  -- so do equal stamps in any two of them
+  pub alike : (t u : Tree) → IsPast s.remembered t → IsPast s.remembered u → SameContents t u
   -- each rule is within each non-null one that its pass began before, and no rules of two passes conflict
   pub apart : IsApart atom_contains atom_conflicts s.manager.passes.rules
   -- where no batch is open, the tree is told

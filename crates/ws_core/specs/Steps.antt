@@ -1,16 +1,14 @@
 -- One event of a pass: refused or done, and then told.
-use Rattle.std.specs.Prelude.{ℕ, Bool, true, false, ◌||◌, List, Option, Some, None}
-use Rattle.delta_kind.specs.Deltas.{delta}
-use Rattle.delta_kind.specs.declared.node.DeltaNode.{DeltaNode}
+use Rattle.std.specs.Prelude.{ℕ, Bool, ◌||◌, Option, Some, None}
 use Rattle.core_event.specs.declared.event.Event.{Event}
 use Rattle.core_event.specs.declared.reply.Answer.{Answer}
 use Rattle.core_event.specs.declared.reply.Answer.TheVariants.{Refused}
 use Rattle.core_event.specs.declared.reply.Refusal.{Refusal}
 use Rattle.core_event.specs.declared.reply.Reply.{Reply}
 use Rattle.core_event.specs.Events.{is_checkpoint}
-use Rattle.core_event.specs.Replies.{some_nodes}
 use Rattle.pass_table.specs.Passes.{is_quiet}
-use Rattle.ws_core.specs.States.{Moment, with_told}
+use Rattle.ws_content.specs.Deeds.{kept_if, reply_of}
+use Rattle.ws_core.specs.States.{Moment}
 use Rattle.ws_core.specs.Effects.{effect}
 use Rattle.ws_core.specs.Refusals.{refusal}
 
@@ -27,14 +25,9 @@ act s pass event = acted (refusal s pass event) s pass event
 abbrev pub tells : Event → Moment → Bool
 tells event after = is_checkpoint event || is_quiet after.manager.passes
 
--- what changed since the last telling place
-abbrev pub notice : Moment → Option (List DeltaNode)
-notice s = some_nodes (delta s.remembered.told s.resources.tree)
-
--- at a telling place the reply carries the notice, and the tree is told
+-- at a telling place the reply carries what changed since the last one, and the tree is told
 abbrev pub told : Bool → Moment → Answer → Moment × Reply
-told true s answer = (record s { remembered = with_told s.remembered s.resources.tree }, record { answer = answer; notice = notice s })
-told false s answer = (s, record { answer = answer; notice = None })
+told tells s answer = (record s { remembered = kept_if tells s.resources.tree s.remembered }, reply_of tells s.remembered.told s.resources.tree answer)
 
 -- what an event did is told where the event is a telling place
 abbrev pub tell : Event → Moment × Answer → Moment × Reply

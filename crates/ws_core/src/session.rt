@@ -7,7 +7,7 @@ ghost use Rattle.ws_elem.specs.Trees.{fresh_tree};
 ghost use Rattle.job_queue.specs.Queues.{live};
 ghost use Rattle.core_event.specs.Twice.{twice};
 ghost use Rattle.ws_core.specs.Steps.{step};
-ghost use Rattle.ws_core.specs.Histories.{entry_of, fresh, has_entered, Legal, notices, replay, told_of, written};
+ghost use Rattle.ws_core.specs.Histories.{entry_of, fresh, fresh_for, has_entered, Legal, notices, replay, told_of, written};
 ghost use Rattle.ws_core.specs.Sessions.{IsConsistent};
 ghost use Rattle.ws_core.specs.Inside.Rooms.{Fits, HasRoom};
 ghost use Rattle.job_manager.specs.Ends.{EndsLast};
@@ -17,6 +17,7 @@ use delta_kind::Delta;
 use elem_tree::LayerTree;
 use rule_table::RuleTable;
 use sched_rules::WsAtom;
+use service_desk::BuilderNames;
 use std::alloc::{AllocError, Global};
 use std::marker::Model;
 use std::snapshot::Snapshot;
@@ -55,7 +56,9 @@ impl<T: Remembers + Drop> Model for Core<T> {
     ghost use Rattle.ws_core.specs.States.{Moment};
     ghost use Rattle.core_event.specs.contracts.entry.Entry as of_entry;
     ghost use Rattle.ws_elem.specs.contracts.element.Element as element;
+    ghost use Rattle.proj_desc.specs.contracts.command.Command as command;
     ghost use Rattle.job_manager.specs.contracts.manager.JobManager as job_manager;
+    ghost use Rattle.service_desk.specs.contracts.desk.Desk as desk_row;
     ghost use Rattle.ws_core.specs.Inside.Codes.{moment_code};
     ghost use Rattle.ws_core.specs.Sessions.{Session, IsSession};
     ghost use Rattle.ws_core.specs.Inside.Rooms.{Fits};
@@ -64,8 +67,8 @@ impl<T: Remembers + Drop> Model for Core<T> {
 
     ghost coded = { code_by
         (Moment × (List Entry × Moment))
-        (coded× (moment_code element.the_row.coded job_manager.the_row.coded)
-        (coded× (coded_list of_entry.the_row.coded) (moment_code element.the_row.coded job_manager.the_row.coded)))
+        (coded× (moment_code element.the_row.coded command.the_row.coded job_manager.the_row.coded desk_row.the_row.coded)
+        (coded× (coded_list of_entry.the_row.coded) (moment_code element.the_row.coded command.the_row.coded job_manager.the_row.coded desk_row.the_row.coded)))
         (λ x. (x.opened, (x.history, x.state)))
         (λ p. record { opened = p.0; history = p.1.0; state = p.1.1 })
         (λ _. refl) };
@@ -77,26 +80,31 @@ impl<T: Remembers + Drop> Model for Core<T> {
 }
 
 impl Core<LayerTree> {
-    /// The fresh workspace, in which nothing was done: the root alone, as node 1, and pass 0. Its tree remembers by marks.
+    /// The fresh workspace, in which nothing was done: the root alone, as node 1, and pass 0. It has no builders. Its tree
+    /// remembers by marks.
     pub fn fresh(alloc: Global) -> Result<Core<LayerTree>, NoMemory>
         ensures opened { IfOk result (λ core. core.opened ≡ fresh) }
         ensures history { IfOk result (λ core. core.history ≡ []) }
         ensures state { IfOk result (λ core. core.state ≡ fresh) }
     {
         let tree = ElemMap::fresh(alloc)?;
-        Core::over(alloc, LayerTree::of(alloc, tree))
+        Core::over(
+            alloc,
+            LayerTree::of(alloc, tree),
+            BuilderNames::empty(alloc),
+        )
     }
 }
 
 impl<T: Remembers + Drop> Core<T> {
-    /// The same over any tree that remembers.
-    pub fn over(alloc: Global, tree: T) -> Result<Core<T>, NoMemory>
+    /// The fresh workspace over any tree that remembers, with builders of these names.
+    pub fn over(alloc: Global, tree: T, builders: BuilderNames) -> Result<Core<T>, NoMemory>
         requires { T.tree tree ≡ fresh_tree }
-        ensures opened { IfOk result (λ core. core.opened ≡ fresh) }
+        ensures opened { IfOk result (λ core. core.opened ≡ fresh_for builders) }
         ensures history { IfOk result (λ core. core.history ≡ []) }
-        ensures state { IfOk result (λ core. core.state ≡ fresh) }
+        ensures state { IfOk result (λ core. core.state ≡ fresh_for builders) }
     {
-        let state = State::fresh(alloc, tree)?;
+        let state = State::fresh(alloc, tree, builders)?;
         let opened = Snapshot::of(&state);
         Ok(Core {
             state,

@@ -3,48 +3,53 @@ ghost use Rattle.std.specs.Prelude.{◌≡◌, IfOk};
 ghost use Rattle.delta_kind.specs.Deltas.{delta};
 ghost use Rattle.op_kind.specs.Resources.{resources};
 ghost use Rattle.ws_elem.specs.Trees.{fresh_tree};
-ghost use Rattle.ws_core.specs.Histories.{fresh};
+ghost use Rattle.ws_core.specs.Histories.{fresh_for};
 
-use crate::contents::Content;
 use crate::{JobManager, NoMemory};
 use delta_kind::Delta;
 use op_kind::Side;
+use service_desk::{BuilderNames, Desk};
 use std::alloc::Global;
 use std::marker::Model;
 use tree_memory::Remembers;
+use ws_content::Content;
 
 /// The state of a workspace over a tree that remembers. A contract sees the record of its resources, the trees that are
-/// remembered, and the jobs and passes.
+/// remembered, the jobs and passes, and the builders' names with the command under way.
 #[derive(Drop)]
 pub struct State<T: Remembers + Drop> {
     pub(crate) content: Content<T>,
     pub(crate) manager: JobManager,
+    pub(crate) desk: Desk,
 }
 
 impl<T: Remembers + Drop> Model for State<T> {
     ghost use Rattle.ws_elem.specs.contracts.element.Element as element;
+    ghost use Rattle.proj_desc.specs.contracts.command.Command as command;
     ghost use Rattle.job_manager.specs.contracts.manager.JobManager as job_manager;
+    ghost use Rattle.service_desk.specs.contracts.desk.Desk as desk_row;
     ghost use Rattle.ws_core.specs.States.{Moment};
     ghost use Rattle.ws_core.specs.Inside.Codes.{moment_code};
     ghost use Rattle.ws_core.specs.Inside.Parts.{moment};
 
     ghost Value = { Moment };
 
-    ghost coded = { moment_code element.the_row.coded job_manager.the_row.coded };
+    ghost coded = { moment_code element.the_row.coded command.the_row.coded job_manager.the_row.coded desk_row.the_row.coded };
 
-    ghost view = { λ s. moment s.content s.manager };
+    ghost view = { λ s. moment s.content s.manager s.desk };
 }
 
 impl<T: Remembers + Drop> State<T> {
-    /// The fresh workspace over this tree, which has the root alone, as node 1: pass 0 is there, and no job.
-    pub fn fresh(alloc: Global, tree: T) -> Result<State<T>, NoMemory>
+    /// The fresh workspace over this tree, which has the root alone, as node 1: pass 0 is there, no job, and these builders.
+    pub fn fresh(alloc: Global, tree: T, builders: BuilderNames) -> Result<State<T>, NoMemory>
         requires { T.tree tree ≡ fresh_tree }
-        ensures { IfOk result (λ state. state ≡ fresh) }
+        ensures { IfOk result (λ state. state ≡ fresh_for builders) }
     {
         let manager = JobManager::first(alloc)?;
         Ok(State {
             content: Content::of(alloc, tree, Side::fresh(alloc))?,
             manager,
+            desk: Desk::of(builders),
         })
     }
 

@@ -1,9 +1,12 @@
 //! One step of a state.
-ghost use Rattle.std.specs.Prelude.{◌≡◌, true, false, IfOk, IsOk, OnErr, None as nothing};
+ghost use Rattle.std.specs.Prelude.{◌≡◌, ◌&&◌, not, true, false, Some, IfOk, IsOk, OnErr, None as nothing};
+ghost use Rattle.std.specs.Option.{option_map};
+ghost use Rattle.op_kind.specs.Refusals as ops;
 ghost use Rattle.op_rule.specs.Rules.{operation_rule};
-ghost use Rattle.core_event.specs.declared.event.Event.TheVariants.{Operation};
+ghost use Rattle.core_event.specs.declared.event.Event.TheVariants.{Operation, Service};
 ghost use Rattle.core_event.specs.declared.reply.Answer.TheVariants.{Refused};
-ghost use Rattle.core_event.specs.Events.{is_checkpoint, operation_of};
+ghost use Rattle.core_event.specs.declared.reply.Refusal.TheVariants as refusals;
+ghost use Rattle.core_event.specs.Events.{is_checkpoint, is_read, operation_of, service_of};
 ghost use Rattle.core_event.specs.Twice.{doubled, twice};
 ghost use Rattle.job_manager.specs.Admission.{admission};
 ghost use Rattle.job_manager.specs.Ends.{EndsLast};
@@ -12,22 +15,27 @@ ghost use Rattle.job_manager.specs.Refusals.{refusal};
 ghost use Rattle.pass_table.specs.Passes.{is_quiet};
 ghost use Rattle.ws_core.specs.Histories.{has_entered};
 ghost use Rattle.ws_core.specs.Sessions.{IsConsistent};
+ghost use Rattle.ws_core.specs.Inside.Parts.{desk_after, is_refused};
 ghost use Rattle.ws_core.specs.Steps.{step};
 
 use crate::{Answer, Event, NoMemory, Refusal, Reply, State, Twice};
 use core_event::{done_twice, is_read, refused_twice, untold};
 use job_manager::closes;
 use op_kind::Op;
+use pass_table::Passes;
+use sched_rules::WsAtom;
+use service_desk::Desk;
 use std::alloc::Global;
 use tree_memory::Remembers;
 
 impl<T: Remembers + Drop> State<T> {
     /// Does the event of the pass, or refuses it with the first cause in the order of its list, and tells what changed
     /// where it is a telling place: each checkpoint, and each other event that leaves no batch open. A refused event
-    /// changes nothing. Gives the reply, with a copy where one is wanted. Where memory wants, the state stays as it was; it never wants where the pass ends the rule that it
-    /// began last.
+    /// changes nothing. Gives the reply, with a copy where one is wanted. Where memory wants, the state stays as it was; it
+    /// never wants where the pass ends the rule that it began last.
     ///
-    /// An operation costs what `ws_ops::apply` does, and a telling place what was recorded since the one before.
+    /// An operation costs what `ws_ops::apply` does, a commit what `output_commit::commit_edits` does, and a telling place
+    /// what was recorded since the one before.
     pub fn step(
         &mut self,
         alloc: Global,
@@ -58,8 +66,11 @@ impl<T: Remembers + Drop> State<T> {
         ensures err { OnErr result (self.new ≡ self.old) }
         ensures never { EndsLast self.old.manager.passes.rules pass event.now → IsOk result }
     {
-        match event.operation() {
-            Some(op) => self.operate(alloc, pass, op, wants_copy),
+        if let Some(op) = event.operation() {
+            return self.operate(alloc, pass, op, wants_copy);
+        }
+        match event.service() {
+            Some(service) => self.serve(alloc, pass, service, wants_copy),
             None => self.manage(alloc, pass, event, wants_copy),
         }
     }
@@ -95,13 +106,10 @@ impl<T: Remembers + Drop> State<T> {
         ensures ok { IfOk result (λ r. (self.new, r) ≡ doubled wants_copy (step self.old pass (Operation op.now))) }
         ensures err { OnErr result (self.new ≡ self.old) }
     {
-        if !self.manager.passes.is_quiet() {
-            return self.content.operate(alloc, op, wants_copy);
-        }
-        if is_read(op) {
-            return self.content.operate(alloc, op, wants_copy);
-        }
-        self.content.operate_and_tell(alloc, op, wants_copy)
+        let tells = tells_after(&self.manager.passes, op);
+        let replied = self.content.operate(alloc, op, tells, wants_copy)?;
+        leave_desk(&mut self.desk, op, &replied);
+        Ok(replied)
     }
 
     /// Does an event of passes, jobs, rules or batches, or refuses it.
@@ -115,6 +123,7 @@ impl<T: Remembers + Drop> State<T> {
         requires quiet { is_quiet self.old.manager.passes ≡ true → self.old.remembered.told ≡ self.old.resources.tree }
         requires entered { has_entered pass self.old ≡ true }
         requires managed { operation_of event.now ≡ nothing }
+        requires plain { service_of event.now ≡ nothing }
         ensures ok { IfOk result (λ r. (self.new, r) ≡ doubled wants_copy (step self.old pass event.now)) }
         ensures err { OnErr result (self.new ≡ self.old) }
         ensures never { EndsLast self.old.manager.passes.rules pass event.now → IsOk result }
@@ -142,6 +151,7 @@ impl<T: Remembers + Drop> State<T> {
         requires told { self.old.remembered.told ≡ self.old.resources.tree }
         requires entered { has_entered pass self.old ≡ true }
         requires managed { operation_of event.now ≡ nothing }
+        requires plain { service_of event.now ≡ nothing }
         ensures ok { IfOk result (λ r. (self.new, r) ≡ doubled wants_copy (step self.old pass event.now)) }
         ensures err { OnErr result (self.new ≡ self.old) }
         ensures never { EndsLast self.old.manager.passes.rules pass event.now → IsOk result }
@@ -163,6 +173,7 @@ impl<T: Remembers + Drop> State<T> {
         requires closes { closes event.now ≡ false }
         requires entered { has_entered pass self.old ≡ true }
         requires managed { operation_of event.now ≡ nothing }
+        requires plain { service_of event.now ≡ nothing }
         ensures ok { IfOk result (λ r. (self.new, r) ≡ doubled wants_copy (step self.old pass event.now)) }
         ensures err { OnErr result (self.new ≡ self.old) }
         ensures never { EndsLast self.old.manager.passes.rules pass event.now → IsOk result }
@@ -230,8 +241,35 @@ impl<T: Remembers + Drop> State<T> {
     }
 }
 
+/// Whether it is a telling place after the operation. What only reads leaves nothing to be told.
+fn tells_after(passes: &Passes<WsAtom>, op: &Op) -> bool
+    ensures { result ≡ (is_quiet passes.now && not (is_read op.now)) }
+{
+    passes.is_quiet() && !is_read(op)
+}
+
+/// The operation was done, unless it was refused.
+fn leave_desk(desk: &mut Desk, op: &Op, replied: &Twice<Reply>)
+    ensures { desk.new ≡ desk_after desk.old op.now replied.now.value.answer }
+{
+    if !is_refused(replied) {
+        desk.leave(op);
+    }
+}
+
+/// Whether the reply tells that the event is refused.
+fn is_refused(replied: &Twice<Reply>) -> bool
+    ensures { result ≡ is_refused replied.now.value.answer }
+{
+    matches!(replied.value.answer, Answer::Refused(_))
+}
+
 /// The reply to an event that is refused, which tells nothing.
-fn refuse(alloc: Global, refusal: Refusal, wants_copy: bool) -> Result<Twice<Reply>, NoMemory>
+pub(crate) fn refuse(
+    alloc: Global,
+    refusal: Refusal,
+    wants_copy: bool,
+) -> Result<Twice<Reply>, NoMemory>
     ensures { IfOk result (λ r. r ≡ twice wants_copy (record { answer = Refused refusal; notice = nothing })) }
 {
     let answer = refused_twice(alloc, refusal, wants_copy)?;

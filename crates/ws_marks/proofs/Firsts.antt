@@ -154,6 +154,19 @@ pub shown_own : {X : Type 0} (G : X → Type 0) (o : Option (Bor X)) (x : Option
 shown_own G None x e h = tt
 shown_own G (Some b) x e h = h b.now (sym e)
 
+-- what is found passes the test
+pub found_passes : {M : Type 0} (P : Place → Bool) (rs : List (Record M)) (r : Record M) → option_map (λ e. e.1) (first_that (λ e. P e.0) (placed rs)) ≡ Some r → P (place_of r) ≡ true
+found_passes P [] r e = cc
+found_passes {M} P (x ∷ xs) r is = by (P (place_of x)) refl (found_passes P xs r) is
+  where
+    same : (a b : Record M) → ◌≡◌ {A = Option (Record M)} (Some a) (Some b) → a ≡ b
+    same a b h = cc
+
+    by : (b : Bool) → P (place_of x) ≡ b → (option_map (λ e. e.1) (first_that (λ e. P e.0) (placed xs)) ≡ Some r → P (place_of r) ≡ true)
+        → option_map (λ e. e.1) (cond b (Some (place_of x, x)) (first_that (λ e. P e.0) (placed xs))) ≡ Some r → P (place_of r) ≡ true
+    by true e later h = ap (λ (y : Record M). P (place_of y)) (sym (same x r h)) ∙ e
+    by false e later h = later h
+
 pub given_own : {X : Type 0} (G : X → Type 0) (o x : Option X) → o ≡ x → ((y : X) → x ≡ Some y → G y) → IfSome o G
 given_own G None x e h = tt
 given_own G (Some y) x e h = h y (sym e)

@@ -160,6 +160,18 @@ module _ {M : Type 0} where
   over_found (r ∷ rs) zero v b e = sym (found_here (place_of v) r rs (is_equal _ e))
   over_found (r ∷ rs) (suc n) v b e = over_found rs n v b.1 e ∙ sym (find_step (place_of v) r rs b.0)
 
+  pub over_found_at : (k : Place) (rs : List (Record M)) (n : ℕ) (d : Record M) → AllBelow k (take n rs) → starts_at k (drop n rs) ≡ true → Some (slice_index_or rs n d) ≡ find place_cmp k (placed rs)
+  over_found_at k [] zero d b e = absurd (no (sym e))
+  over_found_at k [] (suc n) d b e = absurd (no (sym e))
+  over_found_at k (r ∷ rs) zero d b e = sym (found_here k r rs (is_equal _ e))
+  over_found_at k (r ∷ rs) (suc n) d b e = over_found_at k rs n d b.1 e ∙ sym (find_step k r rs b.0)
+
+  pub over_place : (k : Place) (rs : List (Record M)) (n : ℕ) (d : Record M) → starts_at k (drop n rs) ≡ true → place_of (slice_index_or rs n d) ≡ k
+  over_place k [] zero d e = absurd (no (sym e))
+  over_place k [] (suc n) d e = absurd (no (sym e))
+  over_place k (r ∷ rs) zero d e = place_cmp_exact _ _ (is_equal _ e)
+  over_place k (r ∷ rs) (suc n) d e = over_place k rs n d e
+
   pub over_there : (k : Place) (rs : List (Record M)) (n : ℕ) → starts_at k (drop n rs) ≡ true → n < length rs
   over_there k [] zero e = absurd (no (sym e))
   over_there k [] (suc n) e = absurd (no (sym e))

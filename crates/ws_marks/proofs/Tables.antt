@@ -1,5 +1,5 @@
 -- The map that records in order make.
-use Rattle.std.proofs.Common.{◌≡◌, ◌<◌, ℕ, suc, Bool, cond, T, List, [], ◌++◌, length, slice_index_or, sym, ap, ◌∙◌, subst}
+use Rattle.std.proofs.Common.{◌≡◌, ◌<◌, ℕ, suc, Bool, true, false, cond, T, List, [], ◌++◌, length, slice_index_or, refl, sym, ap, ◌∙◌, subst}
 use Rattle.std.specs.Prelude.{Result, Ok, Err, OnOk, OnErr, Some, None, take, drop, find as first_that}
 use Rattle.std.specs.Option.{option_map}
 use Rattle.std.specs.Ordering.{eq_by_cmp}
@@ -9,7 +9,7 @@ use Rattle.ws_marks.specs.declared.record.Record.{Record}
 use Rattle.ws_marks.specs.Places.{Place, Records, place_cmp, place_of}
 use Rattle.ws_marks.specs.Inside.{InOrder, placed}
 use Rattle.ws_marks.proofs.Firsts.{found_own}
-use Rattle.ws_marks.proofs.Sorted.{removed_find, removed_order}
+use Rattle.ws_marks.proofs.Sorted.{is_equal, removed_find, removed_order}
 use Rattle.ws_marks.proofs.Places.{place_cmp_total, place_cmp_exact}
 
 pub none_is : {M : Type 0} → from_sorted {R = place_cmp} (placed {M = M} []) ≡ empty
@@ -45,3 +45,11 @@ all_shown rs s = sym (entries-from_sorted place_cmp (placed rs) s)
 pub own_shown : {M : Type 0} (P : Place → Bool) (rs : List (Record M)) (m : Records M) → InOrder rs → from_sorted {R = place_cmp} (placed rs) ≡ m
     → (r : Record M) → option_map (λ e. e.1) (first_that (λ e. P e.0) (placed rs)) ≡ Some r → get m (place_of r) ≡ Some r
 own_shown P rs m s is r e = ap (λ (n : Records _). get n (place_of r)) (sym is) ∙ get-from_sorted place_cmp (placed rs) (place_of r) s ∙ found_own P rs r s e
+
+-- taking what isn't there leaves all as it is
+pub none_removed : {M : Type 0} (m : Records M) (k : Place) → get m k ≡ None → m ≡ remove m k
+none_removed m k none = same_map place_cmp_total place_cmp_exact _ _ (λ q. by q (eq_by_cmp place_cmp q k) refl ∙ sym (get-remove place_cmp_total m k q))
+  where
+    by : (q : Place) (b : Bool) → eq_by_cmp place_cmp q k ≡ b → get m q ≡ cond (eq_by_cmp place_cmp q k) None (get m q)
+    by q true e = ap (get m) (place_cmp_exact q k (is_equal _ e)) ∙ none ∙ ap (λ b. cond b None (get m q)) (sym e)
+    by q false e = ap (λ b. cond b None (get m q)) (sym e)

@@ -5,6 +5,7 @@ use Rattle.std.specs.declared.cmp.Ordering.TheVariants.{Less}
 use Rattle.std.specs.Ordering.{eq_by_cmp, is_eq, is_lt}
 use Rattle.std.specs.FinMap as finmap
 use Rattle.std.specs.FinMap.{get, is_sorted}
+use Rattle.proj_desc.specs.declared.command.Command.{Command}
 use Rattle.std.specs.List.{AllByRecursion}
 use Rattle.ws_marks.specs.declared.record.Record.{Record}
 use Rattle.ws_marks.specs.declared.state.State.{State}
@@ -16,23 +17,23 @@ use Rattle.ws_marks.specs.Marked.{Marked, Replaced, undone}
 abbrev pub name_code : Coded (List ℕ)
 name_code = coded_list coded_ℕ
 
-abbrev pub record_code : {M : Type 0} → Coded M → Coded (Record M)
-record_code {M} m = code_by (List ℕ × (ℕ × (List ℕ × (List (List ℕ) × M)))) (coded× name_code (coded× coded_ℕ (coded× name_code (coded× (coded_list name_code) m))))
+abbrev pub record_code : {M : Type 0} → Coded Command → Coded M → Coded (Record M)
+record_code {M} c m = code_by (List ℕ × (ℕ × (Command × (List (List ℕ) × M)))) (coded× name_code (coded× coded_ℕ (coded× c (coded× (coded_list name_code) m))))
     (λ r. (r.project, (r.index, (r.command, (r.references, r.tree))))) (λ p. record { project = p.0; index = p.1.0; command = p.1.1.0; references = p.1.1.1.0; tree = p.1.1.1.1 }) (λ _. refl)
 
 abbrev pub state_code : {M : Type 0} → Coded M → Coded (State M)
 state_code {M} m = code_by (List ℕ × (List ℕ × Option M)) (coded× name_code (coded× name_code (coded_option m)))
     (λ s. (s.participant, (s.bytes, s.tree))) (λ p. record { participant = p.0; bytes = p.1.0; tree = p.1.1 }) (λ _. refl)
 
-abbrev pub records_code : {M : Type 0} → Coded M → Coded (Records M)
-records_code m = finmap.code (coded× name_code coded_ℕ) (record_code m)
+abbrev pub records_code : {M : Type 0} → Coded Command → Coded M → Coded (Records M)
+records_code c m = finmap.code (coded× name_code coded_ℕ) (record_code c m)
 
 abbrev pub states_code : {M : Type 0} → Coded M → Coded (States M)
 states_code m = finmap.code name_code (state_code m)
 
-abbrev pub marked_code : {M : Type 0} → Coded M → Coded (Marked M)
-marked_code {M} m = code_by (M × (Records M × (States M × Option (List (Replaced M)))))
-    (coded× m (coded× (records_code m) (coded× (states_code m) (coded_option (coded_list (coded× name_code (coded_option (state_code m))))))))
+abbrev pub marked_code : {M : Type 0} → Coded Command → Coded M → Coded (Marked M)
+marked_code {M} c m = code_by (M × (Records M × (States M × Option (List (Replaced M)))))
+    (coded× m (coded× (records_code c m) (coded× (states_code m) (coded_option (coded_list (coded× name_code (coded_option (state_code m))))))))
     (λ x. (x.told, (x.built, (x.kept, x.replaced)))) (λ p. record { told = p.0; built = p.1.0; kept = p.1.1.0; replaced = p.1.1.1 }) (λ _. refl)
 
 -- ---- records in the order of their places

@@ -1,9 +1,9 @@
 //! All that a workspace remembers beside its tree.
-ghost use Rattle.std.specs.Prelude.{◌≡◌, Some, IfOk, IfSome, IsSome, OnOk, OnErr};
+ghost use Rattle.std.specs.Prelude.{◌≡◌, true, Some, IfOk, IfSome, IsSome, OnOk, OnErr};
 ghost use Rattle.std.specs.FinMap as map;
 ghost use Rattle.std.specs.Option.{option_copied, option_map};
 ghost use Rattle.ws_marks.specs.Places.{place_of};
-ghost use Rattle.ws_marks.specs.Marked.{ended, first_from, given_at_once, given_up, kept_at_begin, record_after, saving, state_after, told_alone, with_kept, without};
+ghost use Rattle.ws_marks.specs.Marked.{ended, first_from, given_at_once, given_up, is_from, kept_at_begin, record_after, saving, state_after, told_alone, with_kept, without};
 
 use crate::records::Records;
 use crate::saving::{Saving, begun, replaced_in, set_in_save, undo};
@@ -32,11 +32,12 @@ impl<M> Model for Marks<M> {
     ghost use Rattle.std.specs.Prelude.{IfSome};
     ghost use Rattle.std.specs.Option.{option_map};
     ghost use Rattle.ws_marks.specs.Marked.{Marked};
+    ghost use Rattle.proj_desc.specs.contracts.command.Command as command;
     ghost use Rattle.ws_marks.specs.Inside.{IsReady, marked_code};
 
     ghost Value = { Marked M };
 
-    ghost coded = { marked_code M.code };
+    ghost coded = { marked_code command.the_row.coded M.code };
 
     ghost view = { λ m. record { told = m.told; built = m.built; kept = m.kept; replaced = option_map (λ s. s.replaced.items) m.saving } };
 
@@ -92,9 +93,18 @@ impl<M: Drop> Marks<M> {
     pub fn take_built(&mut self, project: &Name, from: u16) -> Option<Record<M>>
         ensures first { result ≡ first_from self.old.built project.now from }
         ensures rest { self.new ≡ record self.old { built = without self.old.built result } }
+        ensures one { IfSome result (λ r. is_from project.now from (place_of r) ≡ true) }
         ensures own { IfSome result (λ r. map.get self.old.built (place_of r) ≡ Some r) }
     {
         self.built.take(project, from)
+    }
+
+    /// Takes the record of the project's command of this index; none where there is none. It takes no memory.
+    pub fn remove_built(&mut self, project: &Name, index: u16) -> Option<Record<M>>
+        ensures found { result ≡ map.get self.old.built (project.now, index) }
+        ensures rest { self.new ≡ record self.old { built = map.remove self.old.built (project.now, index) } }
+    {
+        self.built.remove(project, index)
     }
 
     /// The first record above this place, or of all, by project and then by index; none where there is none.

@@ -3,8 +3,7 @@ ghost use Rattle.std.specs.Prelude.{◌≡◌};
 ghost use Rattle.std.specs.Ordering.{eq_by_cmp, is_eq};
 ghost use Rattle.ws_marks.specs.Places.{name_cmp, place_cmp, place_of};
 
-use bytes::Bytes;
-use proj_desc::References;
+use proj_desc::{Command, References};
 use res_path::Name;
 use std::cmp::Ordering;
 
@@ -14,8 +13,8 @@ pub struct Record<M> {
     pub project: Name,
     /// Which of the project's commands.
     pub index: u16,
-    /// The command's text.
-    pub command: Bytes,
+    /// What the command said.
+    pub command: Command,
     pub references: References,
     /// The tree as it was then.
     pub tree: M,

@@ -27,11 +27,12 @@ pub(crate) struct Records<M> {
 impl<M> Model for Records<M> {
     ghost use Rattle.std.specs.FinMap as map;
     ghost use Rattle.ws_marks.specs.Places.{Records};
+    ghost use Rattle.proj_desc.specs.contracts.command.Command as command;
     ghost use Rattle.ws_marks.specs.Inside.{InOrder, placed, records_code};
 
     ghost Value = { Records M };
 
-    ghost coded = { records_code M.code };
+    ghost coded = { records_code command.the_row.coded M.code };
 
     ghost view = { λ r. map.from_sorted (placed r.records.items) };
 
@@ -67,9 +68,18 @@ impl<M: Drop> Records<M> {
     pub(crate) fn take(&mut self, project: &Name, from: u16) -> Option<Record<M>>
         ensures first { result ≡ first_from self.old project.now from }
         ensures rest { self.new ≡ without self.old result }
+        ensures one { IfSome result (λ r. is_from project.now from (place_of r) ≡ true) }
         ensures own { IfSome result (λ r. map.get self.old (place_of r) ≡ Some r) }
     {
         take(&mut self.records, project, from)
+    }
+
+    /// Takes the record of the project's command of this index.
+    pub(crate) fn remove(&mut self, project: &Name, index: u16) -> Option<Record<M>>
+        ensures found { result ≡ map.get self.old (project.now, index) }
+        ensures rest { self.new ≡ map.remove self.old (project.now, index) }
+    {
+        remove(&mut self.records, project, index)
     }
 
     /// The first record above the place, or of all.
@@ -123,20 +133,20 @@ fn put<M: Drop>(records: &mut Vec<Record<M>>, new: Record<M>) -> Result<Option<R
     ensures err { OnErr result (records.new.items ≡ records.old.items) }
 {
     let count = count_below(records.as_slice(), &new.project, new.index);
-    if is_at(records.as_slice(), count, &new) {
+    if is_at(records.as_slice(), count, &new.project, new.index) {
         return Ok(Some(replace(records, count, new)));
     }
     records.insert(count, new)?;
     Ok(None)
 }
 
-/// Whether behind so many one stands at the place of this one.
-fn is_at<M>(records: &[Record<M>], count: usize, new: &Record<M>) -> bool
+/// Whether behind so many one stands at the place.
+fn is_at<M>(records: &[Record<M>], count: usize, project: &Name, index: u16) -> bool
     requires { count ≤ length records.now }
-    ensures { result ≡ starts_at (place_of new.now) (drop count records.now) }
+    ensures { result ≡ starts_at (project.now, index) (drop count records.now) }
 {
     match records.split_at(count).1.split_first() {
-        Some((first, _)) => first.is_at(&new.project, new.index),
+        Some((first, _)) => first.is_at(project, index),
         None => false,
     }
 }
@@ -158,6 +168,19 @@ fn take<M: Drop>(records: &mut Vec<Record<M>>, project: &Name, from: u16) -> Opt
 {
     let count = count_below(records.as_slice(), project, from);
     if !is_of(records.as_slice(), count, project) {
+        return None;
+    }
+    Some(records.remove(count))
+}
+
+fn remove<M: Drop>(records: &mut Vec<Record<M>>, project: &Name, index: u16) -> Option<Record<M>>
+    requires { InOrder records.old.items }
+    ensures found { result ≡ find place_cmp (project.now, index) (placed records.old.items) }
+    ensures order { InOrder records.new.items }
+    ensures rest { map.from_sorted {R = place_cmp} (placed records.new.items) ≡ map.remove (map.from_sorted (placed records.old.items)) (project.now, index) }
+{
+    let count = count_below(records.as_slice(), project, index);
+    if !is_at(records.as_slice(), count, project, index) {
         return None;
     }
     Some(records.remove(count))

@@ -110,6 +110,7 @@ fn plan<T: TreeRep>(alloc: Global, tree: &T, side: &Side, op: &Op) -> Result<Pla
         Op::Open(path) => projects::open(alloc, tree, side, path),
         Op::Close(path) => projects::close(alloc, tree, side, path),
         Op::Describe(path, text) => projects::describe(alloc, tree, side, path, text),
+        Op::Forget(path) => projects::forget(alloc, tree, side, path),
         Op::Mark(path, mark_type, attrs) => {
             marking::mark(alloc, tree, side, path, mark_type, attrs)
         }

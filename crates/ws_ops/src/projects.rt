@@ -63,6 +63,19 @@ pub fn close<T: TreeRep>(alloc: Global, tree: &T, side: &Side, path: &Path) -> R
     Ok(plan_closing(alloc, tree, side, path, project)?)
 }
 
+/// What is remembered of the project's builds goes, which changes nothing of the tree and of what stands beside it.
+pub fn forget<T: TreeRep>(
+    alloc: Global,
+    tree: &T,
+    side: &Side,
+    path: &Path,
+) -> Result<Plan, OpError>
+    ensures { Plans (resources (T.tree tree.now) side.now) (Op.Forget path.now) result }
+{
+    project_at(tree, path)?;
+    Ok(Plan::nothing(alloc, side))
+}
+
 fn plan_closing<T: TreeRep>(
     alloc: Global,
     tree: &T,

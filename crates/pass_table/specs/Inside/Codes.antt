@@ -19,5 +19,5 @@ held_code {A} a = code_by (ℕ × List A) (coded× coded_ℕ (coded_list a)) (λ
 -- passes as the tuple of their fields
 abbrev pub passes_code : {A : Type 0} → Coded A → Coded (Passes A)
 passes_code {A} a =
-    code_by (ℕ × (Table × List (Held A))) (coded× coded_ℕ (coded× table_code (coded_list (held_code a))))
-    (λ p. (p.next, (p.there, p.rules))) (λ p. record { next = p.0; there = p.1.0; rules = p.1.1 }) (λ _. refl)
+    code_by (ℕ × (Table × (List (Held A) × Option ℕ))) (coded× coded_ℕ (coded× table_code (coded× (coded_list (held_code a)) (coded_option coded_ℕ))))
+    (λ p. (p.next, (p.there, (p.rules, p.services)))) (λ p. record { next = p.0; there = p.1.0; rules = p.1.1.0; services = p.1.1.1 }) (λ _. refl)

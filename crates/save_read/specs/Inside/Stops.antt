@@ -1,18 +1,18 @@
 -- Why nothing was read.
 use Rattle.std.specs.Prelude.{◌≡◌, ℕ, List}
 use Rattle.ws_elem.specs.Trees.{Tree}
-use Rattle.save_form.specs.Laws.{place}
 use Rattle.save_form.specs.declared.stop.Stuck.{Stuck}
 use Rattle.save_form.specs.declared.stop.Stuck.TheVariants as stuck
 use Rattle.save_read.specs.declared.error.ReadError.{ReadError}
 use Rattle.save_read.specs.declared.error.ReadError.TheVariants.{Bad, Memory}
 use Rattle.save_read.specs.declared.error.TextCause.{TextCause}
 use Rattle.save_read.specs.declared.error.TextCause.TheVariants.{BadText, BadState}
-use Rattle.save_read.specs.Texts.{StopsAt}
+use Rattle.save_read.specs.Texts.{stop_in, StopsAt}
 
-abbrev pub Becomes : Stuck → ReadError → Type 0
-Becomes (stuck.At stop) e = e ≡ Bad (place stop) BadText
-Becomes stuck.Memory e = e ≡ Memory
+-- why nothing was read of these bytes
+abbrev pub Becomes : List ℕ → Stuck → ReadError → Type 0
+Becomes bytes (stuck.At stop) e = e ≡ Bad (stop_in bytes stop) BadText
+Becomes bytes stuck.Memory e = e ≡ Memory
 
 -- the text can't go on, or memory wanted
 abbrev pub StopsFor : Tree → Tree → List ℕ → ℕ → TextCause → Type 0

@@ -2,7 +2,7 @@
 use Rattle.std.specs.Prelude.{◌≡◌, ◌≢◌, ℕ, Bool, true, false, not, List, [], ◌∷◌, Option, Some, None, codes}
 use Rattle.std.specs.List.{AllByRecursion}
 use Rattle.script_ops.specs.declared.verb.Verb.{Verb}
-use Rattle.script_ops.specs.declared.verb.Verb.TheVariants.{Phase, EndPhase, Job, EndJob, Batch, EndBatch, Checkpoint, Begin, TryBegin, End, Sleep, Wake, Cancel, Create, Delete, Write, Touch, Derived, Move, Copy, Open, Close, Describe, Mark, Attr, Unmark, ClearMarks, Partner, Sync, NoSync, Flush, Show, Cat, Tree, Digest}
+use Rattle.script_ops.specs.declared.verb.Verb.TheVariants.{Phase, EndPhase, Job, EndJob, Batch, EndBatch, Checkpoint, Begin, TryBegin, End, Sleep, Wake, Cancel, Create, Delete, Write, Touch, Derived, Move, Copy, Open, Close, Describe, Forget, Mark, Attr, Unmark, ClearMarks, Partner, Sync, NoSync, Flush, Show, Cat, Tree, Digest}
 use Rattle.script_words.specs.declared.words.Token.{Token}
 
 -- the word that a line begins with
@@ -30,6 +30,7 @@ verb_word Copy = codes "copy"
 verb_word Open = codes "open"
 verb_word Close = codes "close"
 verb_word Describe = codes "describe"
+verb_word Forget = codes "forget"
 verb_word Mark = codes "mark"
 verb_word Attr = codes "attr"
 verb_word Unmark = codes "unmark"
@@ -49,7 +50,7 @@ abbrev pub bounds : List Verb
 bounds = Phase ∷ EndPhase ∷ Job ∷ EndJob ∷ Batch ∷ EndBatch ∷ Checkpoint ∷ Begin ∷ TryBegin ∷ End ∷ Sleep ∷ Wake ∷ Cancel ∷ []
 
 abbrev pub changes : List Verb
-changes = Create ∷ Delete ∷ Write ∷ Touch ∷ Derived ∷ Move ∷ Copy ∷ Open ∷ Close ∷ Describe ∷ []
+changes = Create ∷ Delete ∷ Write ∷ Touch ∷ Derived ∷ Move ∷ Copy ∷ Open ∷ Close ∷ Describe ∷ Forget ∷ []
 
 abbrev pub notes : List Verb
 notes = Mark ∷ Attr ∷ Unmark ∷ ClearMarks ∷ Partner ∷ Sync ∷ NoSync ∷ Flush ∷ []

@@ -1,3 +1,4 @@
+use Rattle.save_read.proofs.Stopping.{stuck_stops}
 use Rattle.save_read.proofs.Whole.{narrow_all, no_other}
 use Rattle.save_read.proofs.texts.read_told.Goals as goal
 
@@ -16,4 +17,9 @@ returns-in-Ok-clause-only c s fits spelled = let only = rw (c.of-base.ensures, c
 pub returns-in-Err-clause-only : goal.returns-in-Err-clause-only
 returns-in-Err-clause-only c s fits spelled =
     let only = rw (c.of-base.ensures, c.of-shelf.ensures) at c.in-Err.ensures.only in
-    no_other s c.in-Err.stuck c.error_of.result c.error_of.ensures (only s fits spelled)
+    no_other c.args.body.now s c.in-Err.stuck c.error_of.result c.error_of.ensures (only s fits spelled)
+
+pub returns-in-Err-clause-stops : goal.returns-in-Err-clause-stops
+returns-in-Err-clause-stops c =
+    let gives = rw (c.of-base.ensures, c.of-shelf.ensures) at c.in-Err.ensures.gives in
+    stuck_stops c.args.base.now.map c.args.shelf.now.map c.args.body.now c.in-Err.stuck c.error_of.result c.error_of.ensures gives

@@ -1,4 +1,4 @@
-use Rattle.std.proofs.Common.{◌≡◌, length, List, ◌∙◌, ap}
+use Rattle.std.proofs.Common.{length, ◌∙◌, ap}
 use Rattle.ws_durable.specs.Saved.{saved}
 use Rattle.save_store.specs.Damages.{further, BadRecord, FailsFor}
 use Rattle.save_store.proofs.Meanings.{handed, record_leads, record_fails, record_bad}

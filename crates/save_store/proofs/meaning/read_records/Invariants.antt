@@ -1,4 +1,4 @@
-use Rattle.std.proofs.Common.{ℕ, List, drop}
+use Rattle.std.proofs.Common.{ℕ, drop}
 use Rattle.ws_durable.specs.Saved.{Saved, saved}
 use Rattle.save_format.specs.Valid.{Valid}
 use Rattle.save_read.specs.declared.error.TextCause.{TextCause}

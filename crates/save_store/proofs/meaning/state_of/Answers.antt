@@ -1,4 +1,3 @@
-use Rattle.std.proofs.Common.{◌≡◌, length}
 use Rattle.std.proofs.lemmas.Result.{IfOk-weaker, IfErr-weaker}
 use Rattle.ws_durable.specs.Saved.{saved}
 use Rattle.save_store.specs.Damages.{BadRecord, BadTexts, FailsFor}

@@ -1,11 +1,7 @@
-use Rattle.std.proofs.Common.{ℕ, ◌+◌, ◌≤◌, length, List, true, false, ◌≡◌}
-use Rattle.std.specs.Prelude.{is_some}
+use Rattle.std.proofs.Common.{◌+◌, ◌≤◌, length, true, false}
 use Rattle.area_store.specs.Kept.{recorded, gate_of, room_of}
 use Rattle.area_store.proofs.Sound.{room_told}
 use Rattle.area_store.proofs.Steps.{on_err_of}
-use Rattle.ws_durable.specs.Saved.{Saved, saved}
-use Rattle.save_store.specs.States.{Mean}
-use Rattle.save_store.specs.Stored.{IsStored}
 use Rattle.save_store.proofs.Runs.{record_step, room_in, now_stored, still_stored, run_stored}
 use Rattle.save_store.proofs.saves.Saves.append.Goals as goal
 

@@ -1,11 +1,11 @@
-use Rattle.std.proofs.Common.{◌≡◌, List, [], ◌∷◌, ◌++◌, true, Result, Err, MatchResult, OnOk, sym, subst}
+use Rattle.std.proofs.Common.{[], ◌∷◌, ◌++◌, true, MatchResult, subst}
 use Rattle.std.proofs.lemmas.Result.{on_ok_weaker}
 use Rattle.area_store.proofs.Steps.{on_err_of}
 use Rattle.ws_outside.specs.Disk.{LeavesOnly}
 use Rattle.ws_durable.specs.declared.durable.Durable.{Durable}
-use Rattle.ws_durable.specs.Saved.{Saved, saved}
+use Rattle.ws_durable.specs.Saved.{saved}
 use Rattle.save_store.specs.States.{HoldsOne}
-use Rattle.save_store.specs.Stored.{IsStored, Fits, HasNumber, FailsFull}
+use Rattle.save_store.specs.Stored.{Fits, HasNumber, FailsFull}
 use Rattle.save_store.proofs.Runs.{start_holds, flagged, begun_stored}
 use Rattle.save_store.proofs.saves.Saves.full.Goals as goal
 

@@ -1,7 +1,7 @@
-use Rattle.std.proofs.Common.{◌≡◌, inl, List, [], ◌∷◌, ◌++◌, true, Ok, ap, subst}
+use Rattle.std.proofs.Common.{inl, [], ◌∷◌, ◌++◌, true, Ok, ap, subst}
 use Rattle.ws_outside.specs.Disk.{LeavesOnly}
 use Rattle.ws_durable.specs.declared.durable.Durable.{Durable}
-use Rattle.ws_durable.specs.Saved.{Saved, saved}
+use Rattle.ws_durable.specs.Saved.{saved}
 use Rattle.save_store.specs.States.{HoldsOne}
 use Rattle.save_store.proofs.Runs.{start_holds, begun_stored}
 use Rattle.save_store.proofs.saves.Saves.snapshot.Goals as goal

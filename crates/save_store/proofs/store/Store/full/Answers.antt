@@ -1,6 +1,6 @@
-use Rattle.std.proofs.Common.{List, [], ◌∷◌, ◌++◌, subst}
+use Rattle.std.proofs.Common.{[], ◌∷◌, ◌++◌, subst}
 use Rattle.ws_outside.specs.Disk.{LeavesOnly}
-use Rattle.ws_durable.specs.Saved.{Saved, saved}
+use Rattle.ws_durable.specs.Saved.{saved}
 use Rattle.save_store.specs.States.{HoldsOne}
 use Rattle.save_store.specs.Stored.{IsStored}
 use Rattle.save_store.proofs.Runs.{stored_after, leaves_now}

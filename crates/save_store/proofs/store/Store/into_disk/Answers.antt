@@ -1,8 +1,7 @@
-use Rattle.std.proofs.Common.{◌≡◌, List, ◌∷◌, sym, ◌∙◌, ap, subst}
+use Rattle.std.proofs.Common.{◌∷◌, sym, ◌∙◌, ap, subst}
 use Rattle.ws_outside.specs.Disk.{Each}
-use Rattle.ws_durable.specs.Saved.{Saved, saved}
+use Rattle.ws_durable.specs.Saved.{saved}
 use Rattle.save_store.specs.States.{HoldsOne}
-use Rattle.save_store.specs.Stored.{IsStored}
 use Rattle.save_store.proofs.Runs.{stored_holds}
 use Rattle.save_store.proofs.store.Store.into_disk.Goals as goal
 

@@ -1,5 +1,5 @@
-use Rattle.std.proofs.Common.{◌≡◌, true, sym, ap, ◌∙◌, subst}
-use Rattle.ws_core.specs.Histories.{has_entered, notices, told_of}
+use Rattle.std.proofs.Common.{◌≡◌, sym, ap, ◌∙◌, subst}
+use Rattle.ws_core.specs.Histories.{notices, told_of}
 use Rattle.ws_core.specs.Sessions.{Session}
 use Rattle.ws_core.proofs.SessionsKept.{session_told}
 use Rattle.ws_core.proofs.session.Core.into_history.Goals as goal

@@ -6,4 +6,4 @@ use Rattle.ws_core.proofs.session.Core.over.Goals as goal
 pub invariant_of-result : goal.invariant_of-result
 invariant_of-result g c =
     let none = ap (λ (s : Moment). length s.manager.passes.rules) c.in_ok-state.ensures in
-    (opens _ _ _ c.of-opened.ensures c.in_ok-state.ensures c.new.ensures.items, omega (arith, none, c.new.ensures.len))
+    (opens c.args.builders _ _ _ c.of-opened.ensures c.in_ok-state.ensures c.new.ensures.items, omega (arith, none, c.new.ensures.len))

@@ -1,5 +1,5 @@
-use Rattle.std.proofs.Common.{◌≡◌, true, sym, ap, ◌∙◌, subst}
-use Rattle.ws_core.specs.Histories.{has_entered, notices, told_of}
+use Rattle.std.proofs.Common.{◌≡◌, true, sym, subst}
+use Rattle.ws_core.specs.Histories.{has_entered}
 use Rattle.ws_core.specs.Sessions.{Session}
 use Rattle.ws_core.proofs.SessionsKept.{goes_on_so}
 use Rattle.ws_core.proofs.session.Core.step.Goals as goal

@@ -1,0 +1,10 @@
+pub mod Sites
+pub mod Leaves
+pub mod Kept
+pub mod Handings
+pub mod Commits
+pub mod Checkouts
+pub mod Stamps
+pub mod Entered
+pub mod Holding
+pub mod Turning

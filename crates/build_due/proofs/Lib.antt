@@ -1,0 +1,4 @@
+pub mod Due
+pub mod Roots
+pub mod Walked
+pub mod Views

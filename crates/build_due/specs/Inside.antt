@@ -1,0 +1,2 @@
+-- Words of the code: how what is seen is walked.
+pub mod Walks

@@ -1,0 +1,3 @@
+mod Differs
+mod Counted
+pub mod Meets

@@ -1,0 +1,10 @@
+pub mod Listed
+pub mod Leading
+pub mod Choosing
+pub mod Grouping
+pub mod Walked
+pub mod Valid
+pub mod Opened
+pub mod Planned
+pub mod Commanded
+pub mod Rows

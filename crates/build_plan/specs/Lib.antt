@@ -1,0 +1,4 @@
+pub mod Descriptions
+pub mod Inside
+pub mod Ordered
+pub mod Plans

@@ -1,0 +1,4 @@
+pub mod Sites
+pub mod Desks
+pub mod Refusals
+pub mod Judging

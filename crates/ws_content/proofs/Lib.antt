@@ -1,0 +1,5 @@
+pub mod Resolved
+pub mod Holding
+pub mod Forgotten
+pub mod Steps
+pub mod Calls

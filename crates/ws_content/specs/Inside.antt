@@ -1,0 +1,4 @@
+-- What only the crate's own code speaks of.
+pub mod Codes
+pub mod Held
+pub mod Parts

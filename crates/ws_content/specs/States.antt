@@ -1,0 +1,27 @@
+-- What is there, and what is remembered beside it.
+use Rattle.ws_elem.specs.Trees.{Tree}
+use Rattle.op_kind.specs.Resources.{Resources}
+use Rattle.ws_marks.specs.Places.{Records}
+
+-- the trees that are remembered
+pub record Remembered : Type 0 where
+  -- the tree with which the workspace was opened
+  pub start : Tree
+  -- the tree as it was last told
+  pub told : Tree
+  -- what was built last, by project and by command, each with the tree after that
+  pub built : Records Tree
+
+-- what is there, and what it was
+pub record Contents : Type 0 where
+  -- the tree, the members of closed projects, the counters and the partners
+  pub resources : Resources
+  pub remembered : Remembered
+
+-- the tree is told
+abbrev pub with_told : Remembered → Tree → Remembered
+with_told r tree = record r { told = tree }
+
+-- this is what was built last
+abbrev pub with_built : Remembered → Records Tree → Remembered
+with_built r built = record r { built = built }

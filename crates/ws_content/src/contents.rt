@@ -1,0 +1,251 @@
+//! What is there, and what it was.
+ghost use Rattle.std.specs.Prelude.{◌≡◌, true, IfErr, IfOk, OnErr};
+ghost use Rattle.std.specs.FinMap.{empty};
+ghost use Rattle.op_kind.specs.declared.refusal.OpError.TheVariants as op_errors;
+ghost use Rattle.output_edits.specs.declared.refusal.EditError.TheVariants as edit_errors;
+ghost use Rattle.op_kind.specs.Resources.{resources};
+ghost use Rattle.delta_kind.specs.Deltas.{delta};
+ghost use Rattle.core_event.specs.declared.reply.Refusal.TheVariants.{Operation};
+ghost use Rattle.core_event.specs.Twice.{doubled, twice};
+ghost use Rattle.ws_content.specs.Deeds.{cleaned, committed, edit_refusal, operated, replied};
+ghost use Rattle.ws_content.specs.Handing.{handing};
+ghost use Rattle.ws_content.specs.Inside.Parts.{TellsEdits, TellsOperation, refused_reply};
+
+use crate::handing::since_built;
+use crate::{NoMemory, building, operating};
+use build_due::Site;
+use builder_api::{BuildKind, Edits, Handed};
+use core_event::{Answer, Refusal, Reply, Twice, refused_twice, untold};
+use delta_kind::Delta;
+use op_kind::{Op, OpError, OpRefusal, Side};
+use output_commit::{EditError, EditRefusal};
+use std::alloc::{AllocError, Global};
+use std::marker::Model;
+use tree_memory::{Remembers, Sparing};
+use ws_marks::Marks;
+
+/// The tree, what stands beside it, and what the tree was: as the workspace was opened, as it was last told, and as each
+/// build command was built last. A contract sees the resources and the trees that are remembered.
+#[derive(Drop)]
+pub struct Content<T: Remembers + Drop> {
+    tree: Sparing<T>,
+    side: Side,
+    start: T::Memory,
+    marks: Marks<T::Memory>,
+}
+
+impl<T: Remembers + Drop> Model for Content<T> {
+    ghost use Rattle.ws_elem.specs.contracts.element.Element as element;
+    ghost use Rattle.proj_desc.specs.contracts.command.Command as command;
+    ghost use Rattle.op_kind.specs.Resources.{resources};
+    ghost use Rattle.tree_memory.specs.Spared.{left};
+    ghost use Rattle.ws_content.specs.States.{Contents};
+    ghost use Rattle.ws_content.specs.Inside.Codes.{contents_code};
+    ghost use Rattle.ws_content.specs.Inside.Held.{AreHeld, seen};
+    ghost use Rattle.ws_content.specs.Inside.Parts.{contents};
+
+    ghost Value = { Contents };
+
+    ghost coded = { contents_code element.the_row.coded command.the_row.coded };
+
+    ghost view = { λ c. contents (resources (T.tree c.tree.tree) c.side) (seen T.number (T.number c.start) (left T.remembered c.tree) c.marks) };
+
+    ghost invariant = { λ c. AreHeld T.number (T.number c.start) (left T.remembered c.tree) c.marks };
+}
+
+impl<T: Remembers + Drop> Content<T> {
+    /// The tree with what stands beside it, which is remembered as it is. Nothing was built.
+    pub fn of(alloc: Global, tree: T, side: Side) -> Result<Content<T>, NoMemory>
+        ensures { IfOk result (λ c. c ≡ record { resources = resources (T.tree tree) side; remembered = record { start = T.tree tree; told = T.tree tree; built = empty } }) }
+    {
+        let mut tree = Sparing::of(alloc, tree);
+        let start = tree.remember(alloc)?;
+        let told = tree.remember(alloc)?;
+        Ok(Content {
+            tree,
+            side,
+            start,
+            marks: Marks::of(alloc, told),
+        })
+    }
+
+    /// Does the operation, or refuses it, and tells what changed since the tree was told, where something is to be told. Where
+    /// memory wants, nothing has changed.
+    pub fn operate(
+        &mut self,
+        alloc: Global,
+        op: &Op,
+        tells: bool,
+        wants_copy: bool,
+    ) -> Result<Twice<Reply>, NoMemory>
+        requires { tells ≡ true → self.old.remembered.told ≡ self.old.resources.tree }
+        ensures ok { IfOk result (λ r. (self.new, r) ≡ doubled wants_copy (replied tells (operated self.old op.now))) }
+        ensures err { OnErr result (self.new ≡ self.old) }
+    {
+        let done = operating::operate(
+            alloc,
+            &mut self.tree,
+            &mut self.side,
+            &mut self.marks,
+            op,
+            tells,
+            wants_copy,
+        );
+        reply_to(alloc, done, wants_copy)
+    }
+
+    /// Makes the edits below the output of the command, or refuses them. The tree after that is what was built last for it.
+    /// Tells what changed since the tree was told, where something is to be told. Where memory wants, nothing has changed.
+    pub fn commit(
+        &mut self,
+        alloc: Global,
+        site: &Site,
+        edits: &Edits,
+        tells: bool,
+        wants_copy: bool,
+    ) -> Result<Twice<Reply>, NoMemory>
+        requires { tells ≡ true → self.old.remembered.told ≡ self.old.resources.tree }
+        ensures ok { IfOk result (λ r. (self.new, r) ≡ doubled wants_copy (replied tells (committed self.old site.now edits.now))) }
+        ensures err { OnErr result (self.new ≡ self.old) }
+    {
+        let done = building::commit(
+            alloc,
+            &mut self.tree,
+            &mut self.side,
+            &mut self.marks,
+            site,
+            edits,
+            tells,
+            wants_copy,
+        );
+        reply_to_edits(alloc, done, wants_copy)
+    }
+
+    /// What lies below the output of the command goes, with its problems and what was built last for it. Tells what changed
+    /// since the tree was told, where something is to be told. Where memory wants, nothing has changed.
+    pub fn clean(
+        &mut self,
+        alloc: Global,
+        site: &Site,
+        tells: bool,
+        wants_copy: bool,
+    ) -> Result<Twice<Reply>, NoMemory>
+        requires { tells ≡ true → self.old.remembered.told ≡ self.old.resources.tree }
+        ensures ok { IfOk result (λ r. (self.new, r) ≡ doubled wants_copy (replied tells (cleaned self.old site.now))) }
+        ensures err { OnErr result (self.new ≡ self.old) }
+    {
+        building::clean(
+            alloc,
+            &mut self.tree,
+            &mut self.side,
+            &mut self.marks,
+            site,
+            tells,
+            wants_copy,
+        )
+    }
+
+    /// Tells what changed since the tree was told, with the answer.
+    pub fn tell(
+        &mut self,
+        alloc: Global,
+        answer: Answer,
+        wants_copy: bool,
+    ) -> Result<Twice<Reply>, NoMemory>
+        ensures ok { IfOk result (λ r. (self.new, r) ≡ doubled wants_copy (replied true (self.old, answer))) }
+        ensures err { OnErr result (self.new ≡ self.old) }
+    {
+        operating::tell(
+            alloc,
+            &mut self.tree,
+            &mut self.marks,
+            answer,
+            true,
+            wants_copy,
+        )
+    }
+
+    /// What is to be handed for the command in a build of this kind. Costs what was recorded since the command was built
+    /// last, and a walk of what it reads and has written.
+    pub fn hand(&self, alloc: Global, site: &Site, kind: BuildKind) -> Result<Handed, NoMemory>
+        ensures { IfOk result (λ h. h ≡ handing self.now site.now kind) }
+    {
+        let delta = since_built(alloc, &self.tree, &self.marks, site, kind)?;
+        let view = site.view(alloc, self.tree.tree())?;
+        site.handed(kind, delta, view)
+    }
+
+    /// What changed since the workspace was opened.
+    pub fn since_start(&self, alloc: Global) -> Result<Delta, NoMemory>
+        ensures { IfOk result (λ d. d ≡ delta self.now.remembered.start self.now.resources.tree) }
+    {
+        self.tree.since(alloc, &self.start)
+    }
+
+    /// The tree.
+    pub fn tree(&self) -> &T
+        ensures { T.tree result.now ≡ self.now.resources.tree }
+    {
+        self.tree.tree()
+    }
+
+    /// What stands beside the tree.
+    pub fn side(&self) -> &Side
+        ensures { resources self.now.resources.tree result.now ≡ self.now.resources }
+    {
+        &self.side
+    }
+}
+
+/// The reply to an operation that is done or refused; a refusal tells nothing.
+fn reply_to(
+    alloc: Global,
+    done: Result<Twice<Reply>, OpError>,
+    wants_copy: bool,
+) -> Result<Twice<Reply>, NoMemory>
+    ensures done { IfOk done (λ r. result ≡ Ok r) }
+    ensures refused { IfErr done (λ e. IfOk result (TellsOperation wants_copy e)) }
+{
+    match done {
+        Ok(replied) => Ok(replied),
+        Err(OpError::Refused(refusal)) => refuse(alloc, Refusal::Operation(refusal), wants_copy),
+        Err(OpError::Memory) => Err(AllocError),
+    }
+}
+
+/// The reply to edits that are made or refused; a refusal tells nothing.
+fn reply_to_edits(
+    alloc: Global,
+    done: Result<Twice<Reply>, EditError>,
+    wants_copy: bool,
+) -> Result<Twice<Reply>, NoMemory>
+    ensures done { IfOk done (λ r. result ≡ Ok r) }
+    ensures refused { IfErr done (λ e. IfOk result (TellsEdits wants_copy e)) }
+{
+    match done {
+        Ok(replied) => Ok(replied),
+        Err(EditError::Refused(refusal)) => refuse(alloc, edit_refusal(refusal), wants_copy),
+        Err(EditError::Memory) => Err(AllocError),
+    }
+}
+
+/// Why edits are refused, as the core tells it.
+fn edit_refusal(refusal: EditRefusal) -> Refusal
+    ensures { result ≡ edit_refusal refusal }
+{
+    match refusal {
+        EditRefusal::BadEdits(path) => Refusal::BadEdits(path),
+        EditRefusal::TooDeep => Refusal::Operation(OpRefusal::TooDeep),
+        EditRefusal::TooLong => Refusal::Operation(OpRefusal::TooLong),
+        EditRefusal::TreeFull => Refusal::Operation(OpRefusal::TreeFull),
+        EditRefusal::NumbersUsed => Refusal::Operation(OpRefusal::NumbersUsed),
+    }
+}
+
+/// The reply to what is refused, which tells nothing.
+fn refuse(alloc: Global, refusal: Refusal, wants_copy: bool) -> Result<Twice<Reply>, NoMemory>
+    ensures { IfOk result (λ r. r ≡ twice wants_copy (refused_reply refusal)) }
+{
+    let answer = refused_twice(alloc, refusal, wants_copy)?;
+    Ok(untold(answer))
+}

@@ -1,0 +1,20 @@
+//! What is there in a workspace, and what is remembered beside it: its tree, the members of closed projects, the tree as it
+//! was opened and as it was told last, and what was built last.
+//!
+//! - `remembering`: trees that are remembered under numbers, told, kept as what was built last, and given up.
+//! - `forgetting`: which operation forgets what was built last.
+//! - `handing`: what is due for a command.
+//! - `operating`: operations, and what is told of them.
+//! - `building`: commits of a builder's edits and cleanings, and what is told of them.
+//! - `contents`: a `Content`, what is there, and what it was.
+#![tactic(auto)]
+
+mod building;
+mod contents;
+mod forgetting;
+mod handing;
+mod operating;
+mod remembering;
+
+pub use contents::Content;
+pub use res_path::NoMemory;
