@@ -3,12 +3,11 @@ use Rattle.std.proofs.Common.{◌≡◌, ℕ, true, false, cond, ◌==◌, List,
 use Rattle.std.specs.Prelude.{Some}
 use Rattle.std.specs.Option.{option_map, option_to_list}
 use Rattle.core_event.specs.declared.entry.Entry.{Entry}
-use Rattle.build_laws.specs.States.{State}
 use Rattle.build_run.specs.Books.{Deed, at}
 use Rattle.ws_core.specs.States.{Moment}
 use Rattle.ws_core.specs.Histories.{after, replay}
 use Rattle.build_core.specs.States.{state_of}
-use Rattle.build_core.specs.Histories.{deed_of, entries_of, entry_of, left_by}
+use Rattle.build_core.specs.Histories.{deed_of, entries_of, entry_of}
 
 pub entries_append : (k : ℕ) (s : Moment) (h g : List Entry) → entries_of k s (h ++ g) ≡ entries_of k s h ++ entries_of k (replay s h) g
 entries_append k s [] g = refl
@@ -33,8 +32,3 @@ pub own_adds : (k : ℕ) (s : Moment) (x : Entry) (deed : Deed) → (x.pass == k
 own_adds k s x deed own is =
     ap (λ b. cond b (option_to_list (option_map (at (state_of s)) (deed_of x.event x.reply.answer))) []) own
     ∙ ap (λ o. option_to_list (option_map (at (state_of s)) o)) is
-
-pub left_more : (k : ℕ) (first : State) (s : Moment) (h : List Entry) (x : Entry)
-    → left_by k first s (h ++ x ∷ []) ≡ cond (x.pass == k) (state_of (after (replay s h) x)) (left_by k first s h)
-left_more k first s [] x = refl
-left_more k first s (y ∷ h) x = left_more k (cond (y.pass == k) (state_of (after s y)) first) (after s y) h x

@@ -1,5 +1,5 @@
 -- What a pass has done of a build, as the history of the core tells it.
-use Rattle.std.specs.Prelude.{ℕ, ◌==◌, if◌then◌else◌, List, [], ◌∷◌, ◌++◌, take, drop, Option, Some, None}
+use Rattle.std.specs.Prelude.{◌≡◌, ℕ, ◌==◌, Bool, ◌&&◌, not, if◌then◌else◌, List, [], ◌∷◌, ◌++◌, take, drop, Option, Some, None, is_none}
 use Rattle.std.specs.List.{list_any}
 use Rattle.std.specs.Option.{option_map, option_to_list}
 use Rattle.std.specs.Str.{bytes_eq}
@@ -13,7 +13,10 @@ use Rattle.core_event.specs.declared.service.Purpose.TheVariants as purposes
 use Rattle.core_event.specs.declared.service.ServiceEvent.{ServiceEvent}
 use Rattle.core_event.specs.declared.service.ServiceEvent.TheVariants as services
 use Rattle.core_event.specs.Replies.{refusal_number}
-use Rattle.build_laws.specs.States.{State}
+use Rattle.builder_api.specs.Told.{Told}
+use Rattle.pass_table.specs.Passes.{batches_of}
+use Rattle.job_manager.specs.declared.manager.JobManager.{JobManager}
+use Rattle.service_desk.specs.Refusals.{not_serving, unrooted}
 use Rattle.build_run.specs.declared.answers.Given.{Given}
 use Rattle.build_run.specs.declared.answers.Given.TheVariants as given
 use Rattle.build_run.specs.declared.answers.Started.{Started}
@@ -21,11 +24,13 @@ use Rattle.build_run.specs.declared.answers.Started.TheVariants as started
 use Rattle.build_run.specs.declared.answers.Taken.{Taken}
 use Rattle.build_run.specs.declared.answers.Taken.TheVariants as taken
 use Rattle.build_run.specs.Books as books
-use Rattle.build_run.specs.Books.{Book, Deed, Did, Begin, Batch, Checkout, Handing, Commit, CleanUp, CheckIn, EndBatch, End}
+use Rattle.build_run.specs.Books.{Book, Deed, Begin, Batch, Checkout, Handing, Commit, CleanUp, CheckIn, EndBatch, End}
 use Rattle.ws_core.specs.States.{Moment}
+use Rattle.ws_core.specs.Histories as core
 use Rattle.ws_core.specs.Histories.{after, replay}
+use Rattle.ws_core.specs.Steps.{step}
 use Rattle.ws_core.specs.Refusals.{current}
-use Rattle.ws_core.specs.Sessions.{Session}
+use Rattle.ws_core.specs.Sessions.{IsConsistent, Session}
 use Rattle.build_core.specs.States.{item_of, state_of}
 
 -- ---- answers, as builds tell them
@@ -79,18 +84,29 @@ abbrev pub entries_of : ℕ → Moment → List Entry → List books.Entry
 entries_of k s [] = []
 entries_of k s (x ∷ h) = entry_of k s x ++ entries_of k (after s x) h
 
--- the state that the last entry of the pass left; this one, where there is none
-abbrev pub left_by : ℕ → State → Moment → List Entry → State
-left_by k first s [] = first
-left_by k first s (x ∷ h) = left_by k (if x.pass == k then state_of (after s x) else first) (after s x) h
+-- whether a pass may build: it has the services, the rule of the root and an open batch
+abbrev pub may_build : JobManager → ℕ → Bool
+may_build m k = is_none (not_serving m.passes k) && is_none (unrooted m.passes.rules k) && not (batches_of m.passes k == 0)
 
--- what the pass has done, with what it did outside; its build command began with the entry of this number
-abbrev pub book_of : Session → ℕ → ℕ → List Did → Book
-book_of x k start done = record {
+-- what the pass has done, where its last entry is the last; its build command began after so many entries, when builders
+-- told this
+abbrev pub book_of : Session → ℕ → ℕ → List Told → List Told → Book
+book_of x k start began told = record {
   mine = entries_of k x.opened x.history;
   since = entries_of k (replay x.opened (take start x.history)) (drop start x.history);
-  done = done;
-  now = left_by k (state_of x.opened) x.opened x.history;
+  began = began;
+  told = told;
+  now = state_of x.state;
+  serving = may_build x.state.manager k;
+  home = is_none x.state.manager.passes.services;
   has = λ name. list_any (bytes_eq name) x.state.desk.builders;
   under = option_map item_of (current x.state);
 }
+
+-- the pass did the event, which left an entry
+pub record Steps (k : ℕ) (e : Event) (x y : Session) : Type 0 where
+  pub sound : IsConsistent x.state
+  pub placed : x.state ≡ replay x.opened x.history
+  pub opened : y.opened ≡ x.opened
+  pub state : y.state ≡ (step x.state k e).0
+  pub history : y.history ≡ x.history ++ core.entry_of x.state k e ∷ []

@@ -4,5 +4,6 @@ pub mod Knots
 pub mod Loops
 pub mod Nexts
 pub mod Calls
+pub mod Done
 pub mod Sweeping
 pub mod Closing

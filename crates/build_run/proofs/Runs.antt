@@ -14,20 +14,17 @@ use Rattle.build_laws.specs.Builds.{Project, items_from, project_items, items_of
 use Rattle.build_laws.proofs.Walks.{after_append, turns_append, descs_turns}
 use Rattle.build_run.specs.Books.{Book, turn_entries, turn_calls, Ran}
 use Rattle.build_run.specs.Ends.{IsStirred, Halts, RoundHalts, RoundCame}
+use Rattle.build_run.proofs.Done.{flat_append, done_joined}
 
 -- ---- runs
 
 pub ran_none : (ms : Meanings) (b : Book) → Ran ms b b []
 ran_none ms b = record {
-  adds = record { mine = sym (append-nil b.mine); since = sym (append-nil b.since); done = sym (append-nil b.done); has = refl };
+  adds = record { mine = sym (append-nil b.mine); since = sym (append-nil b.since); began = refl; done = refl; serving = refl; has = refl };
   now = refl;
   turns = tt;
   sounds = λ sound. tt;
 }
-
-flat_append : {A B : Type 0} (f : A → List B) (xs ys : List A) → flat_map f (xs ++ ys) ≡ flat_map f xs ++ flat_map f ys
-flat_append f [] ys = refl
-flat_append f (x ∷ xs) ys = ap (λ zs. f x ++ zs) (flat_append f xs ys) ∙ sym (append_assoc (f x) (flat_map f xs) (flat_map f ys))
 
 pub joined : {A B : Type 0} (f : A → List B) (b b' b'' : List B) (xs ys : List A) → b' ≡ b ++ flat_map f xs → b'' ≡ b' ++ flat_map f ys → b'' ≡ b ++ flat_map f (xs ++ ys)
 joined f b b' b'' xs ys p q = q ∙ ap (λ x. x ++ flat_map f ys) p ∙ append_assoc b (flat_map f xs) (flat_map f ys) ∙ ap (λ x. b ++ x) (sym (flat_append f xs ys))
@@ -49,7 +46,9 @@ ran_more ms b b' b'' xs ys p q = record {
   adds = record {
     mine = joined turn_entries b.mine b'.mine b''.mine xs ys p.adds.mine q.adds.mine;
     since = joined turn_entries b.since b'.since b''.since xs ys p.adds.since q.adds.since;
-    done = joined turn_calls b.done b'.done b''.done xs ys p.adds.done q.adds.done;
+    began = q.adds.began ∙ p.adds.began;
+    done = done_joined turn_calls xs ys b.told b'.told b''.told p.adds.done q.adds.done;
+    serving = q.adds.serving ∙ p.adds.serving;
     has = q.adds.has ∙ p.adds.has;
   };
   now = q.now ∙ ap (λ s. after_all s ys) p.now ∙ sym (after_append b.now xs ys);

@@ -10,25 +10,26 @@ use Rattle.build_laws.specs.Builds.{Project, items_from, project_items, items_of
 use Rattle.build_laws.specs.Planned.{IsDescribed}
 use Rattle.build_laws.proofs.Sounds.{all_at, sound_cleaned}
 use Rattle.build_laws.proofs.Ordered.{described_item}
-use Rattle.build_run.specs.Books.{Book, Entry, CleanUp, at, Cleans}
+use Rattle.build_run.specs.Books.{Book, Entry, Cleared, CleanUp, at, Cleans}
 use Rattle.build_run.specs.Sweeps.{Sweep, Passed, Swept, swept_item, swept_state, last_state, sweep_entries, sweep_calls, AreSweeps, WereSwept, SweepsHalt}
+use Rattle.build_run.proofs.Done.{one_done, done_joined}
 use Rattle.build_run.proofs.Runs.{joined, items_length, items_next, item_parts, projects_next, project_parts}
 use Rattle.build_run.proofs.Loops.{read_at, take_all}
 
 -- ---- one command
 
 pub one_swept : (b b' : Book) (i : Item) (refused : Option ℕ) → Cleans b i refused b' → WereSwept b (i ∷ []) b'
-one_swept b b' i None h = subst (WereSwept b (i ∷ [])) (sym h.5) (record {
+one_swept b b' i None h = subst (WereSwept b (i ∷ [])) (sym h.6) (record {
   sweeps = Swept i h.0 h.1 ∷ [];
   items = refl;
-  adds = record { mine = refl; since = refl; done = refl; has = refl };
+  adds = record { mine = refl; since = refl; began = refl; done = one_done (Cleared i) b.told b'.told h.5; serving = refl; has = refl };
   now = refl;
   are = ((h.3, h.2, h.4), tt);
 })
 one_swept b b' i (Some n) h = subst (WereSwept b (i ∷ [])) (sym h.4) (record {
   sweeps = Passed i h.0 ∷ [];
   items = refl;
-  adds = record { mine = same b.mine; since = same b.since; done = sym (append-nil b.done); has = refl };
+  adds = record { mine = same b.mine; since = same b.since; began = refl; done = refl; serving = refl; has = refl };
   now = refl;
   are = ((h.2, h.1), tt);
 })
@@ -51,7 +52,7 @@ map_append [] ys = refl
 map_append (x ∷ xs) ys = ap (λ zs. swept_item x ∷ zs) (map_append xs ys)
 
 pub swept_none : (b : Book) → WereSwept b [] b
-swept_none b = record { sweeps = []; items = refl; adds = record { mine = sym (append-nil b.mine); since = sym (append-nil b.since); done = sym (append-nil b.done); has = refl }; now = refl; are = tt }
+swept_none b = record { sweeps = []; items = refl; adds = record { mine = sym (append-nil b.mine); since = sym (append-nil b.since); began = refl; done = refl; serving = refl; has = refl }; now = refl; are = tt }
 
 swept_more : (b b' b'' : Book) (is js : List Item) → WereSwept b is b' → WereSwept b' js b'' → WereSwept b (is ++ js) b''
 swept_more b b' b'' is js p q = record {
@@ -60,7 +61,9 @@ swept_more b b' b'' is js p q = record {
   adds = record {
     mine = joined sweep_entries b.mine b'.mine b''.mine p.sweeps q.sweeps p.adds.mine q.adds.mine;
     since = joined sweep_entries b.since b'.since b''.since p.sweeps q.sweeps p.adds.since q.adds.since;
-    done = joined sweep_calls b.done b'.done b''.done p.sweeps q.sweeps p.adds.done q.adds.done;
+    began = q.adds.began ∙ p.adds.began;
+    done = done_joined sweep_calls p.sweeps q.sweeps b.told b'.told b''.told p.adds.done q.adds.done;
+    serving = q.adds.serving ∙ p.adds.serving;
     has = q.adds.has ∙ p.adds.has;
   };
   now = q.now ∙ ap (λ s. last_state s q.sweeps) p.now ∙ sym (last_append b.now p.sweeps q.sweeps);

@@ -1,12 +1,15 @@
 -- What a pass has done of a build, as contracts see it.
-use Rattle.std.specs.Prelude.{◌≡◌, ℕ, Bool, true, false, List, [], ◌∷◌, ◌++◌, Option, Some, None, Result, Ok}
+use Rattle.std.specs.Prelude.{◌≡◌, ℕ, Bool, true, false, List, [], ◌∷◌, ◌++◌, Option, Some, None, Result, Ok, Err}
 use Rattle.std.specs.List.{AllByRecursion, flat_map}
 use Rattle.builder_api.specs.declared.builder.BuildFault.{BuildFault}
+use Rattle.builder_api.specs.declared.builder.BuildFault.TheVariants as fault
 use Rattle.builder_api.specs.declared.edits.Edits.{Edits}
 use Rattle.builder_api.specs.declared.handed.Handed.{Handed}
 use Rattle.builder_api.specs.declared.kind.BuildKind.{BuildKind}
 use Rattle.builder_api.specs.declared.outcome.BuildOutcome.{BuildOutcome}
 use Rattle.builder_api.specs.Meanings.{Meanings}
+use Rattle.builder_api.specs.Told.{Told, WasFirstCalled, HasFirstRisen}
+use Rattle.builder_api.specs.Told as calls
 use Rattle.build_laws.specs.States.{Item, State, due, Finds}
 use Rattle.build_laws.specs.Commits.{IsCommitted, IsCleaned}
 use Rattle.build_laws.specs.Records.{Sound}
@@ -42,15 +45,30 @@ pub data Did : Type 0 where
   Called : Item → Handed → Result Edits BuildFault → Did
   Cleared : Item → Did
 
+-- the first builder of the command's name tells that, and no other builder tells anything; its count rose where it failed
+abbrev pub WasDone : Did → List Told → List Told → Type 0
+WasDone (Called i handed answer) old new = WasFirstCalled i.command.builder (calls.Built i.command handed) old new × (answer ≡ Err fault.Failed → HasFirstRisen i.command.builder old new)
+WasDone (Cleared i) old new = WasFirstCalled i.command.builder calls.Cleaned old new
+
+-- all that was done, in order
+abbrev pub WereDone : List Did → List Told → List Told → Type 0
+WereDone [] old new = new ≡ old
+WereDone (d ∷ ds) old new = (then : List Told) × WasDone d old then × WereDone ds then new
+
 -- what a pass has done
 pub record Book : Type 0 where
   -- its entries, oldest first, and those of the build command
   pub mine : List Entry
   pub since : List Entry
-  -- what the command did outside
-  pub done : List Did
+  -- what the builders told when the build command began, and what they tell
+  pub began : List Told
+  pub told : List Told
   -- the state that its last entry left
   pub now : State
+  -- whether it may build: it has the services and the rule of the root, and a batch is open
+  pub serving : Bool
+  -- no pass has the services
+  pub home : Bool
   -- whether there is a builder of a name
   pub has : List ℕ → Bool
   -- the command under way
@@ -86,7 +104,7 @@ Takes b i e (taken.Refused n) b' = (found : State) × Finds b.now found × (b' �
 -- a cleaning, in such a state; it is refused just where there is no builder, with 35
 abbrev pub Cleans : Book → Item → Option ℕ → Book → Type 0
 Cleans b i None b' = (found : State) × (next : State) × Finds b.now found × (b.has i.command.builder ≡ true) × IsCleaned found i next
-    × (b' ≡ record (noted b found (CleanUp i.project i.index None) next) { done = b.done ++ Cleared i ∷ []; under = None })
+    × WasDone (Cleared i) b.told b'.told × (b' ≡ record (noted b found (CleanUp i.project i.index None) next) { told = b'.told; under = None })
 Cleans b i (Some n) b' = (found : State) × Finds b.now found × (b.has i.command.builder ≡ false) × (n ≡ 35)
     × (b' ≡ noted b found (CleanUp i.project i.index (Some n)) found)
 
@@ -99,11 +117,13 @@ abbrev pub turn_calls : Turn → List Did
 turn_calls (Skip kind i found) = []
 turn_calls (Make kind i w) = Called i w.handed (Ok w.edits) ∷ []
 
--- these entries and calls were added
+-- these entries were added, and this was done outside
 pub record Adds (b b' : Book) (es : List Entry) (ds : List Did) : Type 0 where
   pub mine : b'.mine ≡ b.mine ++ es
   pub since : b'.since ≡ b.since ++ es
-  pub done : b'.done ≡ b.done ++ ds
+  pub began : b'.began ≡ b.began
+  pub done : WereDone ds b.told b'.told
+  pub serving : b'.serving ≡ b.serving
   pub has : b'.has ≡ b.has
 
 -- these turns lead from one book to another

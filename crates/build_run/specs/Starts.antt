@@ -1,5 +1,5 @@
 -- How a build command begins and ends.
-use Rattle.std.specs.Prelude.{◌≡◌, ◌⊎◌, ℕ, List, [], ◌∷◌, ◌++◌, map, Option, Some, None, IfSome, Err}
+use Rattle.std.specs.Prelude.{◌≡◌, ◌⊎◌, ℕ, true, List, [], ◌∷◌, ◌++◌, map, Option, Some, None, IfSome, Err}
 use Rattle.std.specs.List.{flat_map}
 use Rattle.builder_api.specs.declared.builder.BuildFault.TheVariants as fault
 use Rattle.builder_api.specs.declared.handed.Handed.{Handed}
@@ -13,7 +13,7 @@ use Rattle.build_laws.specs.Planned.{IsPlanned}
 use Rattle.build_run.specs.declared.answers.Given.TheVariants as given
 use Rattle.build_run.specs.declared.answers.Started.{Started}
 use Rattle.build_run.specs.declared.answers.Started.TheVariants as started
-use Rattle.build_run.specs.Books.{Book, Entry, Deed, Begin, Batch, Checkout, Handing, Commit, CleanUp, CheckIn, EndBatch, End, at, Did, Called, Cleared}
+use Rattle.build_run.specs.Books.{Book, Entry, Deed, Begin, Batch, Checkout, Handing, Commit, CleanUp, CheckIn, EndBatch, End, at, Did, Called, Cleared, WereDone}
 
 -- a command has begun, with a plan of valid projects; one project's has that project alone
 pub record Begins (kind : BuildKind) (project : Option (List ℕ)) (b : Book) (plan : Plan) (b' : Book) : Type 0 where
@@ -21,7 +21,9 @@ pub record Begins (kind : BuildKind) (project : Option (List ℕ)) (b : Book) (p
   pub second : State
   pub since : b'.since ≡ at first (Begin None) ∷ at second Batch ∷ at b'.now (Checkout kind project (started.Plan plan)) ∷ []
   pub mine : b'.mine ≡ b.mine ++ b'.since
-  pub done : b'.done ≡ []
+  pub began : b'.began ≡ b'.told
+  pub told : b'.told ≡ b.told
+  pub serving : b'.serving ≡ true
   pub has : b'.has ≡ b.has
   pub groups : List (List Project)
   pub planned : IsPlanned b'.now.descs plan.order plan.knots groups
@@ -37,12 +39,15 @@ IsStopped kind project n es = ((x : State) × (es ≡ at x (Begin (Some n)) ∷ 
 pub record Stops (kind : BuildKind) (project : Option (List ℕ)) (b : Book) (n : ℕ) (b' : Book) : Type 0 where
   pub entries : List Entry
   pub mine : b'.mine ≡ b.mine ++ entries
+  pub told : b'.told ≡ b.told
+  pub home : b'.home ≡ b.home
   pub stopped : IsStopped kind project n entries
 
 -- memory wanted before the checkout, or after a refused one: the entries are the first of a command that is refused
 pub record Fails (kind : BuildKind) (project : Option (List ℕ)) (b b' : Book) : Type 0 where
   pub entries : List Entry
   pub mine : b'.mine ≡ b.mine ++ entries
+  pub told : b'.told ≡ b.told
   pub rest : List Entry
   pub number : ℕ
   pub stopped : IsStopped kind project number (entries ++ rest)
@@ -56,6 +61,8 @@ pub record ChecksIn (b : Book) (o : BuildOutcome) (rest : List Entry) (b' : Book
   pub found : State
   pub finds : Finds b.now found
   pub mine : b'.mine ≡ b.mine ++ at found (CheckIn o) ∷ rest
+  pub told : b'.told ≡ b.told
+  pub home : b'.home ≡ true
 
 -- a command has ended
 pub record Closes (b : Book) (o : BuildOutcome) (b' : Book) : Type 0 where
@@ -98,6 +105,10 @@ call_of (Cleared i) = Cleaned i.project i.index
 abbrev pub AreCalls : List Entry → List Did → Type 0
 AreCalls es ds = asked_in es ≡ map call_of ds
 
+-- since the command began builders were called for exactly that
+abbrev pub AreCalled : Book → Type 0
+AreCalled b = (ds : List Did) × WereDone ds b.began b.told × AreCalls b.since ds
+
 -- that a builder failed is told only of the last call
 abbrev pub IsTold : List Did → BuildOutcome → Type 0
 IsTold ds (outcome.BuilderFailed p n) = (front : List Did) × (i : Item) × (h : Handed) × (ds ≡ front ++ Called i h (Err fault.Failed) ∷ []) × (p ≡ i.project) × (n ≡ i.index)
@@ -106,6 +117,14 @@ IsTold ds (outcome.Unsettled names) = Unit {0}
 IsTold ds (outcome.Refused n) = Unit {0}
 IsTold ds outcome.Cleaned = Unit {0}
 IsTold ds outcome.NoMemory = Unit {0}
+
+-- builders were called for exactly that, and the outcome tells of the last one where it says that a builder failed
+abbrev pub IsToldOf : Book → BuildOutcome → Type 0
+IsToldOf b o = (ds : List Did) × WereDone ds b.began b.told × AreCalls b.since ds × IsTold ds o
+
+-- what was done outside since the command began lets it come to the outcome
+abbrev pub Ends : (List Entry → List Did → BuildOutcome → Type 0) → Book → BuildOutcome → Type 0
+Ends ends b o = (ds : List Did) × WereDone ds b.began b.told × ends b.since ds o
 
 -- a command may end for want of memory at any time, and else where builders were called for what was asked
 pub record MayEnd (ends : List Entry → List Did → BuildOutcome → Type 0) : Type 0 where

@@ -1,5 +1,5 @@
 //! The turns of a build and its rounds.
-ghost use Rattle.std.specs.Prelude.{◌≡◌, ◌⊎◌, ◌∷◌, [], ℕ, List, IfOk, IfErr, OnOk};
+ghost use Rattle.std.specs.Prelude.{◌≡◌, ◌⊎◌, ◌∷◌, [], ℕ, List, IfOk, IfErr, OnOk, true};
 ghost use Rattle.std.specs.List.{AllByRecursion};
 ghost use Rattle.build_laws.specs.States.{IsItem, item};
 ghost use Rattle.build_laws.specs.Turns.{Turn};
@@ -34,7 +34,10 @@ fn build_command<H: Host>(
     command: &Command,
     kind: BuildKind,
 ) -> Result<bool, BuildOutcome>
-    requires { IsItem (H.book host.old).now.descs (item project.now index command.now) }
+    requires ready { H.ready host.old }
+    requires serving { (H.book host.old).serving ≡ true }
+    requires described { IsItem (H.book host.old).now.descs (item project.now index command.now) }
+    ensures stays { H.stays host.old host.new }
     ensures built { IfOk result (λ touched. RoundCame H.Told.meaning (H.book host.old) kind (item project.now index command.now ∷ []) touched (H.book host.new)) }
     ensures halted { IfErr result (λ outcome. Halts (H.book host.old) (item project.now index command.now) kind outcome (H.book host.new)) }
 {
@@ -62,7 +65,10 @@ fn build_commands<H: Host>(
     commands: &[Command],
     kind: BuildKind,
 ) -> Result<bool, BuildOutcome>
-    requires { IsDescribed (H.book host.old).now.descs (project.now, commands.now) }
+    requires ready { H.ready host.old }
+    requires serving { (H.book host.old).serving ≡ true }
+    requires described { IsDescribed (H.book host.old).now.descs (project.now, commands.now) }
+    ensures stays { H.stays host.old host.new }
     ensures came { IfOk result (λ touched. RoundCame H.Told.meaning (H.book host.old) kind (items_from project.now 0 commands.now) touched (H.book host.new)) }
     ensures halted { IfErr result (λ outcome. RoundHalts H.Told.meaning (H.book host.old) kind (items_from project.now 0 commands.now) outcome (H.book host.new)) }
 {
@@ -81,7 +87,10 @@ pub(crate) fn build_round<H: Host>(
     projects: &[(Name, Commands)],
     kind: BuildKind,
 ) -> Result<bool, BuildOutcome>
-    requires { AllByRecursion (IsDescribed (H.book host.old).now.descs) projects.now }
+    requires ready { H.ready host.old }
+    requires serving { (H.book host.old).serving ≡ true }
+    requires described { AllByRecursion (IsDescribed (H.book host.old).now.descs) projects.now }
+    ensures stays { H.stays host.old host.new }
     ensures came { IfOk result (λ touched. RoundCame H.Told.meaning (H.book host.old) kind (items_of projects.now) touched (H.book host.new)) }
     ensures halted { IfErr result (λ outcome. RoundHalts H.Told.meaning (H.book host.old) kind (items_of projects.now) outcome (H.book host.new)) }
 {
@@ -121,7 +130,10 @@ pub(crate) fn build_knot<H: Host>(
     projects: &[(Name, Commands)],
     kind: BuildKind,
 ) -> Result<(), BuildOutcome>
-    requires { AllByRecursion (IsDescribed (H.book host.old).now.descs) projects.now }
+    requires ready { H.ready host.old }
+    requires serving { (H.book host.old).serving ≡ true }
+    requires described { AllByRecursion (IsDescribed (H.book host.old).now.descs) projects.now }
+    ensures stays { H.stays host.old host.new }
     ensures built { OnOk result ((xs : List Turn) × Ran H.Told.meaning (H.book host.old) (H.book host.new) xs × KnotBuilt kind (items_of projects.now) xs) }
     ensures halted { IfErr result (λ outcome. KnotHalts H.Told.meaning (H.book host.old) kind (items_of projects.now) knot.now outcome (H.book host.new)) }
 {

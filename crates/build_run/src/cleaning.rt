@@ -1,5 +1,5 @@
 //! A clean build.
-ghost use Rattle.std.specs.Prelude.{◌≡◌, ◌∷◌, [], OnOk, OnErr};
+ghost use Rattle.std.specs.Prelude.{◌≡◌, ◌∷◌, [], OnOk, OnErr, true};
 ghost use Rattle.std.specs.List.{AllByRecursion};
 ghost use Rattle.build_laws.specs.States.{IsItem, item};
 ghost use Rattle.build_laws.specs.Builds.{items_from, items_of};
@@ -17,7 +17,10 @@ fn clean_command<H: Host>(
     index: u16,
     command: &Command,
 ) -> Result<(), NoMemory>
-    requires { IsItem (H.book host.old).now.descs (item project.now index command.now) }
+    requires ready { H.ready host.old }
+    requires serving { (H.book host.old).serving ≡ true }
+    requires described { IsItem (H.book host.old).now.descs (item project.now index command.now) }
+    ensures stays { H.stays host.old host.new }
     ensures swept { OnOk result (WereSwept (H.book host.old) (item project.now index command.now ∷ []) (H.book host.new)) }
     ensures same { OnErr result (H.book host.new ≡ H.book host.old) }
 {
@@ -31,7 +34,10 @@ fn clean_commands<H: Host>(
     project: &Name,
     commands: &[Command],
 ) -> Result<(), NoMemory>
-    requires { IsDescribed (H.book host.old).now.descs (project.now, commands.now) }
+    requires ready { H.ready host.old }
+    requires serving { (H.book host.old).serving ≡ true }
+    requires described { IsDescribed (H.book host.old).now.descs (project.now, commands.now) }
+    ensures stays { H.stays host.old host.new }
     ensures swept { OnOk result (WereSwept (H.book host.old) (items_from project.now 0 commands.now) (H.book host.new)) }
     ensures halted { OnErr result (SweepsHalt (H.book host.old) (items_from project.now 0 commands.now) (H.book host.new)) }
 {
@@ -48,7 +54,10 @@ pub(crate) fn clean_projects<H: Host>(
     host: &mut H,
     projects: &[(Name, Commands)],
 ) -> Result<(), NoMemory>
-    requires { AllByRecursion (IsDescribed (H.book host.old).now.descs) projects.now }
+    requires ready { H.ready host.old }
+    requires serving { (H.book host.old).serving ≡ true }
+    requires described { AllByRecursion (IsDescribed (H.book host.old).now.descs) projects.now }
+    ensures stays { H.stays host.old host.new }
     ensures swept { OnOk result (WereSwept (H.book host.old) (items_of projects.now) (H.book host.new)) }
     ensures halted { OnErr result (SweepsHalt (H.book host.old) (items_of projects.now) (H.book host.new)) }
 {

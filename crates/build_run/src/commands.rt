@@ -1,10 +1,10 @@
 //! Build commands.
-ghost use Rattle.std.specs.Prelude.{◌≡◌, ◌⊎◌, List, IfOk, OnErr, Some, None, option_copied};
+ghost use Rattle.std.specs.Prelude.{◌≡◌, ◌⊎◌, List, IfOk, OnErr, Some, None, option_copied, true};
 ghost use Rattle.builder_api.specs.declared.kind.BuildKind.TheVariants as kinds;
 ghost use Rattle.build_laws.specs.Builds.{Project};
 ghost use Rattle.build_laws.specs.Planned.{IsPlanned};
 ghost use Rattle.build_run.specs.Sweeps.{SweptTo};
-ghost use Rattle.build_run.specs.Starts.{AreCalls, IsTold, MayEnd};
+ghost use Rattle.build_run.specs.Starts.{AreCalled, IsToldOf, MayEnd};
 ghost use Rattle.build_run.specs.Commands.{BuiltTo, WentTo, IsAnswered, IsUnanswered};
 
 use crate::cleaning::clean_projects;
@@ -15,9 +15,12 @@ use res_path::{Name, NoMemory};
 
 /// How the groups of a plan came through a build.
 fn built<H: Host>(host: &mut H, plan: &Plan, kind: BuildKind) -> BuildOutcome
-    requires calls { AreCalls (H.book host.old).since (H.book host.old).done }
+    requires ready { H.ready host.old }
+    requires serving { (H.book host.old).serving ≡ true }
+    requires calls { AreCalled (H.book host.old) }
     requires planned { (gs : List (List Project)) × IsPlanned (H.book host.old).now.descs plan.now.order plan.now.knots gs }
-    ensures calls { (result ≡ BuildOutcome.NoMemory) ⊎ (AreCalls (H.book host.new).since (H.book host.new).done × IsTold (H.book host.new).done result) }
+    ensures stays { H.stays host.old host.new }
+    ensures calls { IsToldOf (H.book host.new) result }
     ensures came { BuiltTo H.Told.meaning (H.book host.old) kind plan.now result (H.book host.new) }
 {
     match build_groups(host, plan.order.as_slice(), plan.knots.as_slice(), kind) {
@@ -28,9 +31,12 @@ fn built<H: Host>(host: &mut H, plan: &Plan, kind: BuildKind) -> BuildOutcome
 
 /// How the commands of a plan came through a clean build.
 fn cleaned<H: Host>(host: &mut H, plan: &Plan) -> BuildOutcome
-    requires calls { AreCalls (H.book host.old).since (H.book host.old).done }
+    requires ready { H.ready host.old }
+    requires serving { (H.book host.old).serving ≡ true }
+    requires calls { AreCalled (H.book host.old) }
     requires planned { (gs : List (List Project)) × IsPlanned (H.book host.old).now.descs plan.now.order plan.now.knots gs }
-    ensures calls { (result ≡ BuildOutcome.NoMemory) ⊎ (AreCalls (H.book host.new).since (H.book host.new).done × IsTold (H.book host.new).done result) }
+    ensures stays { H.stays host.old host.new }
+    ensures calls { IsToldOf (H.book host.new) result }
     ensures came { SweptTo (H.book host.old) plan.now.order result (H.book host.new) }
 {
     match clean_projects(host, plan.order.as_slice()) {
@@ -41,9 +47,12 @@ fn cleaned<H: Host>(host: &mut H, plan: &Plan) -> BuildOutcome
 
 /// How the commands of a plan came through.
 fn went<H: Host>(host: &mut H, plan: &Plan, kind: BuildKind) -> BuildOutcome
-    requires calls { AreCalls (H.book host.old).since (H.book host.old).done }
+    requires ready { H.ready host.old }
+    requires serving { (H.book host.old).serving ≡ true }
+    requires calls { AreCalled (H.book host.old) }
     requires planned { (gs : List (List Project)) × IsPlanned (H.book host.old).now.descs plan.now.order plan.now.knots gs }
-    ensures calls { (result ≡ BuildOutcome.NoMemory) ⊎ (AreCalls (H.book host.new).since (H.book host.new).done × IsTold (H.book host.new).done result) }
+    ensures stays { H.stays host.old host.new }
+    ensures calls { IsToldOf (H.book host.new) result }
     ensures came { WentTo H.Told.meaning (H.book host.old) kind plan.now result (H.book host.new) }
 {
     match kind {
@@ -71,7 +80,9 @@ fn run<H: Host>(
     project: Option<&Name>,
     kind: BuildKind,
 ) -> Result<BuildAnswer, NoMemory>
-    requires { MayEnd H.ends }
+    requires ready { H.ready host.old }
+    requires may { MayEnd H.ends }
+    ensures stays { H.stays host.old host.new }
     ensures answered { IfOk result (λ answer. IsAnswered H.Told.meaning kind (option_copied project.entry) (H.book host.old) answer (H.book host.new)) }
     ensures unanswered { OnErr result (IsUnanswered H.Told.meaning kind (option_copied project.entry) (H.book host.old) (H.book host.new)) }
 {
@@ -90,7 +101,9 @@ fn run<H: Host>(
 /// refused with that number. Answers `NoMemory` where memory wants before the plan is there, after a refusal, or after the
 /// build has ended; in between it is the outcome.
 pub fn build_all<H: Host>(host: &mut H, kind: BuildKind) -> Result<BuildAnswer, NoMemory>
-    requires { MayEnd H.ends }
+    requires ready { H.ready host.old }
+    requires may { MayEnd H.ends }
+    ensures stays { H.stays host.old host.new }
     ensures answered { IfOk result (λ answer. IsAnswered H.Told.meaning kind None (H.book host.old) answer (H.book host.new)) }
     ensures unanswered { OnErr result (IsUnanswered H.Told.meaning kind None (H.book host.old) (H.book host.new)) }
 {
@@ -103,7 +116,9 @@ pub fn build_project<H: Host>(
     project: &Name,
     kind: BuildKind,
 ) -> Result<BuildAnswer, NoMemory>
-    requires { MayEnd H.ends }
+    requires ready { H.ready host.old }
+    requires may { MayEnd H.ends }
+    ensures stays { H.stays host.old host.new }
     ensures answered { IfOk result (λ answer. IsAnswered H.Told.meaning kind (Some project.now) (H.book host.old) answer (H.book host.new)) }
     ensures unanswered { OnErr result (IsUnanswered H.Told.meaning kind (Some project.now) (H.book host.old) (H.book host.new)) }
 {
@@ -113,7 +128,9 @@ pub fn build_project<H: Host>(
 /// Cleans what the commands of the whole workspace or of one project wrote, and what their builders keep. Answers as
 /// `build_all` does.
 pub fn clean<H: Host>(host: &mut H, project: Option<&Name>) -> Result<BuildAnswer, NoMemory>
-    requires { MayEnd H.ends }
+    requires ready { H.ready host.old }
+    requires may { MayEnd H.ends }
+    ensures stays { H.stays host.old host.new }
     ensures answered { IfOk result (λ answer. IsAnswered H.Told.meaning kinds.Clean (option_copied project.entry) (H.book host.old) answer (H.book host.new)) }
     ensures unanswered { OnErr result (IsUnanswered H.Told.meaning kinds.Clean (option_copied project.entry) (H.book host.old) (H.book host.new)) }
 {

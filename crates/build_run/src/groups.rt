@@ -41,7 +41,10 @@ fn build_next<'a, H: Host>(
     knots: &'a [Knot],
     kind: BuildKind,
 ) -> Result<(&'a [(Name, Commands)], &'a [Knot]), BuildOutcome>
-    requires { (g : List Project) × (gs : List (List Project)) × IsPlanned (H.book host.old).now.descs order.now knots.now (g ∷ gs) }
+    requires ready { H.ready host.old }
+    requires serving { (H.book host.old).serving ≡ true }
+    requires planned { (g : List Project) × (gs : List (List Project)) × IsPlanned (H.book host.old).now.descs order.now knots.now (g ∷ gs) }
+    ensures stays { H.stays host.old host.new }
     ensures came { (g : List Project) (gs : List (List Project)) → IsPlanned (H.book host.old).now.descs order.now knots.now (g ∷ gs)
         → IfOk result (λ rest. GroupCame H.Told.meaning (H.book host.old) kind g (H.book host.new) × IsPlanned (H.book host.new).now.descs rest.0.now rest.1.now gs) }
     ensures halted { (g : List Project) (gs : List (List Project)) → IsPlanned (H.book host.old).now.descs order.now knots.now (g ∷ gs)
@@ -68,7 +71,10 @@ pub(crate) fn build_groups<H: Host>(
     knots: &[Knot],
     kind: BuildKind,
 ) -> Result<(), BuildOutcome>
-    requires { (gs : List (List Project)) × IsPlanned (H.book host.old).now.descs order.now knots.now gs }
+    requires ready { H.ready host.old }
+    requires serving { (H.book host.old).serving ≡ true }
+    requires planned { (gs : List (List Project)) × IsPlanned (H.book host.old).now.descs order.now knots.now gs }
+    ensures stays { H.stays host.old host.new }
     ensures came { OnOk result (AllCame H.Told.meaning (H.book host.old) kind order.now knots.now (H.book host.new)) }
     ensures halted { IfErr result (λ outcome. AllHalt H.Told.meaning (H.book host.old) kind order.now knots.now outcome (H.book host.new)) }
 {

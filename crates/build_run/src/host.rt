@@ -1,10 +1,10 @@
 //! Where builds are made.
-ghost use Rattle.std.specs.Prelude.{◌≡◌, ◌++◌, ◌∷◌, [], true, List, IfOk, OnOk, OnErr, IfSome, option_copied};
+ghost use Rattle.std.specs.Prelude.{◌≡◌, true, List, IfOk, OnOk, OnErr, IfSome, option_copied};
 ghost use Rattle.builder_api.specs.declared.outcome.BuildOutcome.{BuildOutcome};
 ghost use Rattle.builder_api.specs.Lawful.{Does};
 ghost use Rattle.build_laws.specs.States.{IsItem, item};
-ghost use Rattle.build_run.specs.Books.{Book, Entry, Did, Called, Hands, Takes, Cleans};
-ghost use Rattle.build_run.specs.Starts.{Opens, Fails, Closes, IsCut};
+ghost use Rattle.build_run.specs.Books.{Book, Entry, Did, Called, WasDone, Hands, Takes, Cleans};
+ghost use Rattle.build_run.specs.Starts.{Opens, Fails, Ends, Closes, IsCut};
 
 use crate::{Given, Started, Taken};
 use builder_api::{BuildFault, BuildKind, BuildOutcome, Edits, Handed, Meanings};
@@ -23,9 +23,23 @@ pub trait Host {
     // whether a build command may end so: with these entries since `start`, these calls of builders, and this outcome
     ghost ends: { List Entry → List Did → BuildOutcome → Type 0 };
 
+    // what holds of it between calls
+    ghost ready: { Self → Type 0 };
+
+    // what each call leaves as it was, and so several do
+    ghost stays: { Self → Self → Type 0 };
+
+    ghost stays_itself: { (host : Self) → stays host host };
+
+    ghost stays_on: { (a b c : Self) → stays a b → stays b c → stays a c };
+
+    ghost stays_ready: { (a b : Self) → stays a b → ready a → ready b };
+
     /// The entries that begin a build command, which give its plan. Where one of them is refused, the entries that end the
     /// command are made too.
     fn start(&mut self, kind: BuildKind, project: Option<&Name>) -> Result<Started, NoMemory>
+        requires ready { ready self.old }
+        ensures stays { stays self.old self.new }
         ensures opened { IfOk result (λ started. Opens kind (option_copied project.entry) (book self.old) started (book self.new)) }
         ensures failed { OnErr result (Fails kind (option_copied project.entry) (book self.old) (book self.new)) };
 
@@ -38,7 +52,10 @@ pub trait Host {
         command: &Command,
         kind: BuildKind,
     ) -> Result<Given, NoMemory>
-        requires { IsItem (book self.old).now.descs (item project.now index command.now) }
+        requires ready { ready self.old }
+        requires serving { (book self.old).serving ≡ true }
+        requires described { IsItem (book self.old).now.descs (item project.now index command.now) }
+        ensures stays { stays self.old self.new }
         ensures given { IfOk result (λ given. Hands (book self.old) (item project.now index command.now) kind given (book self.new)) }
         ensures same { OnErr result (book self.new ≡ book self.old) };
 
@@ -50,12 +67,18 @@ pub trait Host {
         command: &Command,
         handed: &Handed,
     ) -> Result<Edits, BuildFault>
-        requires { (book self.old).has command.now.builder ≡ true }
+        requires ready { ready self.old }
+        requires present { (book self.old).has command.now.builder ≡ true }
+        ensures stays { stays self.old self.new }
         ensures lawful { IfSome (Self.Told.meaning command.now.builder) (λ m. IfOk result (λ edits. Does m command.now handed.now edits)) }
-        ensures book { book self.new ≡ record (book self.old) { done = (book self.old).done ++ Called (item project.now index command.now) handed.now result ∷ [] } };
+        ensures done { WasDone (Called (item project.now index command.now) handed.now result) (book self.old).told (book self.new).told }
+        ensures book { book self.new ≡ record (book self.old) { told = (book self.new).told } };
 
     /// The edits are committed for the command under way.
     fn commit(&mut self, edits: Edits) -> Result<Taken, NoMemory>
+        requires ready { ready self.old }
+        requires serving { (book self.old).serving ≡ true }
+        ensures stays { stays self.old self.new }
         ensures taken { IfOk result (λ taken. IfSome (book self.old).under (λ i. Takes (book self.old) i edits taken (book self.new))) }
         ensures same { OnErr result (book self.new ≡ book self.old) };
 
@@ -67,13 +90,19 @@ pub trait Host {
         index: u16,
         command: &Command,
     ) -> Result<Option<u8>, NoMemory>
-        requires { IsItem (book self.old).now.descs (item project.now index command.now) }
+        requires ready { ready self.old }
+        requires serving { (book self.old).serving ≡ true }
+        requires described { IsItem (book self.old).now.descs (item project.now index command.now) }
+        ensures stays { stays self.old self.new }
         ensures cleaned { IfOk result (λ refused. Cleans (book self.old) (item project.now index command.now) refused (book self.new)) }
         ensures same { OnErr result (book self.new ≡ book self.old) };
 
     /// The entries that end a build command. Where memory wants, the outcome was checked in.
     fn finish(&mut self, outcome: BuildOutcome) -> Result<(), NoMemory>
-        requires { ends (book self.old).since (book self.old).done outcome }
+        requires ready { ready self.old }
+        requires serving { (book self.old).serving ≡ true }
+        requires ends { Ends ends (book self.old) outcome }
+        ensures stays { stays self.old self.new }
         ensures closed { OnOk result (Closes (book self.old) outcome (book self.new)) }
         ensures cut { OnErr result (IsCut (book self.old) outcome (book self.new)) };
 }

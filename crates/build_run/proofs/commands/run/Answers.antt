@@ -24,3 +24,10 @@ returns-clause-answered g c = (
       c.twice-outcome.ensures.outcome),
   subst (λ (o : BuildOutcome). Closes (g.H.Host.book c.went-outcome.new.host) o (g.H.Host.book c.finish.new.self)) c.twice-outcome.ensures.same c.in_ok-finish.ensures.closed,
 )
+
+-- the host stays over all calls
+pub returns-in_err-finish-clause-stays : goal.returns-in_err-finish-clause-stays
+returns-in_err-finish-clause-stays g c = g.H.Host.stays_on _ _ _ (g.H.Host.stays_on _ _ _ c.start.ensures.stays c.went-outcome.ensures.stays) c.finish.ensures.stays
+
+pub returns-clause-stays : goal.returns-clause-stays
+returns-clause-stays g c = g.H.Host.stays_on _ _ _ (g.H.Host.stays_on _ _ _ c.start.ensures.stays c.went-outcome.ensures.stays) c.finish.ensures.stays

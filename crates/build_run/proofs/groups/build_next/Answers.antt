@@ -6,13 +6,13 @@ use Rattle.build_run.proofs.groups.build_next.Goals as goal
 
 pub split_at-requires : goal.split_at-requires
 split_at-requires g c =
-    let r = c.requires in
+    let r = c.requires.planned in
     let n = knot_next _ _ _ r.0 r.1 c.index-order-0.result _ _ r.2 c.index-order-0.is c.in-Some.ensures.found.0 c.in-Some.ensures.found.1 in
     cut_fits _ r.0 (flat_map (λ g. g) r.1) _ r.2.ordered (ap length (c.as_slice.ensures ∙ n.names) ∙ map_length r.0)
 
-pub build_knot-requires : goal.build_knot-requires
-build_knot-requires g c =
-    let r = c.requires in
+pub build_knot-requires-clause-described : goal.build_knot-requires-clause-described
+build_knot-requires-clause-described g c =
+    let r = c.requires.planned in
     let n = knot_next _ _ _ r.0 r.1 c.index-order-0.result _ _ r.2 c.index-order-0.is c.in-Some.ensures.found.0 c.in-Some.ensures.found.1 in
     members_described _ _ _ r.0 r.1 _ r.2 (c.split_at.ensures.front ∙ cut_front _ r.0 (flat_map (λ g. g) r.1) _ r.2.ordered (ap length (c.as_slice.ensures ∙ n.names) ∙ map_length r.0))
 
@@ -33,9 +33,9 @@ returns-in_ok-build_knot-in-Some-clause-came g c = λ group groups plan.
     (c.split_at.ensures.front ∙ cut_front _ group (flat_map (λ g. g) groups) _ plan.ordered many)
     (c.split_at.ensures.back ∙ cut_back _ group (flat_map (λ g. g) groups) _ plan.ordered many) built.1 built.2
 
-pub build_round-requires : goal.build_round-requires
-build_round-requires g c =
-    let r = c.requires in
+pub build_round-requires-clause-described : goal.build_round-requires-clause-described
+build_round-requires-clause-described g c =
+    let r = c.requires.planned in
     let n = lone_next _ _ _ r.0 r.1 c.index-order-0.result r.2 c.index-order-0.is (c.in-None.ensures.none refl) in
     members_described _ _ _ r.0 r.1 _ r.2 (c.split_at-in-None.ensures.front ∙ cut_front _ r.0 (flat_map (λ g. g) r.1) 1 r.2.ordered (sym (ap length n.is)))
 

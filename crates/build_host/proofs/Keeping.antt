@@ -1,0 +1,133 @@
+-- What the worker's events of builds keep.
+use Rattle.std.proofs.Common.{◌≡◌, ◌≢◌, ℕ, ◌+◌, ◌-◌, ◌≤◌, true, List, [], ◌∷◌, ◌++◌, map, Option, Some, None, refl, sym, ap, ◌∙◌, subst, arith, append_assoc, append-nil}
+use Rattle.std.specs.List.{AllByRecursion}
+use Rattle.pass_table.specs.declared.pass.Pass.{Pass}
+use Rattle.pass_table.specs.Passes.{job_of}
+use Rattle.pass_table.specs.Rows.{with_batches}
+use Rattle.core_event.specs.declared.entry.Entry.{Entry}
+use Rattle.core_event.specs.declared.event.Event.{Event}
+use Rattle.core_event.specs.declared.event.Event.TheVariants.{Begin, Batch, EndBatch, End, Leave, Service}
+use Rattle.core_event.specs.declared.reply.Refusal.{Refusal}
+use Rattle.job_manager.specs.declared.manager.JobManager.{JobManager}
+use Rattle.job_manager.specs.Effects.{decided, outcome}
+use Rattle.job_manager.specs.Refusals.{refusal}
+use Rattle.ws_core.specs.States.{Moment}
+use Rattle.ws_core.specs.Histories.{has_entered}
+use Rattle.ws_core.specs.Steps.{step}
+use Rattle.run_order.specs.Alone.{IsPlain, IsSingle}
+use Rattle.run_order.specs.Counts.{giving, left, scheduling}
+use Rattle.run_order.proofs.Managed.{step_serving}
+use Rattle.run_order.proofs.Single.{batches_job, step_single}
+use Rattle.run_order.proofs.Staying.{step_stays}
+use Rattle.run_order.proofs.Taken.{step_left}
+use Rattle.build_due.specs.declared.site.Site.{Site}
+use Rattle.core_event.specs.declared.service.Purpose.TheVariants.{Build}
+use Rattle.core_event.specs.declared.service.ServiceEvent.{ServiceEvent}
+use Rattle.core_event.specs.declared.service.ServiceEvent.TheVariants.{Checkout, CheckIn, Handed, Commit, Clean}
+use Rattle.proj_desc.specs.FirstCause.{first_cause}
+use Rattle.res_path.specs.Paths.{Names}
+use Rattle.service_desk.specs.declared.desk.Desk.{Desk}
+use Rattle.service_desk.specs.Sites.{site_in}
+use Rattle.ws_core.specs.Effects.{clean_for, commit_for, hand, serve}
+use Rattle.ws_core.specs.Histories as core
+use Rattle.ws_core.specs.Refusals.{current, service_causes}
+use Rattle.ws_core.specs.Sessions.{Session}
+use Rattle.build_core.specs.Histories.{Steps}
+use Rattle.build_core.proofs.Leaves.{managed_leaves, refused, served}
+use Rattle.build_host.specs.Hosts.{IsAlone, IsBuilding, Keeps, Goes}
+use Rattle.build_host.specs.Laws.{goes_itself}
+
+plain : (e : Event) → IsBuilding e → IsPlain 1 e
+plain (Begin rule) b = refl
+plain Batch b = refl
+plain (Service x) b = tt
+plain EndBatch b = refl
+plain (End rule) b = refl
+
+no_leave : (e : Event) → IsBuilding e → e ≡ Leave → ⊥
+no_leave e b is = subst IsBuilding is b
+
+none_scheduled : (e : Event) → IsBuilding e → scheduling (λ _. 1) e ≡ 0
+none_scheduled (Begin rule) b = refl
+none_scheduled Batch b = refl
+none_scheduled (Service x) b = refl
+none_scheduled EndBatch b = refl
+none_scheduled (End rule) b = refl
+
+-- the job that the worker runs
+kept_job : (m : JobManager) (e : Event) → IsBuilding e → job_of (outcome m 1 e).0.passes 1 ≡ job_of m.passes 1
+kept_job m e b = by (refusal m 1 e) e b
+  where
+    by : (r : Option Refusal) (e : Event) → IsBuilding e → job_of (decided r m 1 e).0.passes 1 ≡ job_of m.passes 1
+    by (Some r) e b = refl
+    by None (Begin rule) b = refl
+    by None Batch b = batches_job m.passes (λ (pass : Pass). with_batches (pass.batches + 1) pass) (λ pass. refl)
+    by None (Service x) b = refl
+    by None EndBatch b = batches_job m.passes (λ (pass : Pass). with_batches (pass.batches - 1) pass) (λ pass. refl)
+    by None (End rule) b = refl
+
+pub step_keeps : (s : Moment) (e : Event) → has_entered 1 s ≡ true → IsBuilding e → Keeps s (step s 1 e).0
+step_keeps s e there b =
+    let le = step_left s 1 e in
+    let none : scheduling (λ _. 1) e ≡ 0 = none_scheduled e b in record {
+      zeroth = step_stays s 1 e 0 (λ is. absurd (no_leave e b is));
+      worker = step_stays s 1 e 1 (λ is. absurd (no_leave e b is));
+      single = step_single s 1 e there (plain e b);
+      job = ap (λ (m : JobManager). job_of m.passes 1) (step_serving s 1 e).1 ∙ kept_job s.manager e b;
+      left = omega (arith, le, none);
+    }
+
+-- ---- the builders' names
+
+served_names : (s : Moment) (k : ℕ) (x : ServiceEvent) → (serve s k x).0.desk.builders ≡ s.desk.builders
+served_names s k (Checkout (Build kind scope)) = refl
+served_names s k (CheckIn outcome) = refl
+served_names s k (Handed project index kind) = of (site_in s.resources.tree project index)
+  where
+    of : (o : Option Site) → (hand s o kind).0.desk.builders ≡ s.desk.builders
+    of None = refl
+    of (Some site) = refl
+served_names s k (Commit edits) = of (current s)
+  where
+    of : (o : Option Site) → (commit_for s o edits).0.desk.builders ≡ s.desk.builders
+    of None = refl
+    of (Some site) = refl
+served_names s k (Clean project index) = of (site_in s.resources.tree project index)
+  where
+    of : (o : Option Site) → (clean_for s o).0.desk.builders ≡ s.desk.builders
+    of None = refl
+    of (Some site) = refl
+
+service_names : (s : Moment) (k : ℕ) (x : ServiceEvent) → (step s k (Service x)).0.desk.builders ≡ s.desk.builders
+service_names s k x = by (first_cause (service_causes s k x)) refl
+  where
+    by : (r : Option Refusal) → first_cause (service_causes s k x) ≡ r → (step s k (Service x)).0.desk.builders ≡ s.desk.builders
+    by None is = ap (λ (d : Desk). d.builders) (served s k x is).desk ∙ served_names s k x
+    by (Some r) is = ap (λ (d : Desk). d.builders) (refused s k x r is).desk
+
+pub step_names : (s : Moment) (e : Event) → IsBuilding e → (step s 1 e).0.desk.builders ≡ s.desk.builders
+step_names s (Begin rule) b = ap (λ (d : Desk). d.builders) (managed_leaves s 1 (Begin rule) refl refl).desk
+step_names s Batch b = ap (λ (d : Desk). d.builders) (managed_leaves s 1 Batch refl refl).desk
+step_names s (Service x) b = service_names s 1 x
+step_names s EndBatch b = ap (λ (d : Desk). d.builders) (managed_leaves s 1 EndBatch refl refl).desk
+step_names s (End rule) b = ap (λ (d : Desk). d.builders) (managed_leaves s 1 (End rule) refl refl).desk
+
+-- ---- sessions
+
+pub step_goes : (e : Event) (x y : Session) → Steps 1 e x y → IsBuilding e → has_entered 1 x.state ≡ true → Goes x y
+step_goes e x y steps b there = record {
+  opened = steps.opened;
+  entries = core.entry_of x.state 1 e ∷ [];
+  history = steps.history;
+  own = (record { pass = refl; building = b }, tt);
+  keeps = subst (Keeps x.state) (sym steps.state) (step_keeps x.state e there b);
+  names = ap (λ (s : Moment). s.desk.builders) steps.state ∙ step_names x.state e b;
+}
+
+-- where nothing was done
+pub goes_same : (x y : Session) → y ≡ x → Goes x y
+goes_same x y same = subst (Goes x) (sym same) (goes_itself x)
+
+-- the worker stays alone
+pub alone_on : (x y : Session) → Goes x y → IsAlone x.state → IsAlone y.state
+alone_on x y goes h = record { worker = goes.keeps.worker h.worker; single = goes.keeps.single h.single }

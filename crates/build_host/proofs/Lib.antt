@@ -1,0 +1,10 @@
+pub mod Lists
+pub mod Tried
+pub mod Batches
+pub mod Keeping
+pub mod Growing
+pub mod Handing
+pub mod Taking
+pub mod Clearing
+pub mod Opening
+pub mod Closing

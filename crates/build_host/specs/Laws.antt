@@ -1,0 +1,54 @@
+-- What stays while the worker builds stays over several of its events.
+use Rattle.std.proofs.Common.{◌≡◌, ◌≤◌, ◌+◌, ℕ, List, [], ◌∷◌, ◌++◌, refl, sym, ap, ◌∙◌, arith, append_assoc, append-nil}
+use Rattle.std.specs.List.{AllByRecursion}
+use Rattle.builder_api.specs.Meanings.{Meanings}
+use Rattle.builder_api.specs.Told.{Told}
+use Rattle.core_event.specs.declared.entry.Entry.{Entry}
+use Rattle.ws_core.specs.States.{Moment}
+use Rattle.ws_core.specs.Sessions.{Session}
+use Rattle.build_host.specs.Hosts.{Goes, IsOwn, IsReady, Keeps, StayBuilders}
+
+keeps_itself : (s : Moment) → Keeps s s
+keeps_itself s = record { zeroth = λ h. h; worker = λ h. h; single = λ h. h; job = refl; left = omega arith }
+
+keeps_on : (s t u : Moment) → Keeps s t → Keeps t u → Keeps s u
+keeps_on s t u p q =
+    let first = p.left in
+    let second = q.left in record {
+      zeroth = λ h. q.zeroth (p.zeroth h);
+      worker = λ h. q.worker (p.worker h);
+      single = λ h. q.single (p.single h);
+      job = q.job ∙ p.job;
+      left = omega (arith, first, second);
+    }
+
+all_on : (xs ys : List Entry) → AllByRecursion IsOwn xs → AllByRecursion IsOwn ys → AllByRecursion IsOwn (xs ++ ys)
+all_on [] ys h g = g
+all_on (x ∷ xs) ys h g = (h.0, all_on xs ys h.1 g)
+
+pub goes_itself : (x : Session) → Goes x x
+goes_itself x = record { opened = refl; entries = []; history = sym (append-nil x.history); own = tt; keeps = keeps_itself x.state; names = refl }
+
+pub goes_on : (x y z : Session) → Goes x y → Goes y z → Goes x z
+goes_on x y z p q = record {
+  opened = q.opened ∙ p.opened;
+  entries = p.entries ++ q.entries;
+  history = q.history ∙ ap (λ h. h ++ q.entries) p.history ∙ append_assoc x.history p.entries q.entries;
+  own = all_on p.entries q.entries p.own q.own;
+  keeps = keeps_on x.state y.state z.state p.keeps q.keeps;
+  names = q.names ∙ p.names;
+}
+
+pub builders_stay : (ms : Meanings) (told : List Told) → StayBuilders ms told told
+builders_stay ms told = record { names = refl; means = λ h. h }
+
+pub builders_on : (ms : Meanings) (a b c : List Told) → StayBuilders ms a b → StayBuilders ms b c → StayBuilders ms a c
+builders_on ms a b c p q = record { names = q.names ∙ p.names; means = λ h. q.means (p.means h) }
+
+-- the worker is still ready
+pub ready_on : (ms : Meanings) (x y : Session) (a b : List Told) → Goes x y → StayBuilders ms a b → IsReady ms x a → IsReady ms y b
+ready_on ms x y a b goes stay h = record {
+  alone = record { worker = goes.keeps.worker h.alone.worker; single = goes.keeps.single h.alone.single };
+  named = goes.names ∙ h.named ∙ sym stay.names;
+  means = stay.means h.means;
+}

@@ -1,0 +1,61 @@
+//! A build command.
+ghost use Rattle.std.specs.Prelude.{◌≡◌, ℕ, List, map, IfOk, OnErr, option_copied};
+ghost use Rattle.builder_api.specs.Told.{Told};
+ghost use Rattle.build_run.specs.Commands.{IsAnswered, IsUnanswered};
+ghost use Rattle.build_core.specs.Histories.{book_of};
+ghost use Rattle.build_host.specs.Hosts.{Goes, IsReady, StayBuilders};
+
+use crate::NoMemory;
+use crate::host::WorkerHost;
+use build_run::{BuildAnswer, build_all, build_project};
+use builder_api::{BuildKind, Builder, Builders, Meanings};
+use res_path::Name;
+use std::alloc::Global;
+use std::marker::PhantomData;
+use std::snapshot::Snapshot;
+use tree_memory::Remembers;
+use ws_core::Core;
+
+/// The worker makes a build: of the project of this name, or of the whole workspace. A build of the kind `Clean` cleans.
+/// Answers as `build_all` and `build_project` of build_run do.
+pub fn build<T: Remembers + Drop, B: Builder, M: Meanings>(
+    core: &mut Core<T>,
+    builders: &mut Builders<B>,
+    alloc: Global,
+    kind: BuildKind,
+    project: Option<&Name>,
+    meanings: PhantomData<M>,
+) -> Result<BuildAnswer, NoMemory>
+    requires { IsReady M.meaning core.old (map (λ b. B.tells b) builders.old) }
+    ensures answered { IfOk result (λ answer. (first : ℕ) × (began : List Told)
+        × IsAnswered M.meaning kind (option_copied project.entry) (book_of core.old 1 0 (map (λ b. B.tells b) builders.old) (map (λ b. B.tells b) builders.old)) answer
+        (book_of core.new 1 first began (map (λ b. B.tells b) builders.new))) }
+    ensures unanswered { OnErr result ((first : ℕ) × (began : List Told)
+        × IsUnanswered M.meaning kind (option_copied project.entry) (book_of core.old 1 0 (map (λ b. B.tells b) builders.old) (map (λ b. B.tells b) builders.old))
+        (book_of core.new 1 first began (map (λ b. B.tells b) builders.new))) }
+    ensures goes { Goes core.old core.new }
+    ensures builders { StayBuilders M.meaning (map (λ b. B.tells b) builders.old) (map (λ b. B.tells b) builders.new) }
+{
+    let began = Snapshot::of(&*builders);
+    let mut host = WorkerHost::<'_, T, B, M> {
+        core,
+        builders,
+        alloc,
+        first: 0,
+        began,
+        meanings,
+    };
+    let answer = match project {
+        Some(project) => build_project(&mut host, project, kind),
+        None => build_all(&mut host, kind),
+    };
+    let WorkerHost {
+        core: _,
+        builders: _,
+        alloc: _,
+        first: _,
+        began: _,
+        meanings: _,
+    } = host;
+    answer
+}
