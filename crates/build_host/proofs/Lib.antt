@@ -8,3 +8,4 @@ pub mod Taking
 pub mod Clearing
 pub mod Opening
 pub mod Closing
+pub mod Cutting

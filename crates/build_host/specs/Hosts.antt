@@ -28,9 +28,9 @@ IsBuilding EndBatch = Unit {0}
 IsBuilding (End rule) = Unit {0}
 IsBuilding event = ⊥
 
--- an entry of one, which the worker made
-pub record IsOwn (x : Entry) : Type 0 where
-  pub pass : x.pass ≡ 1
+-- an entry of one, which the pass made
+pub record IsOwn (k : ℕ) (x : Entry) : Type 0 where
+  pub pass : x.pass ≡ k
   pub building : IsBuilding x.event
 
 -- the passes stay, all rules are the worker's, it runs the job that it ran, and no more jobs are left than before
@@ -61,7 +61,7 @@ pub record Goes (x y : Session) : Type 0 where
   pub opened : y.opened ≡ x.opened
   pub entries : List Entry
   pub history : y.history ≡ x.history ++ entries
-  pub own : AllByRecursion IsOwn entries
+  pub own : AllByRecursion (IsOwn 1) entries
   pub keeps : Keeps x.state y.state
   pub names : y.state.desk.builders ≡ x.state.desk.builders
 

@@ -22,7 +22,7 @@ keeps_on s t u p q =
       left = omega (arith, first, second);
     }
 
-all_on : (xs ys : List Entry) → AllByRecursion IsOwn xs → AllByRecursion IsOwn ys → AllByRecursion IsOwn (xs ++ ys)
+pub all_on : (xs ys : List Entry) → AllByRecursion (IsOwn 1) xs → AllByRecursion (IsOwn 1) ys → AllByRecursion (IsOwn 1) (xs ++ ys)
 all_on [] ys h g = g
 all_on (x ∷ xs) ys h g = (h.0, all_on xs ys h.1 g)
 

@@ -1,12 +1,15 @@
 //! A build command.
-ghost use Rattle.std.specs.Prelude.{◌≡◌, ℕ, List, map, IfOk, OnErr, option_copied};
+ghost use Rattle.std.specs.Prelude.{◌≡◌, ℕ, List, map, None, IfOk, OnOk, OnErr, option_copied};
 ghost use Rattle.builder_api.specs.Told.{Told};
 ghost use Rattle.build_run.specs.Commands.{IsAnswered, IsUnanswered};
 ghost use Rattle.build_core.specs.Histories.{book_of};
+ghost use Rattle.run_order.specs.Lists.{Cut, Grew};
+ghost use Rattle.build_host.specs.Builds.{IsBuild};
 ghost use Rattle.build_host.specs.Hosts.{Goes, IsReady, StayBuilders};
 
 use crate::NoMemory;
 use crate::host::WorkerHost;
+use crate::steps::settle;
 use build_run::{BuildAnswer, build_all, build_project};
 use builder_api::{BuildKind, Builder, Builders, Meanings};
 use res_path::Name;
@@ -16,15 +19,13 @@ use std::snapshot::Snapshot;
 use tree_memory::Remembers;
 use ws_core::Core;
 
-/// The worker makes a build: of the project of this name, or of the whole workspace. A build of the kind `Clean` cleans.
-/// Answers as `build_all` and `build_project` of build_run do.
-pub fn build<T: Remembers + Drop, B: Builder, M: Meanings>(
+/// The worker as a host makes a build.
+fn hosted<T: Remembers + Drop, B: Builder, M: Meanings>(
     core: &mut Core<T>,
     builders: &mut Builders<B>,
     alloc: Global,
     kind: BuildKind,
     project: Option<&Name>,
-    meanings: PhantomData<M>,
 ) -> Result<BuildAnswer, NoMemory>
     requires { IsReady M.meaning core.old (map (λ b. B.tells b) builders.old) }
     ensures answered { IfOk result (λ answer. (first : ℕ) × (began : List Told)
@@ -43,7 +44,7 @@ pub fn build<T: Remembers + Drop, B: Builder, M: Meanings>(
         alloc,
         first: 0,
         began,
-        meanings,
+        meanings: PhantomData,
     };
     let answer = match project {
         Some(project) => build_project(&mut host, project, kind),
@@ -58,4 +59,25 @@ pub fn build<T: Remembers + Drop, B: Builder, M: Meanings>(
         meanings: _,
     } = host;
     answer
+}
+
+/// The worker makes a build: of the project of this name, or of the whole workspace. A build of the kind `Clean` cleans.
+/// Answers as `build_all` and `build_project` of build_run do (`IWorkspace.build`, `IProject.build`).
+pub fn build<T: Remembers + Drop, B: Builder, M: Meanings>(
+    core: &mut Core<T>,
+    builders: &mut Builders<B>,
+    alloc: Global,
+    kind: BuildKind,
+    project: Option<&Name>,
+) -> Result<BuildAnswer, NoMemory>
+    requires { IsReady M.meaning core.old (map (λ b. B.tells b) builders.old) }
+    // the entries are those of a build, or the first of them where memory wanted
+    ensures made { OnOk result (Grew (IsBuild M.meaning 1 kind (option_copied project.entry)) core.old.history core.new.history) }
+    ensures cut { OnErr result (Grew (Cut (IsBuild M.meaning 1 kind (option_copied project.entry))) core.old.history core.new.history) }
+    ensures home { OnOk result (core.old.state.manager.passes.services ≡ None → core.new.state.manager.passes.services ≡ None) }
+    ensures goes { Goes core.old core.new }
+    ensures builders { StayBuilders M.meaning (map (λ b. B.tells b) builders.old) (map (λ b. B.tells b) builders.new) }
+{
+    settle(core);
+    hosted::<T, B, M>(core, builders, alloc, kind, project)
 }

@@ -20,7 +20,7 @@ use ws_core::Core;
 const WORKER: u64 = 1;
 
 /// The state is sound, and the one that the history leads to, as of every workspace. Nothing is done.
-fn settle<T: Remembers + Drop>(core: &Core<T>)
+pub fn settle<T: Remembers + Drop>(core: &Core<T>)
     ensures placed { core.now.state ≡ replay core.now.opened core.now.history }
     ensures sound { IsConsistent core.now.state }
 {

@@ -1,0 +1,23 @@
+-- The entries of a build command.
+use Rattle.std.specs.Prelude.{◌≡◌, ℕ, List, ◌++◌, Option}
+use Rattle.std.specs.List.{AllByRecursion}
+use Rattle.builder_api.specs.declared.kind.BuildKind.{BuildKind}
+use Rattle.builder_api.specs.Meanings.{Meanings}
+use Rattle.build_run.specs.declared.answers.BuildAnswer.{BuildAnswer}
+use Rattle.build_run.specs.Books.{Book}
+use Rattle.build_run.specs.Commands.{IsAnswered}
+use Rattle.core_event.specs.declared.entry.Entry.{Entry}
+use Rattle.ws_core.specs.States.{Moment}
+use Rattle.build_core.specs.Histories.{entries_of}
+use Rattle.build_host.specs.Hosts.{IsOwn}
+
+-- the pass made these entries from a state on, and as builds read them they are those of a whole build command, which was
+-- answered so
+pub record IsBuild (ms : Meanings) (k : ℕ) (kind : BuildKind) (project : Option (List ℕ)) (h : List Entry) : Type 0 where
+  pub state : Moment
+  pub before : Book
+  pub answer : BuildAnswer
+  pub after : Book
+  pub answered : IsAnswered ms kind project before answer after
+  pub mine : after.mine ≡ before.mine ++ entries_of k state h
+  pub own : AllByRecursion (IsOwn k) h
