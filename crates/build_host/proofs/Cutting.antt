@@ -1,5 +1,5 @@
 -- A build of the one worker, whole or stopped where memory wanted, as entries of its pass.
-use Rattle.std.proofs.Common.{◌≡◌, ◌⊎◌, inl, inr, ℕ, true, List, [], ◌∷◌, ◌++◌, get_or, Option, Some, None, Result, Ok, Err, refl, sym, ap, ◌∙◌, subst, append_assoc, append-nil}
+use Rattle.std.proofs.Common.{◌≡◌, ◌⊎◌, inl, inr, ℕ, true, false, List, [], ◌∷◌, ◌++◌, get_or, Option, Some, None, Result, Ok, Err, refl, sym, ap, ◌∙◌, subst, append_assoc, append-nil}
 use Rattle.std.specs.Prelude.{is_none, IfOk, OnOk, OnErr}
 use Rattle.std.specs.List.{AllByRecursion}
 use Rattle.run_order.specs.Lists.{Cut, Grew}
@@ -23,7 +23,7 @@ use Rattle.core_event.specs.declared.reply.Answer.TheVariants as answers
 use Rattle.core_event.specs.declared.reply.Refusal.TheVariants.{NotContained}
 use Rattle.service_desk.specs.Refusals.{root_rule}
 use Rattle.ws_core.specs.States.{Moment}
-use Rattle.ws_core.specs.Histories.{replay}
+use Rattle.ws_core.specs.Histories.{fresh, replay}
 use Rattle.ws_core.specs.Sessions.{Session}
 use Rattle.build_core.specs.States.{state_of}
 use Rattle.build_core.specs.Histories.{book_of, entries_of}
@@ -224,3 +224,33 @@ pub home_of : {E : Type 0} (r : Result BuildAnswer E) (ms : Meanings) (kind : Bu
 home_of (Ok a) ms kind project x y j c told told' g placed h =
     λ none. none_out y.state.manager.passes.services (at_home ms kind project x y j h.0 c h.1 told told' g placed a h.2 (ap is_none none))
 home_of (Err e) ms kind project x y j c told told' g placed h = tt
+
+-- ---- some build
+
+abbrev nothing_known : Book
+nothing_known = record {
+  mine = [];
+  since = [];
+  began = [];
+  told = [];
+  now = state_of fresh;
+  serving = false;
+  home = true;
+  has = λ name. false;
+  under = None;
+}
+
+-- there is a build of each kind: one that is refused at once
+pub some_build : (ms : Meanings) (kind : BuildKind) (project : Option (List ℕ)) → (l : List Entry) × IsBuild ms 1 kind project l
+some_build ms kind project = (
+  not_begun ∷ [],
+  record {
+    state = fresh;
+    before = nothing_known;
+    answer = Stopped 15;
+    after = record nothing_known { mine = at (state_of fresh) (books.Begin (Some 15)) ∷ [] };
+    answered = record { entries = at (state_of fresh) (books.Begin (Some 15)) ∷ []; mine = refl; told = refl; home = refl; stopped = inl (state_of fresh, refl) };
+    mine = refl;
+    own = (own (events.Begin root_rule) (answers.Refused (NotContained [])) tt, tt);
+  },
+)

@@ -1,5 +1,5 @@
 -- What the worker's events of builds keep.
-use Rattle.std.proofs.Common.{◌≡◌, ◌≢◌, ℕ, ◌+◌, ◌-◌, ◌≤◌, true, List, [], ◌∷◌, ◌++◌, map, Option, Some, None, refl, sym, ap, ◌∙◌, subst, arith, append_assoc, append-nil}
+use Rattle.std.proofs.Common.{◌≡◌, ◌≢◌, ℕ, ◌+◌, ◌-◌, ◌≤◌, Bool, true, false, List, [], ◌∷◌, ◌++◌, map, Option, Some, None, refl, sym, ap, ◌∙◌, subst, arith, append_assoc, append-nil}
 use Rattle.std.specs.List.{AllByRecursion}
 use Rattle.pass_table.specs.declared.pass.Pass.{Pass}
 use Rattle.pass_table.specs.Passes.{job_of}
@@ -12,8 +12,8 @@ use Rattle.job_manager.specs.declared.manager.JobManager.{JobManager}
 use Rattle.job_manager.specs.Effects.{decided, outcome}
 use Rattle.job_manager.specs.Refusals.{refusal}
 use Rattle.ws_core.specs.States.{Moment}
-use Rattle.ws_core.specs.Histories.{has_entered}
-use Rattle.ws_core.specs.Steps.{step}
+use Rattle.ws_core.specs.Histories.{after, has_entered, replay}
+use Rattle.ws_core.specs.Steps.{act, acted, step, tells, told}
 use Rattle.run_order.specs.Alone.{IsPlain, IsSingle}
 use Rattle.run_order.specs.Counts.{giving, left, scheduling}
 use Rattle.run_order.proofs.Managed.{step_serving}
@@ -28,13 +28,19 @@ use Rattle.proj_desc.specs.FirstCause.{first_cause}
 use Rattle.res_path.specs.Paths.{Names}
 use Rattle.service_desk.specs.declared.desk.Desk.{Desk}
 use Rattle.service_desk.specs.Sites.{site_in}
-use Rattle.ws_core.specs.Effects.{clean_for, commit_for, hand, serve}
+use Rattle.ws_core.specs.Effects.{clean_for, commit_for, effect_by, hand, other_effect, serve}
 use Rattle.ws_core.specs.Histories as core
+use Rattle.ws_core.specs.Refusals as core_refusals
 use Rattle.ws_core.specs.Refusals.{current, service_causes}
 use Rattle.ws_core.specs.Sessions.{Session}
 use Rattle.build_core.specs.Histories.{Steps}
 use Rattle.build_core.proofs.Leaves.{managed_leaves, refused, served}
-use Rattle.build_host.specs.Hosts.{IsAlone, IsBuilding, Keeps, Goes}
+use Rattle.builder_api.specs.Meanings.{Meanings}
+use Rattle.builder_api.specs.Told.{Told}
+use Rattle.core_event.specs.declared.reply.Answer.{Answer}
+use Rattle.core_event.specs.Events.{operation_of, service_of}
+use Rattle.op_kind.specs.declared.op.Op.{Op}
+use Rattle.build_host.specs.Hosts.{IsAlone, IsBuilding, IsReady, IsServed, Keeps, Goes, StayBuilders}
 use Rattle.build_host.specs.Laws.{goes_itself}
 
 plain : (e : Event) → IsBuilding e → IsPlain 1 e
@@ -131,3 +137,44 @@ goes_same x y same = subst (Goes x) (sym same) (goes_itself x)
 -- the worker stays alone
 pub alone_on : (x y : Session) → Goes x y → IsAlone x.state → IsAlone y.state
 alone_on x y goes h = record { worker = goes.keeps.worker h.worker; single = goes.keeps.single h.single }
+
+-- ---- served
+
+effect_names : (s : Moment) (k : ℕ) (e : Event) (o : Option Op) → (effect_by o s k e).0.desk.builders ≡ s.desk.builders
+effect_names s k e (Some op) = refl
+effect_names s k e None = by (service_of e)
+  where
+    by : (x : Option ServiceEvent) → (other_effect x s k e).0.desk.builders ≡ s.desk.builders
+    by None = refl
+    by (Some x) = served_names s k x
+
+-- no event changes the builders' names
+any_names : (s : Moment) (k : ℕ) (e : Event) → (step s k e).0.desk.builders ≡ s.desk.builders
+any_names s k e = told_names (tells e (act s k e).0) (act s k e).0 (act s k e).1 ∙ by (core_refusals.refusal s k e)
+  where
+    told_names : (b : Bool) (t : Moment) (a : Answer) → (told b t a).0.desk.builders ≡ t.desk.builders
+    told_names true t a = refl
+    told_names false t a = refl
+
+    by : (r : Option Refusal) → (acted r s k e).0.desk.builders ≡ s.desk.builders
+    by None = effect_names s k e (operation_of e)
+    by (Some r) = refl
+
+replay_names : (s : Moment) (h : List Entry) → (replay s h).desk.builders ≡ s.desk.builders
+replay_names s [] = refl
+replay_names s (x ∷ h) = replay_names (after s x) h ∙ any_names s x.pass x.event
+
+-- the worker that is alone and served is ready to build
+pub served_ready : (ms : Meanings) (x : Session) (b : List Told) → IsServed ms x.opened b → x.state ≡ replay x.opened x.history → IsAlone x.state → IsReady ms x b
+served_ready ms x b served placed alone = record {
+  alone = alone;
+  named = ap (λ (s : Moment). s.desk.builders) placed ∙ replay_names x.opened x.history ∙ served.named;
+  means = served.means;
+}
+
+-- it stays served
+pub still_served : (ms : Meanings) (s t : Moment) (a b : List Told) → t ≡ s → StayBuilders ms a b → IsServed ms s a → IsServed ms t b
+still_served ms s t a b same stay h = record {
+  named = ap (λ (m : Moment). m.desk.builders) same ∙ h.named ∙ sym stay.names;
+  means = stay.means h.means;
+}

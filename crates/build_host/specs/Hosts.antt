@@ -78,3 +78,8 @@ checkout kind scope = Service (Checkout (Build kind scope))
 pub record Asked (kind : BuildKind) (scope : Option (List ℕ)) (n p : Session) (answer : Started) : Type 0 where
   pub steps : Steps 1 (checkout kind scope) n p
   pub answered : started_of (step n.state 1 (checkout kind scope)).1.answer ≡ Some answer
+
+-- the builders are those whose names a workspace was opened with, and mean what is told of them
+pub record IsServed (ms : Meanings) (opened : Moment) (told : List Told) : Type 0 where
+  pub named : opened.desk.builders ≡ map (λ b. b.named) told
+  pub means : HaveMeanings ms told
