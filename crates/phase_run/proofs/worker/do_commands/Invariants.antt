@@ -1,4 +1,5 @@
-use Rattle.std.proofs.Common.{take}
+use Rattle.std.proofs.Common.{map, take}
+use Rattle.build_host.specs.Hosts.{StayBuilders}
 use Rattle.run_order.specs.Lists.{InTurn}
 use Rattle.phase_run.specs.Plans.{Made}
 use Rattle.phase_run.specs.Inside.Doing.{Works}
@@ -6,4 +7,6 @@ use Rattle.phase_run.proofs.worker.do_commands.Given as goal
 
 -- the commands so far are done
 abbrev pub invariant-loop-command : goal.invariant-loop-command
-invariant-loop-command l = Works (InTurn (Made 1) (take l.command-index l.commands)) l.fn.core l.core
+invariant-loop-command g l =
+    Works (InTurn (Made g.M.Meanings.meaning 1) (take l.command-index l.commands)) l.fn.core l.core
+    × StayBuilders g.M.Meanings.meaning (map (λ b. g.B.Builder.tells b) l.fn.builders) (map (λ b. g.B.Builder.tells b) l.builders)
