@@ -6,4 +6,5 @@ pub mod SoundKept
 mod SessionsKept
 mod Attempts
 pub mod Roomy
+pub mod ServingPass
 mod Served

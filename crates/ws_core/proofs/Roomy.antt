@@ -1,6 +1,7 @@
 -- Room for entries stays.
-use Rattle.std.proofs.Common.{◌≡◌, ◌≤◌, ◌+◌, inl, inr, ℕ, Bool, true, false, length, refl, sym, ap, ◌∙◌, subst, arith}
+use Rattle.std.proofs.Common.{◌≡◌, ◌≤◌, ◌+◌, inl, inr, ℕ, Bool, true, false, [], ◌∷◌, length, refl, sym, ap, ◌∙◌, subst, arith}
 use Rattle.std.specs.Prelude.{Option, Some, None, Result, Ok, Err, IfOk, OnErr}
+use Rattle.proj_desc.specs.FirstCause.{first_cause}
 use Rattle.rule_table.specs.Tables.{last_rule, rules_held}
 use Rattle.op_kind.specs.declared.op.Op.{Op}
 use Rattle.core_event.specs.declared.event.Event.{Event}
@@ -9,6 +10,8 @@ use Rattle.core_event.specs.declared.reply.Answer.{Answer}
 use Rattle.core_event.specs.declared.reply.Refusal.{Refusal}
 use Rattle.core_event.specs.declared.reply.Reply.{Reply}
 use Rattle.core_event.specs.declared.twice.Twice.{Twice}
+use Rattle.core_event.specs.declared.service.Outcomes.{Outcomes}
+use Rattle.core_event.specs.declared.service.Outcomes.TheVariants as outcomes
 use Rattle.core_event.specs.declared.service.Purpose.TheVariants.{Build}
 use Rattle.core_event.specs.declared.service.ServiceEvent.{ServiceEvent}
 use Rattle.core_event.specs.declared.service.ServiceEvent.TheVariants.{Checkout, CheckIn, Handed, Commit, Clean}
@@ -16,16 +19,20 @@ use Rattle.core_event.specs.Events.{service_of}
 use Rattle.core_event.specs.Twice.{doubled}
 use Rattle.job_manager.specs.declared.manager.JobManager.{JobManager}
 use Rattle.job_manager.specs.Effects as managing
+use Rattle.job_manager.specs.Refusals as managers
 use Rattle.job_manager.proofs.Counts.{held_more, one_fewer}
 use Rattle.job_manager.proofs.Ended.{is_last}
 use Rattle.ws_core.specs.States.{Moment}
 use Rattle.build_due.specs.declared.site.Site.{Site}
+use Rattle.service_desk.specs.Refusals.{not_serving}
 use Rattle.service_desk.specs.Sites.{site_in}
 use Rattle.ws_core.specs.Refusals.{current, refusal}
 use Rattle.ws_core.specs.Effects.{clean_for, commit_for, hand, serve}
 use Rattle.ws_core.specs.Steps.{acted, act, told, tells, step}
-use Rattle.ws_core.specs.Inside.Rooms.{Fits, HasRoom}
+use Rattle.ws_core.specs.Inside.Rooms.{Fits, HasRoom, IsKept, due_back}
+use Rattle.ws_core.specs.Ends.{ChecksIn}
 use Rattle.job_manager.specs.Ends.{EndsLast}
+use Rattle.ws_core.proofs.ServingPass.{not_refused}
 use Rattle.ws_core.proofs.Stepped.{Concern, OfOperation, OfService, OfManager, concern_of, act_managed}
 
 told_manager : (b : Bool) (s : Moment) (a : Answer) → (told b s a).0.manager ≡ s.manager
@@ -113,21 +120,58 @@ ended_held m k e h =
     ∙ ap (λ r. length (managing.decided r m k (End h.rule)).0.passes.rules + 1) (is_last (last_rule k m.passes.rules) (rules_held k m.passes.rules) h.rule h.last)
     ∙ one_fewer k m.passes.rules h.rule h.last
 
-stepped : (s : Moment) (k : ℕ) (e : Event) (len capacity after : ℕ) → HasRoom s.manager.passes.rules k e len capacity → after ≤ len + 1
-    → Fits (step s k e).0.manager.passes.rules after capacity
-stepped s k e len capacity after (inl fits) more = let held = held_after s k e in omega (arith, held, fits, more)
-stepped s k e len capacity after (inr h) more =
-    let held = ap (λ (m : JobManager). length m.passes.rules) (step_manager s k e (ap service_of h.0.ends)) in
-    let one = ended_held s.manager k e h.0 in
-    omega (arith, held, one, h.1, more)
+-- the end of a rule leaves who has the services
+ended_services : (m : JobManager) (k : ℕ) (e : Event) → EndsLast m.passes.rules k e → (managing.outcome m k e).0.passes.services ≡ m.passes.services
+ended_services m k e h = ap (λ x. (managing.outcome m k x).0.passes.services) h.ends ∙ by (managers.refusal m k (End h.rule))
+  where
+    by : (r : Option Refusal) → (managing.decided r m k (End h.rule)).0.passes.services ≡ m.passes.services
+    by None = refl
+    by (Some r) = refl
+
+-- a check-in leaves the rules, and no pass with the services
+checked_in_manager : (s : Moment) (k : ℕ) (outcome : Outcomes) → not_serving s.manager.passes k ≡ None → (step s k (Service (CheckIn outcome))).0.manager ≡ serving s.manager None
+checked_in_manager s k outcome none =
+    let x = Service (CheckIn outcome) in
+    told_manager (tells x (act s k x).0) (act s k x).0 (act s k x).1 ∙ ap (λ c. (acted (first_cause (c ∷ [])) s k x).0.manager) none
+
+-- ---- room
+
+one_due : (services : Option ℕ) → due_back services ≤ 1
+one_due None = omega arith
+one_due (Some pass) = omega arith
+
+-- where room for the event's entry was kept
+kept_stepped : (s : Moment) (k : ℕ) (e : Event) (len capacity after : ℕ) → IsKept s k e → Fits s.manager.passes len capacity → after ≤ len + 1
+    → Fits (step s k e).0.manager.passes after capacity
+kept_stepped s k e len capacity after (inl h) fits more =
+    let now = step_manager s k e (ap service_of h.ends) in
+    let held = ap (λ (m : JobManager). length m.passes.rules) now in
+    let out = ap (λ (m : JobManager). due_back m.passes.services) now in
+    let one = ended_held s.manager k e h in
+    let same = ap due_back (ended_services s.manager k e h) in
+    omega (arith, held, out, one, same, fits, more)
+kept_stepped s k e len capacity after (inr h) fits more =
+    let now = ap (λ x. (step s k x).0.manager) h.gives ∙ checked_in_manager s k (outcomes.Build h.outcome) (not_refused s.manager.passes k h.serving) in
+    let held : length (step s k e).0.manager.passes.rules ≡ length s.manager.passes.rules = ap (λ (m : JobManager). length m.passes.rules) now in
+    let out : due_back (step s k e).0.manager.passes.services ≡ 0 = ap (λ (m : JobManager). due_back m.passes.services) now in
+    let was : due_back s.manager.passes.services ≡ 1 = ap due_back h.serving in
+    omega (arith, held, out, was, fits, more)
+
+stepped : (s : Moment) (k : ℕ) (e : Event) (len capacity after : ℕ) → HasRoom s k e len capacity → after ≤ len + 1
+    → Fits (step s k e).0.manager.passes after capacity
+stepped s k e len capacity after (inl room) more =
+    let held = held_after s k e in
+    let out = one_due (step s k e).0.manager.passes.services in
+    omega (arith, held, out, room, more)
+stepped s k e len capacity after (inr h) more = kept_stepped s k e len capacity after h.0 h.1 more
 
 -- there is room after a step whose entry was written, and where nothing was done
 pub room_after : {E : Type 0} (r : Result (Twice Reply) E) (w : Bool) (s t : Moment) (k : ℕ) (e : Event) (len capacity after now : ℕ)
-    → IfOk r (λ x. (t, x) ≡ doubled w (step s k e)) → OnErr r (t ≡ s) → HasRoom s.manager.passes.rules k e len capacity → Fits s.manager.passes.rules len capacity
-    → after ≤ len + 1 → OnErr r (after ≡ len) → now ≡ capacity → Fits t.manager.passes.rules after now
+    → IfOk r (λ x. (t, x) ≡ doubled w (step s k e)) → OnErr r (t ≡ s) → HasRoom s k e len capacity → Fits s.manager.passes len capacity
+    → after ≤ len + 1 → OnErr r (after ≡ len) → now ≡ capacity → Fits t.manager.passes after now
 room_after (Ok x) w s t k e len capacity after now ok err room fits more same whole =
-    subst (Fits t.manager.passes.rules after) (sym whole)
-    (subst (λ (z : Moment). Fits z.manager.passes.rules after capacity) (sym (ap (λ d. d.0) ok)) (stepped s k e len capacity after room more))
+    subst (Fits t.manager.passes after) (sym whole)
+    (subst (λ (z : Moment). Fits z.manager.passes after capacity) (sym (ap (λ d. d.0) ok)) (stepped s k e len capacity after room more))
 room_after (Err x) w s t k e len capacity after now ok err room fits more same whole =
-    subst (Fits t.manager.passes.rules after) (sym whole)
-    (subst (λ (z : Moment). Fits z.manager.passes.rules after capacity) (sym err) (subst (λ n. Fits s.manager.passes.rules n capacity) (sym same) fits))
+    subst (Fits t.manager.passes after) (sym whole)
+    (subst (λ (z : Moment). Fits z.manager.passes after capacity) (sym err) (subst (λ n. Fits s.manager.passes n capacity) (sym same) fits))

@@ -1,8 +1,8 @@
 //! What concerns the services: builds, by one pass at a time.
-ghost use Rattle.std.specs.Prelude.{◌≡◌, ◌∷◌, [], true, Some, IfOk, OnErr, None as nothing};
+ghost use Rattle.std.specs.Prelude.{◌≡◌, ◌∷◌, [], true, Some, IfOk, IsOk, OnErr, None as nothing};
 ghost use Rattle.std.specs.Option.{option_copied};
 ghost use Rattle.proj_desc.specs.FirstCause.{first_cause};
-ghost use Rattle.pass_table.specs.Passes.{is_quiet};
+ghost use Rattle.pass_table.specs.Passes.{is_quiet, serves};
 ghost use Rattle.core_event.specs.declared.event.Event.TheVariants.{Service};
 ghost use Rattle.core_event.specs.declared.reply.Answer.TheVariants as answers;
 ghost use Rattle.core_event.specs.declared.service.Purpose.TheVariants as purposes;
@@ -12,6 +12,7 @@ ghost use Rattle.service_desk.specs.Judging.{Judges};
 ghost use Rattle.service_desk.specs.Refusals.{not_serving, unrooted};
 ghost use Rattle.build_plan.specs.Plans.{plan};
 ghost use Rattle.ws_core.specs.Effects.{hand};
+ghost use Rattle.ws_core.specs.Ends.{ChecksIn};
 ghost use Rattle.ws_core.specs.Inside.Parts.{Tells};
 ghost use Rattle.ws_core.specs.Refusals.{current, no_build, service_causes};
 ghost use Rattle.ws_core.specs.Steps.{step};
@@ -39,6 +40,7 @@ impl<T: Remembers + Drop> State<T> {
         requires { is_quiet self.old.manager.passes ≡ true → self.old.remembered.told ≡ self.old.resources.tree }
         ensures ok { IfOk result (λ r. (self.new, r) ≡ doubled wants_copy (step self.old pass (Service event.now))) }
         ensures err { OnErr result (self.new ≡ self.old) }
+        ensures checks_in { ChecksIn self.old pass (Service event.now) → IsOk result }
     {
         match event {
             ServiceEvent::Checkout(Purpose::Build(kind, project)) => {
@@ -112,7 +114,7 @@ impl<T: Remembers + Drop> State<T> {
         Ok(untold(answer))
     }
 
-    /// The pass gives the services back.
+    /// The pass gives the services back. It takes no memory where the pass has them.
     fn check_in(
         &mut self,
         alloc: Global,
@@ -123,16 +125,16 @@ impl<T: Remembers + Drop> State<T> {
         requires { is_quiet self.old.manager.passes ≡ true → self.old.remembered.told ≡ self.old.resources.tree }
         ensures ok { IfOk result (λ r. (self.new, r) ≡ doubled wants_copy (step self.old pass (Service (CheckIn outcome.now)))) }
         ensures err { OnErr result (self.new ≡ self.old) }
+        ensures never { serves self.old.manager.passes pass ≡ true → IsOk result }
     {
         let _ = outcome;
-        match check_serving(&self.manager.passes, pass) {
-            Ok(()) => {
-                self.manager.passes.check_in();
-                self.desk.rest();
-                Ok(untold(done_twice(wants_copy)))
-            }
-            Err(error) => refuse_for(alloc, error, wants_copy),
+        if !self.manager.passes.serves(pass) {
+            let holder = self.manager.passes.services();
+            return refuse(alloc, Refusal::NotServices(holder), wants_copy);
         }
+        self.manager.passes.check_in();
+        self.desk.rest();
+        Ok(untold(done_twice(wants_copy)))
     }
 
     /// What is due is handed for the command.

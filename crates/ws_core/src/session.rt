@@ -9,10 +9,11 @@ ghost use Rattle.core_event.specs.Twice.{twice};
 ghost use Rattle.ws_core.specs.Steps.{step};
 ghost use Rattle.ws_core.specs.Histories.{entry_of, fresh, fresh_for, has_entered, Legal, notices, replay, told_of, written};
 ghost use Rattle.ws_core.specs.Sessions.{IsConsistent};
-ghost use Rattle.ws_core.specs.Inside.Rooms.{Fits, HasRoom};
+ghost use Rattle.ws_core.specs.Ends.{ChecksIn};
+ghost use Rattle.ws_core.specs.Inside.Rooms.{Fits, HasRoom, IsKept};
 ghost use Rattle.job_manager.specs.Ends.{EndsLast};
 
-use crate::{Entry, Event, History, NoMemory, Reply, State, Twice, WsRule};
+use crate::{Entry, Event, History, NoMemory, Outcomes, Reply, ServiceEvent, State, Twice, WsRule};
 use delta_kind::Delta;
 use elem_tree::LayerTree;
 use rule_table::RuleTable;
@@ -41,7 +42,8 @@ pub struct JobCount {
 /// stamps have equal contents in all of them; and each number is below its counter. Each rule that a pass holds is
 /// within each non-null one that it began before, and no rules of two passes conflict.
 ///
-/// There is room for an entry for each rule that is held: so a rule is ended without memory.
+/// There is room for an entry for each rule that is held, and for one more while a pass has the services: so a rule is
+/// ended without memory, and so is a build.
 #[derive(Drop)]
 pub struct Core<T: Remembers + Drop> {
     state: State<T>,
@@ -76,7 +78,7 @@ impl<T: Remembers + Drop> Model for Core<T> {
     ghost view = { λ c. record { opened = c.opened.value; history = c.entries.items; state = c.state } };
 
     ghost invariant = { λ c. IsSession (record { opened = c.opened.value; history = c.entries.items; state = c.state })
-        × Fits c.state.manager.passes.rules (vec_len c.entries) (vec_capacity c.entries) };
+        × Fits c.state.manager.passes (vec_len c.entries) (vec_capacity c.entries) };
 }
 
 impl Core<LayerTree> {
@@ -116,7 +118,8 @@ impl<T: Remembers + Drop> Core<T> {
     /// Does the event of a pass that has entered and hasn't left, writes it into the history with its reply, and gives
     /// the reply. An event that only found that it must wait leaves no entry: a Take that is answered that no job is
     /// there, and one that is refused since another pass's rule is in the way, but for the form that doesn't wait. Where
-    /// memory wants, nothing was done; it never wants where a rule is ended that the pass began last.
+    /// memory wants, nothing was done; it never wants where a rule is ended that the pass began last, and where a build is
+    /// ended by the pass that has the services while a batch is open.
     pub fn step(&mut self, alloc: Global, pass: u64, event: Event) -> Result<Reply, NoMemory>
         requires { has_entered pass self.old.state ≡ true }
         ensures opened { self.new.opened ≡ self.old.opened }
@@ -125,6 +128,7 @@ impl<T: Remembers + Drop> Core<T> {
         ensures history { OnOk result (self.new.history ≡ written self.old.history (entry_of self.old.state pass event)) }
         ensures err { OnErr result (self.new ≡ self.old) }
         ensures never { EndsLast self.old.state.manager.passes.rules pass event → IsOk result }
+        ensures checks_in { ChecksIn self.old.state pass event → IsOk result }
     {
         match advance(&mut self.state, &mut self.entries, alloc, pass, event, true)? {
             Some(reply) => Ok(reply),
@@ -132,7 +136,7 @@ impl<T: Remembers + Drop> Core<T> {
         }
     }
 
-    /// As `step`, for who asks `last` for the reply: no reply is copied.
+    /// As `step`, for who asks `last` for the reply: no reply is copied. Memory never wants in the same two cases.
     pub fn perform(&mut self, alloc: Global, pass: u64, event: Event) -> Result<(), NoMemory>
         requires { has_entered pass self.old.state ≡ true }
         ensures opened { self.new.opened ≡ self.old.opened }
@@ -140,6 +144,7 @@ impl<T: Remembers + Drop> Core<T> {
         ensures history { OnOk result (self.new.history ≡ written self.old.history (entry_of self.old.state pass event)) }
         ensures err { OnErr result (self.new ≡ self.old) }
         ensures never { EndsLast self.old.state.manager.passes.rules pass event → IsOk result }
+        ensures checks_in { ChecksIn self.old.state pass event → IsOk result }
     {
         advance(
             &mut self.state,
@@ -252,42 +257,66 @@ fn advance<T: Remembers + Drop>(
 ) -> Result<Option<Reply>, NoMemory>
     requires sound { IsConsistent state.old }
     requires entered { has_entered pass state.old ≡ true }
-    requires fits { Fits state.old.manager.passes.rules (vec_len entries.old) (vec_capacity entries.old) }
+    requires fits { Fits state.old.manager.passes (vec_len entries.old) (vec_capacity entries.old) }
     ensures state { OnOk result (state.new ≡ (step state.old pass event).0) }
     ensures entries { OnOk result (entries.new.items ≡ written entries.old.items (entry_of state.old pass event)) }
     ensures copy { IfOk result (λ copy. copy ≡ (twice wants_copy (step state.old pass event).1).copy) }
     ensures same { OnErr result (state.new ≡ state.old) }
     ensures no_entry { OnErr result (entries.new.items ≡ entries.old.items) }
     ensures never { EndsLast state.old.manager.passes.rules pass event → IsOk result }
-    ensures fits { Fits state.new.manager.passes.rules (vec_len entries.new) (vec_capacity entries.new) }
+    ensures checks_in { ChecksIn state.old pass event → IsOk result }
+    ensures fits { Fits state.new.manager.passes (vec_len entries.new) (vec_capacity entries.new) }
 {
-    make_room(entries, state.manager().passes.rules(), pass, &event)?;
+    make_room(entries, state, pass, &event)?;
     let replied = state.step(alloc, pass, &event, wants_copy);
     write(entries, pass, event, replied)
 }
 
-/// Room for an entry of the event, and then for one for each rule that may be held. It takes no memory where the event
-/// ends the rule that the pass began last.
-fn make_room(
+/// Room for an entry of the event, and then for one for each rule that may be held and one for the services. It takes no
+/// memory where the event ends the rule that the pass began last, and where it ends the build of the pass while a batch is
+/// open.
+fn make_room<T: Remembers + Drop>(
     entries: &mut Vec<Entry>,
-    held: &RuleTable<WsAtom>,
+    state: &State<T>,
     pass: u64,
     event: &Event,
 ) -> Result<(), NoMemory>
-    requires { Fits held.now (vec_len entries.old) (vec_capacity entries.old) }
+    requires { Fits state.now.manager.passes (vec_len entries.old) (vec_capacity entries.old) }
     ensures items { entries.new.items ≡ entries.old.items }
-    ensures room { OnOk result (HasRoom held.now pass event.now (vec_len entries.new) (vec_capacity entries.new)) }
-    ensures never { EndsLast held.now pass event.now → IsOk result }
-    ensures fits { Fits held.now (vec_len entries.new) (vec_capacity entries.new) }
+    ensures room { OnOk result (HasRoom state.now pass event.now (vec_len entries.new) (vec_capacity entries.new)) }
+    ensures never { EndsLast state.now.manager.passes.rules pass event.now → IsOk result }
+    ensures checks_in { ChecksIn state.now pass event.now → IsOk result }
+    ensures fits { Fits state.now.manager.passes (vec_len entries.new) (vec_capacity entries.new) }
 {
-    if ends_last(held, pass, event) {
+    if is_kept(state, pass, event) {
         return Ok(());
     }
-    let Some(more) = held.len().checked_add(2) else {
+    let Some(more) = state.manager().passes.rules().len().checked_add(3) else {
         return Err(AllocError);
     };
     entries.reserve(more)?;
     Ok(())
+}
+
+/// Whether room for the entry of the event is kept.
+fn is_kept<T: Remembers + Drop>(state: &State<T>, pass: u64, event: &Event) -> bool
+    ensures kept { result ≡ true → IsKept state.now pass event.now }
+    ensures never { EndsLast state.now.manager.passes.rules pass event.now → result ≡ true }
+    ensures checks_in { ChecksIn state.now pass event.now → result ≡ true }
+{
+    ends_last(state.manager().passes.rules(), pass, event) || checks_in(state, pass, event)
+}
+
+/// Whether the event ends the build of the pass that has the services, while a batch is open.
+fn checks_in<T: Remembers + Drop>(state: &State<T>, pass: u64, event: &Event) -> bool
+    ensures ends { result ≡ true → ChecksIn state.now pass event.now }
+    ensures all { ChecksIn state.now pass event.now → result ≡ true }
+{
+    let Event::Service(ServiceEvent::CheckIn(Outcomes::Build(_))) = event else {
+        return false;
+    };
+    let passes = &state.manager().passes;
+    passes.serves(pass) && !passes.is_quiet()
 }
 
 /// Whether the event ends the rule that the pass began last.

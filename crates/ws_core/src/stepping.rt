@@ -13,6 +13,7 @@ ghost use Rattle.job_manager.specs.Ends.{EndsLast};
 ghost use Rattle.job_manager.specs.Batches.{closes, IsRun};
 ghost use Rattle.job_manager.specs.Refusals.{refusal};
 ghost use Rattle.pass_table.specs.Passes.{is_quiet};
+ghost use Rattle.ws_core.specs.Ends.{ChecksIn};
 ghost use Rattle.ws_core.specs.Histories.{has_entered};
 ghost use Rattle.ws_core.specs.Sessions.{IsConsistent};
 ghost use Rattle.ws_core.specs.Inside.Parts.{desk_after, is_refused};
@@ -32,7 +33,8 @@ impl<T: Remembers + Drop> State<T> {
     /// Does the event of the pass, or refuses it with the first cause in the order of its list, and tells what changed
     /// where it is a telling place: each checkpoint, and each other event that leaves no batch open. A refused event
     /// changes nothing. Gives the reply, with a copy where one is wanted. Where memory wants, the state stays as it was; it
-    /// never wants where the pass ends the rule that it began last.
+    /// never wants where the pass ends the rule that it began last, and where it has the services and ends its build while
+    /// a batch is open.
     ///
     /// An operation costs what `ws_ops::apply` does, a commit what `output_commit::commit_edits` does, and a telling place
     /// what was recorded since the one before.
@@ -49,6 +51,7 @@ impl<T: Remembers + Drop> State<T> {
         ensures sound { IsConsistent self.new }
         ensures err { OnErr result (self.new ≡ self.old) }
         ensures never { EndsLast self.old.manager.passes.rules pass event.now → IsOk result }
+        ensures checks_in { ChecksIn self.old pass event.now → IsOk result }
     {
         self.advance(alloc, pass, event, wants_copy)
     }
@@ -65,6 +68,7 @@ impl<T: Remembers + Drop> State<T> {
         ensures ok { IfOk result (λ r. (self.new, r) ≡ doubled wants_copy (step self.old pass event.now)) }
         ensures err { OnErr result (self.new ≡ self.old) }
         ensures never { EndsLast self.old.manager.passes.rules pass event.now → IsOk result }
+        ensures checks_in { ChecksIn self.old pass event.now → IsOk result }
     {
         if let Some(op) = event.operation() {
             return self.operate(alloc, pass, op, wants_copy);

@@ -1,14 +1,25 @@
 -- Room for entries.
-use Rattle.std.specs.Prelude.{◌≤◌, ◌⊎◌, ℕ, ◌+◌, List, length}
+use Rattle.std.specs.Prelude.{◌≤◌, ◌⊎◌, ℕ, ◌+◌, length, Option, Some, None}
 use Rattle.sched_rules.specs.declared.ws_atom.WsAtom.{WsAtom}
-use Rattle.rule_table.specs.declared.held.Held.{Held}
+use Rattle.pass_table.specs.Passes.{Passes}
 use Rattle.core_event.specs.declared.event.Event.{Event}
 use Rattle.job_manager.specs.Ends.{EndsLast}
+use Rattle.ws_core.specs.Ends.{ChecksIn}
+use Rattle.ws_core.specs.States.{Moment}
 
--- there is room for an entry for each rule that is held
-abbrev pub Fits : List (Held WsAtom) → ℕ → ℕ → Type 0
-Fits held len capacity = len + length held ≤ capacity
+-- how many check-ins are to come: one where a pass has the services
+abbrev pub due_back : Option ℕ → ℕ
+due_back None = 0
+due_back (Some pass) = 1
 
--- there is room for the event's entry, and then for one for each rule that may be held
-abbrev pub HasRoom : List (Held WsAtom) → ℕ → Event → ℕ → ℕ → Type 0
-HasRoom held pass event len capacity = (Fits held (len + 2) capacity) ⊎ (EndsLast held pass event × Fits held len capacity)
+-- there is room for an entry for each rule that is held, and for one more while a pass has the services
+abbrev pub Fits : Passes WsAtom → ℕ → ℕ → Type 0
+Fits passes len capacity = len + length passes.rules + due_back passes.services ≤ capacity
+
+-- the event is one for whose entry room is kept
+abbrev pub IsKept : Moment → ℕ → Event → Type 0
+IsKept s pass event = EndsLast s.manager.passes.rules pass event ⊎ ChecksIn s pass event
+
+-- there is room for the event's entry, and then for one for each rule that may be held and one for the services
+abbrev pub HasRoom : Moment → ℕ → Event → ℕ → ℕ → Type 0
+HasRoom s pass event len capacity = (len + length s.manager.passes.rules + 3 ≤ capacity) ⊎ (IsKept s pass event × Fits s.manager.passes len capacity)
