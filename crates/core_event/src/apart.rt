@@ -30,6 +30,14 @@ impl<T> Apart<T> {
         }
     }
 
+    /// The value, which is kept apart no longer. It takes no memory.
+    pub fn into_value(self) -> T
+        ensures { result ≡ self }
+    {
+        let Apart { value } = self;
+        Box::into_inner(value)
+    }
+
     /// The value.
     pub fn value(&self) -> &T
         ensures { result.now ≡ self.now }
