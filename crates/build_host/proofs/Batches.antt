@@ -1,5 +1,5 @@
 -- A pass with an open batch, and the table of passes.
-use Rattle.std.proofs.Common.{◌≡◌, ◌≢◌, ℕ, ◌+◌, ◌==◌, Bool, true, false, not, ◌||◌, cond, List, [], ◌∷◌, Option, Some, None, refl, sym, ap, ◌∙◌, subst}
+use Rattle.std.proofs.Common.{◌≡◌, ◌≢◌, ℕ, ◌+◌, ◌==◌, Bool, true, false, not, ◌||◌, cond, List, [], ◌∷◌, Option, Some, None, refl, sym, ap, ◌∙◌, subst, rules}
 use Rattle.std.specs.Prelude.{is_some}
 use Rattle.std.specs.List.{list_any}
 use Rattle.std.specs.Option.{option_map}
@@ -19,11 +19,11 @@ or_true false = refl
 -- one that is found has an entry
 found_any : (es : List (ℕ × Pass)) (k : ℕ) (pass : Pass) → find nat_cmp k es ≡ Some pass → has_batch pass ≡ true → list_any (λ e. has_batch e.1) es ≡ true
 found_any [] k pass is has = cc
-found_any (e ∷ es) k pass is has = by (eq_by_cmp nat_cmp k e.0) is
+found_any (e ∷ es) k pass is has = by (eq_by_cmp nat_cmp k e.0) (λ i. found_any es k pass i has) is
   where
-    by : (b : Bool) → cond b (Some e.1) (find nat_cmp k es) ≡ Some pass → list_any (λ x. has_batch x.1) (e ∷ es) ≡ true
-    by true same = let it : e.1 ≡ pass = cc in ap (λ x. has_batch x || list_any (λ y. has_batch y.1) es) it ∙ ap (λ b. b || list_any (λ y. has_batch y.1) es) has
-    by false same = ap (λ b. has_batch e.1 || b) (found_any es k pass same has) ∙ or_true (has_batch e.1)
+    by : (b : Bool) → (find nat_cmp k es ≡ Some pass → list_any (λ x. has_batch x.1) es ≡ true) → cond b (Some e.1) (find nat_cmp k es) ≡ Some pass → list_any (λ x. has_batch x.1) (e ∷ es) ≡ true
+    by true later same = let it : e.1 ≡ pass = cc in ap (λ x. has_batch x || list_any (λ y. has_batch y.1) es) it ∙ ap (λ b. b || list_any (λ y. has_batch y.1) es) has
+    by false later same = ap (λ b. has_batch e.1 || b) (later same) ∙ or_true (has_batch e.1)
 
 -- where a pass has an open batch, not all is quiet
 pub loud : (p : Passes WsAtom) (k : ℕ) → (batches_of p k == 0) ≡ false → is_quiet p ≡ false

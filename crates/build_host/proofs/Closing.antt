@@ -23,7 +23,7 @@ use Rattle.build_core.proofs.Leaves.{check_in_leaves}
 use Rattle.run_order.proofs.Managed.{step_services}
 use Rattle.build_host.proofs.Growing.{finds_itself, mine_grows}
 use Rattle.build_host.proofs.Handing.{it_serves}
-use Rattle.build_host.proofs.Opening.{mine, services, services_step}
+use Rattle.build_host.proofs.Begun.{mine, services, services_step}
 
 abbrev pub check_in : BuildOutcome → Event
 check_in o = Service (CheckIn (Build o))

@@ -77,19 +77,19 @@ finishes kind project s number (a ∷ []) rest (inr h) = record {
   tail = batch ∷ not_out kind project ∷ end_batch ∷ end_rule ∷ [];
   number = 15;
   stopped = inr (h.0, _, _, _, _, ap (λ z. z ∷ entries_of 1 s (batch ∷ not_out kind project ∷ end_batch ∷ end_rule ∷ [])) (item 0 a (a ∷ rest) _ h.5));
-  own = (own events.Batch answers.Done tt, own (checkout kind project) (answers.Refused (NotContained [])) tt, own events.EndBatch answers.Done tt, own (events.End root_rule) answers.Done tt, tt);
+  own = (own events.Batch answers.Done tt, (own (checkout kind project) (answers.Refused (NotContained [])) tt, (own events.EndBatch answers.Done tt, (own (events.End root_rule) answers.Done tt, tt))));
 }
 finishes kind project s number (a ∷ b ∷ []) rest (inr h) = record {
   tail = not_out kind project ∷ end_batch ∷ end_rule ∷ [];
   number = 15;
   stopped = inr (h.0, h.1, _, _, _, (λ i. item 0 a (a ∷ b ∷ rest) _ h.5 i ∷ item 1 a (a ∷ b ∷ rest) _ h.5 i ∷ entries_of 1 s (not_out kind project ∷ end_batch ∷ end_rule ∷ [])));
-  own = (own (checkout kind project) (answers.Refused (NotContained [])) tt, own events.EndBatch answers.Done tt, own (events.End root_rule) answers.Done tt, tt);
+  own = (own (checkout kind project) (answers.Refused (NotContained [])) tt, (own events.EndBatch answers.Done tt, (own (events.End root_rule) answers.Done tt, tt)));
 }
 finishes kind project s number (a ∷ b ∷ c ∷ []) rest (inr h) = record {
   tail = end_batch ∷ end_rule ∷ [];
   number = number;
   stopped = inr (h.0, h.1, h.2, _, _, (λ i. item 0 a (a ∷ b ∷ c ∷ rest) _ h.5 i ∷ item 1 a (a ∷ b ∷ c ∷ rest) _ h.5 i ∷ item 2 a (a ∷ b ∷ c ∷ rest) _ h.5 i ∷ entries_of 1 s (end_batch ∷ end_rule ∷ [])));
-  own = (own events.EndBatch answers.Done tt, own (events.End root_rule) answers.Done tt, tt);
+  own = (own events.EndBatch answers.Done tt, (own (events.End root_rule) answers.Done tt, tt));
 }
 finishes kind project s number (a ∷ b ∷ c ∷ d ∷ []) rest (inr h) = record {
   tail = end_rule ∷ [];
@@ -189,11 +189,11 @@ module _ (ms : Meanings) (kind : BuildKind) (project : Option (List ℕ)) (x y :
   -- where memory wanted, they are the first entries of a build
   pub cut : IsUnanswered ms kind project (book_of x 1 j c told) (book_of y 1 i began told') → (rest : List Entry) × IsBuild ms 1 kind project (g.entries ++ rest)
   cut (inl f) = cut_refused f
-  cut (inr (o, (last, (came, inl checks)))) = (
+  cut (inr (o, last, came, inl checks)) = (
     end_batch ∷ end_rule ∷ [],
-    ended o last came [] (end_batch ∷ end_rule ∷ []) checks _ _ refl (own events.EndBatch answers.Done tt, own (events.End root_rule) answers.Done tt, tt),
+    ended o last came [] (end_batch ∷ end_rule ∷ []) checks _ _ refl (own events.EndBatch answers.Done tt, (own (events.End root_rule) answers.Done tt, tt)),
   )
-  cut (inr (o, (last, (came, inr (s, checks))))) = (
+  cut (inr (o, last, came, inr (s, checks))) = (
     end_rule ∷ [],
     ended o last came (at s books.EndBatch ∷ []) (end_rule ∷ []) checks s _ refl (own (events.End root_rule) answers.Done tt, tt),
   )

@@ -42,35 +42,33 @@ use Rattle.core_event.specs.Events.{operation_of, service_of}
 use Rattle.op_kind.specs.declared.op.Op.{Op}
 use Rattle.build_host.specs.Hosts.{IsAlone, IsBuilding, IsReady, IsServed, Keeps, Goes, StayBuilders}
 use Rattle.build_host.specs.Laws.{goes_itself}
+use Rattle.build_host.proofs.Each.{each}
+use Rattle.build_host.proofs.Tried.{building_tried}
+use Rattle.run_order.proofs.Written.{written_more}
+use Rattle.ws_core.specs.Sessions.{IsConsistent}
+use Rattle.std.specs.Prelude.{Result, Ok, Err, OnOk, OnErr}
 
 plain : (e : Event) → IsBuilding e → IsPlain 1 e
-plain (Begin rule) b = refl
-plain Batch b = refl
-plain (Service x) b = tt
-plain EndBatch b = refl
-plain (End rule) b = refl
+plain e b = each (IsPlain 1) (λ rule. refl) refl (λ x. tt) refl (λ rule. refl) e b
 
 no_leave : (e : Event) → IsBuilding e → e ≡ Leave → ⊥
 no_leave e b is = subst IsBuilding is b
 
 none_scheduled : (e : Event) → IsBuilding e → scheduling (λ _. 1) e ≡ 0
-none_scheduled (Begin rule) b = refl
-none_scheduled Batch b = refl
-none_scheduled (Service x) b = refl
-none_scheduled EndBatch b = refl
-none_scheduled (End rule) b = refl
+none_scheduled e b = each (λ v. scheduling (λ _. 1) v ≡ 0) (λ rule. refl) refl (λ x. refl) refl (λ rule. refl) e b
 
 -- the job that the worker runs
 kept_job : (m : JobManager) (e : Event) → IsBuilding e → job_of (outcome m 1 e).0.passes 1 ≡ job_of m.passes 1
-kept_job m e b = by (refusal m 1 e) e b
+kept_job m e b = by (refusal m 1 e)
   where
-    by : (r : Option Refusal) (e : Event) → IsBuilding e → job_of (decided r m 1 e).0.passes 1 ≡ job_of m.passes 1
-    by (Some r) e b = refl
-    by None (Begin rule) b = refl
-    by None Batch b = batches_job m.passes (λ (pass : Pass). with_batches (pass.batches + 1) pass) (λ pass. refl)
-    by None (Service x) b = refl
-    by None EndBatch b = batches_job m.passes (λ (pass : Pass). with_batches (pass.batches - 1) pass) (λ pass. refl)
-    by None (End rule) b = refl
+    by : (r : Option Refusal) → job_of (decided r m 1 e).0.passes 1 ≡ job_of m.passes 1
+    by (Some r) = refl
+    by None = each (λ v. job_of (decided None m 1 v).0.passes 1 ≡ job_of m.passes 1)
+        (λ rule. refl)
+        (batches_job m.passes (λ (pass : Pass). with_batches (pass.batches + 1) pass) (λ pass. refl))
+        (λ x. refl)
+        (batches_job m.passes (λ (pass : Pass). with_batches (pass.batches - 1) pass) (λ pass. refl))
+        (λ rule. refl) e b
 
 pub step_keeps : (s : Moment) (e : Event) → has_entered 1 s ≡ true → IsBuilding e → Keeps s (step s 1 e).0
 step_keeps s e there b =
@@ -112,11 +110,12 @@ service_names s k x = by (first_cause (service_causes s k x)) refl
     by (Some r) is = ap (λ (d : Desk). d.builders) (refused s k x r is).desk
 
 pub step_names : (s : Moment) (e : Event) → IsBuilding e → (step s 1 e).0.desk.builders ≡ s.desk.builders
-step_names s (Begin rule) b = ap (λ (d : Desk). d.builders) (managed_leaves s 1 (Begin rule) refl refl).desk
-step_names s Batch b = ap (λ (d : Desk). d.builders) (managed_leaves s 1 Batch refl refl).desk
-step_names s (Service x) b = service_names s 1 x
-step_names s EndBatch b = ap (λ (d : Desk). d.builders) (managed_leaves s 1 EndBatch refl refl).desk
-step_names s (End rule) b = ap (λ (d : Desk). d.builders) (managed_leaves s 1 (End rule) refl refl).desk
+step_names s e b = each (λ v. (step s 1 v).0.desk.builders ≡ s.desk.builders)
+    (λ rule. ap (λ (d : Desk). d.builders) (managed_leaves s 1 (Begin rule) refl refl).desk)
+    (ap (λ (d : Desk). d.builders) (managed_leaves s 1 Batch refl refl).desk)
+    (λ x. service_names s 1 x)
+    (ap (λ (d : Desk). d.builders) (managed_leaves s 1 EndBatch refl refl).desk)
+    (λ rule. ap (λ (d : Desk). d.builders) (managed_leaves s 1 (End rule) refl refl).desk) e b
 
 -- ---- sessions
 
@@ -129,6 +128,32 @@ step_goes e x y steps b there = record {
   keeps = subst (Keeps x.state) (sym steps.state) (step_keeps x.state e there b);
   names = ap (λ (s : Moment). s.desk.builders) steps.state ∙ step_names x.state e b;
 }
+
+-- the worker did an event, as the core tells it
+pub stepped : (e : Event) (x y : Session) → IsConsistent x.state → x.state ≡ replay x.opened x.history → y.opened ≡ x.opened → y.state ≡ (step x.state 1 e).0
+    → y.history ≡ core.written x.history (core.entry_of x.state 1 e) → IsBuilding e → IsAlone x.state → Steps 1 e x y
+stepped e x y sound placed o s h b alone = record {
+  sound = sound;
+  placed = placed;
+  opened = o;
+  state = s;
+  history = h ∙ written_more x.history (core.entry_of x.state 1 e) (building_tried x.state e b alone.single);
+}
+
+module _ {A E : Type 0} (r : Result A E) (e : Event) (x y : Session) (sound : IsConsistent x.state) (placed : x.state ≡ replay x.opened x.history) (o : y.opened ≡ x.opened) (b : IsBuilding e) (alone : IsAlone x.state) where
+  pub stepped_ok : OnOk r (y.state ≡ (step x.state 1 e).0) → OnOk r (y.history ≡ core.written x.history (core.entry_of x.state 1 e)) → OnOk r (Steps 1 e x y)
+  stepped_ok = by r
+    where
+      by : (r : Result A E) → OnOk r (y.state ≡ (step x.state 1 e).0) → OnOk r (y.history ≡ core.written x.history (core.entry_of x.state 1 e)) → OnOk r (Steps 1 e x y)
+      by (Ok a) s h = stepped e x y sound placed o s h b alone
+      by (Err z) s h = tt
+
+  pub goes_either : OnOk r (y.state ≡ (step x.state 1 e).0) → OnOk r (y.history ≡ core.written x.history (core.entry_of x.state 1 e)) → OnErr r (y ≡ x) → Goes x y
+  goes_either = by r
+    where
+      by : (r : Result A E) → OnOk r (y.state ≡ (step x.state 1 e).0) → OnOk r (y.history ≡ core.written x.history (core.entry_of x.state 1 e)) → OnErr r (y ≡ x) → Goes x y
+      by (Ok a) s h same = step_goes e x y (stepped e x y sound placed o s h b alone) b alone.worker
+      by (Err z) s h same = subst (Goes x) (sym same) (goes_itself x)
 
 -- where nothing was done
 pub goes_same : (x y : Session) → y ≡ x → Goes x y

@@ -1,3 +1,4 @@
+pub mod Each
 pub mod Lists
 pub mod Tried
 pub mod Batches
@@ -6,6 +7,7 @@ pub mod Growing
 pub mod Handing
 pub mod Taking
 pub mod Clearing
-pub mod Opening
+pub mod Begun
 pub mod Closing
 pub mod Cutting
+pub mod Results

@@ -37,9 +37,13 @@ use Rattle.ws_core.specs.Refusals.{current, edit_cause, no_build, service_causes
 use Rattle.ws_core.specs.Effects.{clean_for, commit_for, hand, serve}
 use Rattle.ws_core.specs.Steps.{act, acted, step, tells}
 use Rattle.run_order.specs.Alone.{IsSingle}
+use Rattle.builder_api.specs.declared.kind.BuildKind.{BuildKind}
+use Rattle.build_core.specs.Histories.{started_of, taken_of}
+use Rattle.build_core.proofs.Leaves.{refused, served}
 use Rattle.run_order.proofs.Managed.{told_answer}
 use Rattle.run_order.proofs.Waiting.{both_false, never_tried}
 use Rattle.build_host.specs.Hosts.{IsBuilding}
+use Rattle.build_host.proofs.Each.{each}
 
 -- this is no conflict
 abbrev Calm : Option Refusal → Type 0
@@ -50,7 +54,7 @@ calm_when true cause none r h = ap is_conflict (sym (same_Some cause r h)) ∙ n
 calm_when false cause none r h = cc
 
 -- of several causes none is
-AllCalm : List (Option Refusal) → Type 0
+abbrev AllCalm : List (Option Refusal) → Type 0
 AllCalm [] = Unit {0}
 AllCalm (o ∷ os) = Calm o × AllCalm os
 
@@ -72,8 +76,7 @@ calm_out (Some k) r h = ap is_conflict (sym (same_Some (refusals.ServicesOut k) 
 calm_project : (t : Tree) (project : List ℕ) → AllCalm (project_causes t project)
 calm_project t project = (
   calm_when (not (contains_key t (project ∷ []))) (refusals.Operation (NotFound (project ∷ []))) refl,
-  calm_when (is_shut t (project ∷ [])) (refusals.Operation (ProjectClosed (project ∷ []))) refl,
-  tt,
+  (calm_when (is_shut t (project ∷ [])) (refusals.Operation (ProjectClosed (project ∷ []))) refl, tt),
 )
 
 calm_scope : (t : Tree) (scope : Option (List ℕ)) → AllCalm (scope_causes t scope)
@@ -87,12 +90,19 @@ calm_builder builders (Some c) r h = calm_when _ (refusals.NoBuilder c.builder) 
 calm_site : (s : Moment) (k : ℕ) (project : List ℕ) (index : ℕ) → AllCalm (site_causes s.manager.passes s.resources.tree s.desk.builders k project index)
 calm_site s k project index = (
   calm_serving s.manager.passes k,
-  calm_rooted s k,
-  calm_when (not (contains_key s.resources.tree (project ∷ []))) (refusals.Operation (NotFound (project ∷ []))) refl,
-  calm_when (is_shut s.resources.tree (project ∷ [])) (refusals.Operation (ProjectClosed (project ∷ []))) refl,
-  calm_when (nat_le (length (commands_of s.resources.tree project)) index) (refusals.NoCommand (length (commands_of s.resources.tree project))) refl,
-  calm_builder s.desk.builders (slice_get (commands_of s.resources.tree project) index),
-  tt,
+  (
+    calm_rooted s k,
+    (
+      calm_when (not (contains_key s.resources.tree (project ∷ []))) (refusals.Operation (NotFound (project ∷ []))) refl,
+      (
+        calm_when (is_shut s.resources.tree (project ∷ [])) (refusals.Operation (ProjectClosed (project ∷ []))) refl,
+        (
+          calm_when (nat_le (length (commands_of s.resources.tree project)) index) (refusals.NoCommand (length (commands_of s.resources.tree project))) refl,
+          (calm_builder s.desk.builders (slice_get (commands_of s.resources.tree project) index), tt),
+        ),
+      ),
+    ),
+  ),
 )
 
 calm_build : (o : Option Site) → Calm (no_build o)
@@ -115,10 +125,10 @@ calm_commit s e None r h = cc
 calm_commit s e (Some site) r h = calm_edits (outputs.refusal s.resources site.output site.index e) r h
 
 calm_causes : (s : Moment) (k : ℕ) (x : ServiceEvent) → AllCalm (service_causes s k x)
-calm_causes s k (Checkout (Build kind scope)) = (calm_rooted s k, calm_out s.manager.passes.services, calm_scope s.resources.tree scope)
+calm_causes s k (Checkout (Build kind scope)) = (calm_rooted s k, (calm_out s.manager.passes.services, calm_scope s.resources.tree scope))
 calm_causes s k (CheckIn outcome) = (calm_serving s.manager.passes k, tt)
 calm_causes s k (Handed project index kind) = calm_site s k project index
-calm_causes s k (Commit edits) = (calm_serving s.manager.passes k, calm_build (current s), calm_rooted s k, calm_commit s edits (current s), tt)
+calm_causes s k (Commit edits) = (calm_serving s.manager.passes k, (calm_build (current s), (calm_rooted s k, (calm_commit s edits (current s), tt))))
 calm_causes s k (Clean project index) = calm_site s k project index
 
 -- what is served is answered
@@ -153,8 +163,37 @@ service_tried s k x =
 
 -- each event of a build of the one worker leaves one
 pub building_tried : (s : Moment) (e : Event) → IsBuilding e → IsSingle s.manager → only_tried (entry_of s 1 e) ≡ false
-building_tried s (Begin rule) b single = never_tried s (Begin rule) tt single
-building_tried s Batch b single = never_tried s Batch tt single
-building_tried s (Service x) b single = service_tried s 1 x
-building_tried s EndBatch b single = never_tried s EndBatch tt single
-building_tried s (End rule) b single = never_tried s (End rule) tt single
+building_tried s e b single = each (λ v. only_tried (entry_of s 1 v) ≡ false)
+    (λ rule. never_tried s (Begin rule) tt single)
+    (never_tried s Batch tt single)
+    (λ x. service_tried s 1 x)
+    (never_tried s EndBatch tt single)
+    (λ rule. never_tried s (End rule) tt single) e b
+
+-- ---- what is answered
+
+-- a checkout is answered a plan or refused
+pub checkout_answered : (s : Moment) (k : ℕ) (kind : BuildKind) (scope : Option (List ℕ)) → started_of (step s k (Service (Checkout (Build kind scope)))).1.answer ≡ None → ⊥
+checkout_answered s k kind scope h = by (first_cause (service_causes s k (Checkout (Build kind scope)))) refl
+  where
+    by : (r : Option Refusal) → first_cause (service_causes s k (Checkout (Build kind scope))) ≡ r → ⊥
+    by None is = let got = sym (ap started_of (served s k (Checkout (Build kind scope)) is).answer) ∙ h in cc
+    by (Some r) is = let got = sym (ap started_of (refused s k (Checkout (Build kind scope)) r is).answer) ∙ h in cc
+
+no_cause : (a b c d : Option Refusal) → first_cause (a ∷ b ∷ c ∷ d ∷ []) ≡ None → b ≡ None
+no_cause None None c d h = refl
+no_cause None (Some b) c d h = cc
+no_cause (Some a) b c d h = cc
+
+-- and a commit is made or refused
+pub commit_answered : (s : Moment) (k : ℕ) (e : Edits) → taken_of (step s k (Service (Commit e))).1.answer ≡ None → ⊥
+commit_answered s k e h = by (first_cause (service_causes s k (Commit e))) refl
+  where
+    made : (o : Option Site) → no_build o ≡ None → taken_of (commit_for s o e).1 ≡ None → ⊥
+    made None none g = cc
+    made (Some site) none g = cc
+
+    by : (r : Option Refusal) → first_cause (service_causes s k (Commit e)) ≡ r → ⊥
+    by None is = made (current s) (no_cause (not_serving s.manager.passes k) (no_build (current s)) (unrooted s.manager.passes.rules k) (edit_cause s.resources e (current s)) is)
+        (sym (ap taken_of (served s k (Commit e) is).answer) ∙ h)
+    by (Some r) is = let got = sym (ap taken_of (refused s k (Commit e) r is).answer) ∙ h in cc

@@ -2,6 +2,7 @@
 ghost use Rattle.std.specs.Prelude.{◌≡◌, ℕ, List, map, None, IfOk, OnOk, OnErr, option_copied};
 ghost use Rattle.builder_api.specs.Told.{Told};
 ghost use Rattle.build_run.specs.Commands.{IsAnswered, IsUnanswered};
+ghost use Rattle.build_run.specs.Starts.{MayEnd};
 ghost use Rattle.build_core.specs.Histories.{book_of};
 ghost use Rattle.run_order.specs.Lists.{Cut, Grew};
 ghost use Rattle.build_host.specs.Builds.{IsBuild};
@@ -10,18 +11,36 @@ ghost use Rattle.build_host.specs.Hosts.{Goes, IsReady, StayBuilders};
 use crate::NoMemory;
 use crate::host::WorkerHost;
 use crate::steps::settle;
-use build_run::{BuildAnswer, build_all, build_project};
+use build_run::{BuildAnswer, Host, build_all, build_project};
 use builder_api::{BuildKind, Builder, Builders, Meanings};
+use elem_tree::LayerTree;
 use res_path::Name;
 use std::alloc::Global;
 use std::marker::PhantomData;
 use std::snapshot::Snapshot;
-use tree_memory::Remembers;
 use ws_core::Core;
 
+/// A host makes a build.
+fn run<H: Host>(
+    host: &mut H,
+    kind: BuildKind,
+    project: Option<&Name>,
+) -> Result<BuildAnswer, NoMemory>
+    requires ready { H.ready host.old }
+    requires may { MayEnd H.ends }
+    ensures stays { H.stays host.old host.new }
+    ensures answered { IfOk result (λ answer. IsAnswered H.Told.meaning kind (option_copied project.entry) (H.book host.old) answer (H.book host.new)) }
+    ensures unanswered { OnErr result (IsUnanswered H.Told.meaning kind (option_copied project.entry) (H.book host.old) (H.book host.new)) }
+{
+    match project {
+        Some(project) => build_project(host, project, kind),
+        None => build_all(host, kind),
+    }
+}
+
 /// The worker as a host makes a build.
-fn hosted<T: Remembers + Drop, B: Builder, M: Meanings>(
-    core: &mut Core<T>,
+fn hosted<B: Builder, M: Meanings>(
+    core: &mut Core<LayerTree>,
     builders: &mut Builders<B>,
     alloc: Global,
     kind: BuildKind,
@@ -38,7 +57,7 @@ fn hosted<T: Remembers + Drop, B: Builder, M: Meanings>(
     ensures builders { StayBuilders M.meaning (map (λ b. B.tells b) builders.old) (map (λ b. B.tells b) builders.new) }
 {
     let began = Snapshot::of(&*builders);
-    let mut host = WorkerHost::<'_, T, B, M> {
+    let mut host = WorkerHost::<'_, B, M> {
         core,
         builders,
         alloc,
@@ -46,10 +65,7 @@ fn hosted<T: Remembers + Drop, B: Builder, M: Meanings>(
         began,
         meanings: PhantomData,
     };
-    let answer = match project {
-        Some(project) => build_project(&mut host, project, kind),
-        None => build_all(&mut host, kind),
-    };
+    let answer = run(&mut host, kind, project);
     let WorkerHost {
         core: _,
         builders: _,
@@ -63,8 +79,8 @@ fn hosted<T: Remembers + Drop, B: Builder, M: Meanings>(
 
 /// The worker makes a build: of the project of this name, or of the whole workspace. A build of the kind `Clean` cleans.
 /// Answers as `build_all` and `build_project` of build_run do (`IWorkspace.build`, `IProject.build`).
-pub fn build<T: Remembers + Drop, B: Builder, M: Meanings>(
-    core: &mut Core<T>,
+pub fn build<B: Builder, M: Meanings>(
+    core: &mut Core<LayerTree>,
     builders: &mut Builders<B>,
     alloc: Global,
     kind: BuildKind,
@@ -79,5 +95,5 @@ pub fn build<T: Remembers + Drop, B: Builder, M: Meanings>(
     ensures builders { StayBuilders M.meaning (map (λ b. B.tells b) builders.old) (map (λ b. B.tells b) builders.new) }
 {
     settle(core);
-    hosted::<T, B, M>(core, builders, alloc, kind, project)
+    hosted::<B, M>(core, builders, alloc, kind, project)
 }

@@ -11,18 +11,18 @@ use build_run::{Given, Host, Started, Taken};
 use builder_api::{
     BuildFault, BuildKind, BuildOutcome, Builder, Builders, Edits, Handed, Meanings,
 };
+use elem_tree::LayerTree;
 use proj_desc::Command;
 use res_path::Name;
 use std::alloc::Global;
 use std::marker::PhantomData;
 use std::snapshot::Snapshot;
-use tree_memory::Remembers;
 use ws_core::Core;
 
 /// The one worker of a run as the host of builds: the core of its workspace and its builders, of which those for whose
 /// names there is a meaning have that.
-pub struct WorkerHost<'a, T: Remembers + Drop, B: Builder, M: Meanings> {
-    pub core: &'a mut Core<T>,
+pub struct WorkerHost<'a, B: Builder, M: Meanings> {
+    pub core: &'a mut Core<LayerTree>,
     pub builders: &'a mut Builders<B>,
     pub alloc: Global,
     /// How many entries there were when the build command began.
@@ -32,7 +32,7 @@ pub struct WorkerHost<'a, T: Remembers + Drop, B: Builder, M: Meanings> {
     pub meanings: PhantomData<M>,
 }
 
-impl<'a, T: Remembers + Drop, B: Builder, M: Meanings> Host for WorkerHost<'a, T, B, M> {
+impl<'a, B: Builder, M: Meanings> Host for WorkerHost<'a, B, M> {
     ghost use Rattle.std.specs.Prelude.{◌≡◌, ◌≤◌, length, map, refl};
     ghost use Rattle.std.proofs.Common.{◌∙◌};
     ghost use Rattle.build_core.specs.Histories.{book_of};

@@ -9,6 +9,7 @@ use Rattle.builder_api.specs.declared.plan.Plan.{Plan}
 use Rattle.builder_api.specs.Told.{Told}
 use Rattle.build_laws.specs.States.{Descs, State}
 use Rattle.build_laws.specs.Planned.{IsPlanned}
+use Rattle.build_laws.specs.Builds.{Project as Listed}
 use Rattle.res_path.specs.Paths.{Names}
 use Rattle.std.specs.List.{list_any}
 use Rattle.std.specs.Str.{bytes_eq}
@@ -189,7 +190,7 @@ stops_later kind scope j i c b told x m n p q y number h g batch steps = record 
 -- ---- the build begins
 
 -- the book after these, where its build began with them
-since : ℕ → Session → List books.Entry
+abbrev since : ℕ → Session → List books.Entry
 since i x = entries_of 1 (replay x.opened (take i x.history)) (drop i x.history)
 
 not_refused : (kind : BuildKind) (scope : Option (List ℕ)) (n y : Session) (p : Plan) → Asked kind scope n y (started.Plan p) → first_cause (service_causes n.state 1 (Checkout (Build kind scope))) ≡ None
@@ -253,6 +254,9 @@ opens kind scope j c told x m n y p there h g = record {
 
     same : plan n.state.resources.tree scope ≡ p
     same = let got : Some (started.Plan (plan n.state.resources.tree scope)) ≡ Some (started.Plan p) = sym (ap started_of (checkout_leaves n.state 1 kind scope none).answer) ∙ g.answered in cc
+
+    planned : (gs : List (List Listed)) × IsPlanned (state_of n.state).descs (plan n.state.resources.tree scope).order (plan n.state.resources.tree scope).knots gs
+        × IfSome scope (λ name. map (λ q. q.0) (plan n.state.resources.tree scope).order ≡ name ∷ [])
     planned = checkout_planned n.state 1 kind scope g.steps.sound none
 
     names : y.state.desk.builders ≡ x.state.desk.builders

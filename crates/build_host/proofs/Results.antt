@@ -1,0 +1,149 @@
+-- What calls of the host leave, by what they answered.
+use Rattle.std.proofs.Common.{◌≡◌, ◌⊎◌, inl, inr, ℕ, ◌+◌, ◌≤◌, zero, suc, Bool, true, false, ◌||◌, cond, List, [], ◌∷◌, ◌++◌, map, length, Option, Some, None, Result, Ok, Err, refl, sym, ap, ◌∙◌, subst, arith, length-append}
+use Rattle.std.specs.Prelude.{is_some, IfOk, IfSome, OnOk, OnErr, MatchOption}
+use Rattle.std.specs.List.{list_any, position_from}
+use Rattle.std.specs.Str.{bytes_eq}
+use Rattle.builder_api.specs.declared.edits.Edits.{Edits}
+use Rattle.builder_api.specs.declared.kind.BuildKind.{BuildKind}
+use Rattle.builder_api.specs.declared.outcome.BuildOutcome.{BuildOutcome}
+use Rattle.builder_api.specs.Told.{Call, Told, WasCalledAt, WasFirstCalled, place_named}
+use Rattle.builder_api.proofs.Places.{itself, same_name}
+use Rattle.build_laws.specs.States.{Item, IsItem}
+use Rattle.build_plan.specs.Descriptions.{desc_at}
+use Rattle.build_run.specs.declared.answers.Given.{Given}
+use Rattle.build_run.specs.declared.answers.Started.{Started}
+use Rattle.build_run.specs.declared.answers.Taken.{Taken}
+use Rattle.build_run.specs.Books.{Hands, Takes}
+use Rattle.build_run.specs.Starts.{Closes, IsCut, Opens}
+use Rattle.core_event.specs.declared.event.Event.TheVariants as events
+use Rattle.core_event.specs.declared.event.Event.TheVariants.{Service}
+use Rattle.core_event.specs.declared.service.ServiceEvent.TheVariants as services
+use Rattle.service_desk.specs.Refusals.{root_rule}
+use Rattle.ws_core.specs.States.{Moment}
+use Rattle.ws_core.specs.Sessions.{Session}
+use Rattle.ws_core.specs.Steps.{step}
+use Rattle.build_core.specs.Histories.{book_of, given_of, may_build, Steps}
+use Rattle.build_core.proofs.Handings.{handed_missing, handed_present}
+use Rattle.build_core.proofs.Sites.{has_builder}
+use Rattle.builder_api.specs.Meanings.{Meanings}
+use Rattle.build_run.specs.declared.answers.BuildAnswer.{BuildAnswer}
+use Rattle.build_run.specs.Commands.{IsAnswered, IsUnanswered}
+use Rattle.build_host.specs.Hosts.{Goes, StayBuilders}
+use Rattle.build_host.proofs.Closing.{check_in, closes, cut_first, cut_second}
+use Rattle.build_host.proofs.Handing.{is_rooted, it_serves}
+
+pub err_holds : {A E P : Type 0} (r : Result A E) → P → OnErr r P
+err_holds (Ok x) p = tt
+err_holds (Err e) p = p
+
+-- ---- at the books of the host
+
+pub taken_at : {E : Type 0} (r : Result Taken E) (x y : Session) (edits : Edits) (first : ℕ) (began told : List Told) → first ≤ length x.history
+    → IfOk r (λ t. (n : ℕ) (c d : List Told) → n ≤ length x.history → IfSome (book_of x 1 n c d).under (λ i. Takes (book_of x 1 n c d) i edits t (book_of y 1 n c d)))
+    → IfOk r (λ t. IfSome (book_of x 1 first began told).under (λ i. Takes (book_of x 1 first began told) i edits t (book_of y 1 first began told)))
+taken_at (Ok t) x y edits first began told le h = h first began told le
+taken_at (Err e) x y edits first began told le h = tt
+
+pub opened_at : {E : Type 0} (r : Result Started E) (x y : Session) (kind : BuildKind) (project : Option (List ℕ)) (first n : ℕ) (began c told : List Told) → n ≡ length x.history → c ≡ told
+    → IfOk r (λ s. (m : ℕ) (b d : List Told) → Opens kind project (book_of x 1 m b d) s (book_of y 1 (length x.history) d d))
+    → IfOk r (λ s. Opens kind project (book_of x 1 first began told) s (book_of y 1 n c told))
+opened_at (Ok s) x y kind project first n began c told len same h =
+    subst (λ z. Opens kind project (book_of x 1 first began told) s (book_of y 1 z c told)) (sym len)
+    (subst (λ z. Opens kind project (book_of x 1 first began told) s (book_of y 1 (length x.history) z told)) (sym same) (h first began told))
+opened_at (Err e) x y kind project first n began c told len same h = tt
+
+-- ---- at the workspace and the builders that the host was made of
+
+pub goes_at : (x y z : Session) → Goes x y → z ≡ y → Goes x z
+goes_at x y z goes is = subst (Goes x) (sym is) goes
+
+pub builders_at : (ms : Meanings) (a b c : List Told) → StayBuilders ms a b → c ≡ b → StayBuilders ms a c
+builders_at ms a b c stay is = subst (StayBuilders ms a) (sym is) stay
+
+pub answered_at : {E : Type 0} (r : Result BuildAnswer E) (ms : Meanings) (kind : BuildKind) (project : Option (List ℕ)) (x y z : Session) (n : ℕ) (b c told now new : List Told) → b ≡ told → z ≡ y → new ≡ now
+    → IfOk r (λ a. IsAnswered ms kind project (book_of x 1 0 b told) a (book_of y 1 n c now))
+    → IfOk r (λ a. (m : ℕ) × (d : List Told) × IsAnswered ms kind project (book_of x 1 0 told told) a (book_of z 1 m d new))
+answered_at (Ok a) ms kind project x y z n b c told now new same is named h = (
+  n,
+  c,
+  subst (λ u. IsAnswered ms kind project (book_of x 1 0 told told) a (book_of z 1 n c u)) (sym named)
+      (subst (λ (u : Session). IsAnswered ms kind project (book_of x 1 0 told told) a (book_of u 1 n c now)) (sym is)
+      (subst (λ u. IsAnswered ms kind project (book_of x 1 0 u told) a (book_of y 1 n c now)) same h)),
+)
+answered_at (Err e) ms kind project x y z n b c told now new same is named h = tt
+
+pub unanswered_at : {E : Type 0} (r : Result BuildAnswer E) (ms : Meanings) (kind : BuildKind) (project : Option (List ℕ)) (x y z : Session) (n : ℕ) (b c told now new : List Told) → b ≡ told → z ≡ y → new ≡ now
+    → OnErr r (IsUnanswered ms kind project (book_of x 1 0 b told) (book_of y 1 n c now))
+    → OnErr r ((m : ℕ) × (d : List Told) × IsUnanswered ms kind project (book_of x 1 0 told told) (book_of z 1 m d new))
+unanswered_at (Ok a) ms kind project x y z n b c told now new same is named h = tt
+unanswered_at (Err e) ms kind project x y z n b c told now new same is named h = (
+  n,
+  c,
+  subst (λ u. IsUnanswered ms kind project (book_of x 1 0 told told) (book_of z 1 n c u)) (sym named)
+      (subst (λ (u : Session). IsUnanswered ms kind project (book_of x 1 0 told told) (book_of u 1 n c now)) (sym is)
+      (subst (λ u. IsUnanswered ms kind project (book_of x 1 0 u told) (book_of y 1 n c now)) same h)),
+)
+
+module _ {A E : Type 0} (i : ℕ) (c told : List Told) (o : BuildOutcome) (x m y : Session) (may : may_build x.state.manager 1 ≡ true) (steps : Steps 1 (check_in o) x m) where
+  pub closes_at : (r : Result A E) → OnOk r ((then : Session) × Steps 1 events.EndBatch m then × Steps 1 (events.End root_rule) then y) → OnOk r (Closes (book_of x 1 i c told) o (book_of y 1 i c told))
+  closes_at (Ok a) h = closes i c told o x m h.0 y may steps h.1 h.2
+  closes_at (Err e) h = tt
+
+  pub cut_at : (r : Result A E) → OnErr r ((y ≡ m) ⊎ Steps 1 events.EndBatch m y) → OnErr r (IsCut (book_of x 1 i c told) o (book_of y 1 i c told))
+  cut_at (Ok a) h = tt
+  cut_at (Err e) (inl same) = cut_first i c told o x m y may steps same
+  cut_at (Err e) (inr batch) = cut_second i c told o x m y y may steps batch refl
+
+pub closed_on : {A E : Type 0} (r : Result A E) (x m y : Session) (rule : _) → rule ≡ root_rule → Steps 1 events.EndBatch x m → OnOk r (Steps 1 (events.End rule) m y)
+    → OnOk r ((then : Session) × Steps 1 events.EndBatch x then × Steps 1 (events.End root_rule) then y)
+closed_on (Ok a) x m y rule is batch h = (m, batch, subst (λ u. Steps 1 (events.End u) m y) is h)
+closed_on (Err e) x m y rule is batch h = tt
+
+-- ---- what is handed is given or refused
+
+pub handed_answered : (s : Moment) (k : ℕ) (i : Item) (kind : BuildKind) → may_build s.manager k ≡ true → IsItem (desc_at s.resources.tree) i
+    → given_of (step s k (Service (services.Handed i.project i.index kind))).1.answer ≡ None → ⊥
+handed_answered s k i kind may it h = by (has_builder s.desk.builders i) refl
+  where
+    by : (b : Bool) → has_builder s.desk.builders i ≡ b → ⊥
+    by true there = let got = sym (ap given_of (handed_present s k i kind it (it_serves s.manager k may) (is_rooted s.manager k may) there).answer) ∙ h in cc
+    by false away = let got = sym (ap given_of (handed_missing s k i kind it (it_serves s.manager k may) (is_rooted s.manager k may) away).answer) ∙ h in cc
+
+-- ---- builders
+
+none_placed : (n : List ℕ) (k : ℕ) (told : List Told) → position_from (λ b. bytes_eq b.named n) k told ≡ None → list_any (bytes_eq n) (map (λ b. b.named) told) ≡ true → ⊥
+none_placed n k [] h any = cc
+none_placed n k (b ∷ told) h any = by (bytes_eq b.named n) (bytes_eq n b.named) (none_placed n (k + 1) told) refl refl h any
+  where
+    by : (p q : Bool) → (position_from (λ x. bytes_eq x.named n) (k + 1) told ≡ None → list_any (bytes_eq n) (map (λ x. x.named) told) ≡ true → ⊥) → bytes_eq b.named n ≡ p → bytes_eq n b.named ≡ q → cond p (Some k) (position_from (λ x. bytes_eq x.named n) (k + 1) told) ≡ None
+        → (q || list_any (bytes_eq n) (map (λ x. x.named) told)) ≡ true → ⊥
+    by true q later is other g a = cc
+    by false true later is other g a = let same : n ≡ b.named = same_name n b.named other in let no = sym is ∙ ap (λ z. bytes_eq z n) (sym same) ∙ itself n in cc
+    by false false later is other g a = later g a
+
+-- one of the builders has the name
+pub builder_placed : (n : List ℕ) (names : List (List ℕ)) (told : List Told) → names ≡ map (λ b. b.named) told → list_any (bytes_eq n) names ≡ true → place_named n told ≡ None → ⊥
+builder_placed n names told named there none = none_placed n 0 told none (ap (list_any (bytes_eq n)) (sym named) ∙ there)
+
+names_at : (at : ℕ) (call : Call) (old new : List Told) → WasCalledAt at call old new → map (λ b. b.named) new ≡ map (λ b. b.named) old
+names_at at call [] [] h = refl
+names_at at call [] (y ∷ ys) h = absurd h
+names_at at call (x ∷ xs) [] h = absurd h
+names_at zero call (x ∷ xs) (y ∷ ys) h = λ i. h.0.named i ∷ map (λ b. b.named) (h.1 i)
+names_at (suc at) call (x ∷ xs) (y ∷ ys) h = λ i. (h.0 i).named ∷ names_at at call xs ys h.1 i
+
+-- a call leaves the names
+pub called_names : (n : List ℕ) (call : Call) (old new : List Told) → WasFirstCalled n call old new → map (λ b. b.named) new ≡ map (λ b. b.named) old
+called_names n call old new h = by (place_named n old) h
+  where
+    by : (o : Option ℕ) → MatchOption o (new ≡ old) (λ at. WasCalledAt at call old new) → map (λ b. b.named) new ≡ map (λ b. b.named) old
+    by None g = ap (map (λ b. b.named)) g
+    by (Some at) g = names_at at call old new g
+
+-- ---- histories that grow
+
+pub longer : (x y : Session) (n : ℕ) → Goes x y → n ≤ length x.history → n ≤ length y.history
+longer x y n goes le = let e = ap length goes.history ∙ length-append x.history goes.entries in omega (arith, e, le)
+
+pub none_some : {X : Type 0} (o : Option X) (x : X) → is_some o ≡ false → o ≡ Some x → ⊥
+none_some o x h is = let no : false ≡ true = sym h ∙ ap is_some is in cc
