@@ -1,13 +1,12 @@
 -- A pass with an open batch, and the table of passes.
-use Rattle.std.proofs.Common.{◌≡◌, ◌≢◌, ℕ, ◌+◌, ◌==◌, Bool, true, false, not, ◌||◌, cond, List, [], ◌∷◌, Option, Some, None, refl, sym, ap, ◌∙◌, subst, rules}
+use Rattle.std.proofs.Common.{◌≡◌, ℕ, ◌+◌, ◌==◌, Bool, true, false, not, ◌||◌, cond, List, [], ◌∷◌, Option, Some, None, refl, sym, ap, ◌∙◌, rules}
 use Rattle.std.specs.Prelude.{is_some}
 use Rattle.std.specs.List.{list_any}
 use Rattle.std.specs.Option.{option_map}
-use Rattle.std.specs.FinMap.{FinMap, get, entries, find, get-entries}
+use Rattle.std.specs.FinMap.{get, entries, find, get-entries}
 use Rattle.std.specs.Ordering.{nat_cmp, eq_by_cmp}
-use Rattle.job_queue.specs.Changed.{changed, put_if}
 use Rattle.pass_table.specs.declared.pass.Pass.{Pass}
-use Rattle.pass_table.specs.Passes.{Passes, Table, batches_in, batches_of, has_batch, has_pass, is_quiet}
+use Rattle.pass_table.specs.Passes.{Passes, batches_in, batches_of, has_batch, has_pass, is_quiet}
 use Rattle.pass_table.specs.Rows.{in_batch, with_batches}
 use Rattle.run_order.proofs.Single.{table_put}
 use Rattle.sched_rules.specs.declared.ws_atom.WsAtom.{WsAtom}

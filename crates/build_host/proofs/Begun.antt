@@ -1,9 +1,8 @@
 -- How a build of the one worker begins, as its book has it.
-use Rattle.std.proofs.Common.{◌≡◌, ◌⊎◌, inl, inr, ℕ, ◌≤◌, suc, Bool, true, false, not, ◌==◌, ◌&&◌, List, [], ◌∷◌, ◌++◌, map, length, take, drop, Option, Some, None, IfSome, refl, sym, ap, ◌∙◌, subst, arith, append_assoc, append-nil}
+use Rattle.std.proofs.Common.{◌≡◌, inl, inr, ℕ, ◌≤◌, true, false, not, ◌==◌, ◌&&◌, List, [], ◌∷◌, ◌++◌, map, length, take, drop, Option, Some, None, IfSome, refl, sym, ap, ◌∙◌, subst, arith, append_assoc, append-nil}
 use Rattle.std.specs.Prelude.{is_none}
 use Rattle.std.specs.Option.{option_map}
 use Rattle.proj_desc.specs.FirstCause.{first_cause}
-use Rattle.job_queue.proofs.Found.{same_Some}
 use Rattle.builder_api.specs.declared.kind.BuildKind.{BuildKind}
 use Rattle.builder_api.specs.declared.plan.Plan.{Plan}
 use Rattle.builder_api.specs.Told.{Told}
@@ -18,12 +17,11 @@ use Rattle.build_run.specs.declared.answers.Started.{Started}
 use Rattle.build_run.specs.declared.answers.Started.TheVariants as started
 use Rattle.build_run.specs.Books.{at}
 use Rattle.build_run.specs.Books as books
-use Rattle.build_run.specs.Starts.{Begins, Fails, IsStopped, Stops}
+use Rattle.build_run.specs.Starts.{Begins, Fails, Stops}
 use Rattle.core_event.specs.declared.event.Event.{Event}
 use Rattle.core_event.specs.declared.event.Event.TheVariants as events
 use Rattle.core_event.specs.Events.{service_of}
 use Rattle.core_event.specs.declared.event.Event.TheVariants.{Service}
-use Rattle.core_event.specs.declared.reply.Answer.{Answer}
 use Rattle.core_event.specs.declared.reply.Answer.TheVariants as answers
 use Rattle.core_event.specs.declared.reply.Refusal.{Refusal}
 use Rattle.core_event.specs.declared.service.Purpose.TheVariants.{Build}
@@ -42,7 +40,7 @@ use Rattle.ws_core.specs.Steps.{step}
 use Rattle.build_core.specs.States.{state_of}
 use Rattle.build_core.specs.Histories.{book_of, entries_of, may_build, number_of, started_of, Steps}
 use Rattle.build_core.proofs.Checkouts.{checkout_leaves, checkout_planned}
-use Rattle.build_core.proofs.Holding.{batch_leaves, batch_rooted, begin_leaves, begin_rooted, checkout_rooted, checkout_serves}
+use Rattle.build_core.proofs.Holding.{batch_leaves, batch_rooted, begin_rooted, checkout_rooted, checkout_serves}
 use Rattle.build_core.proofs.Leaves.{managed_leaves, refused}
 use Rattle.run_order.proofs.Managed.{step_services}
 use Rattle.build_host.specs.Hosts.{Asked, checkout}

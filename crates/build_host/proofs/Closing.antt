@@ -1,26 +1,23 @@
 -- How a build of the one worker ends, as its book has it.
-use Rattle.std.proofs.Common.{◌≡◌, ◌⊎◌, inl, inr, ℕ, true, false, List, [], ◌∷◌, ◌++◌, length, Option, Some, None, refl, sym, ap, ◌∙◌, subst, append_assoc}
+use Rattle.std.proofs.Common.{◌≡◌, inl, inr, ℕ, true, List, [], ◌∷◌, ◌++◌, None, refl, ap, ◌∙◌, append_assoc}
 use Rattle.std.specs.Prelude.{is_none}
 use Rattle.builder_api.specs.declared.outcome.BuildOutcome.{BuildOutcome}
 use Rattle.builder_api.specs.Told.{Told}
 use Rattle.build_run.specs.Books as books
 use Rattle.build_run.specs.Books.{at}
-use Rattle.build_run.specs.Starts.{ChecksIn, Closes, IsCut}
+use Rattle.build_run.specs.Starts.{Closes, IsCut}
 use Rattle.core_event.specs.declared.event.Event.{Event}
 use Rattle.core_event.specs.declared.event.Event.TheVariants as events
 use Rattle.core_event.specs.declared.event.Event.TheVariants.{Service}
 use Rattle.core_event.specs.declared.service.Outcomes.TheVariants.{Build}
 use Rattle.core_event.specs.declared.service.ServiceEvent.TheVariants.{CheckIn}
-use Rattle.core_event.specs.Events.{service_of}
 use Rattle.job_manager.specs.declared.manager.JobManager.{JobManager}
 use Rattle.service_desk.specs.Refusals.{root_rule}
 use Rattle.ws_core.specs.States.{Moment}
 use Rattle.ws_core.specs.Sessions.{Session}
-use Rattle.ws_core.specs.Steps.{step}
 use Rattle.build_core.specs.States.{state_of}
-use Rattle.build_core.specs.Histories.{book_of, entries_of, may_build, Steps}
+use Rattle.build_core.specs.Histories.{book_of, may_build, Steps}
 use Rattle.build_core.proofs.Leaves.{check_in_leaves}
-use Rattle.run_order.proofs.Managed.{step_services}
 use Rattle.build_host.proofs.Growing.{finds_itself, mine_grows}
 use Rattle.build_host.proofs.Handing.{it_serves}
 use Rattle.build_host.proofs.Begun.{mine, services, services_step}

@@ -1,5 +1,5 @@
 -- A build of the one worker, whole or stopped where memory wanted, as entries of its pass.
-use Rattle.std.proofs.Common.{◌≡◌, ◌⊎◌, inl, inr, ℕ, true, false, List, [], ◌∷◌, ◌++◌, get_or, Option, Some, None, Result, Ok, Err, refl, sym, ap, ◌∙◌, subst, append_assoc, append-nil}
+use Rattle.std.proofs.Common.{◌≡◌, inl, inr, ℕ, true, false, List, [], ◌∷◌, ◌++◌, get_or, Option, Some, None, Result, Ok, Err, refl, sym, ap, ◌∙◌, append_assoc}
 use Rattle.std.specs.Prelude.{is_none, IfOk, OnOk, OnErr}
 use Rattle.std.specs.List.{AllByRecursion}
 use Rattle.run_order.specs.Lists.{Cut, Grew}
@@ -9,10 +9,9 @@ use Rattle.builder_api.specs.Meanings.{Meanings}
 use Rattle.builder_api.specs.Told.{Told}
 use Rattle.build_run.specs.declared.answers.BuildAnswer.{BuildAnswer}
 use Rattle.build_run.specs.declared.answers.BuildAnswer.TheVariants.{Ended, Stopped}
-use Rattle.build_run.specs.declared.answers.Started.TheVariants as started
 use Rattle.build_run.specs.Books as books
 use Rattle.build_run.specs.Books.{Book, at}
-use Rattle.build_run.specs.Starts.{ChecksIn, Closes, Fails, IsCut, IsStopped}
+use Rattle.build_run.specs.Starts.{ChecksIn, Fails, IsStopped}
 use Rattle.build_run.specs.Commands.{CameTo, IsAnswered, IsUnanswered}
 use Rattle.build_laws.specs.States.{State}
 use Rattle.core_event.specs.declared.entry.Entry.{Entry}

@@ -1,5 +1,5 @@
 -- Books that grow by a step.
-use Rattle.std.proofs.Common.{◌≡◌, ℕ, ◌+◌, ◌≤◌, zero, suc, Bool, true, false, not, ◌==◌, ◌&&◌, eq-eqb, List, [], ◌∷◌, ◌++◌, length, take, drop, Option, Some, None, refl, sym, ap, ◌∙◌, subst, arith}
+use Rattle.std.proofs.Common.{◌≡◌, ℕ, ◌≤◌, suc, eq-eqb, List, [], ◌∷◌, ◌++◌, length, take, drop, Some, refl, sym, ap, ◌∙◌}
 use Rattle.std.specs.Prelude.{is_none}
 use Rattle.std.specs.List.{list_any}
 use Rattle.std.specs.Option.{option_map}
@@ -8,8 +8,6 @@ use Rattle.builder_api.specs.Told.{Told}
 use Rattle.core_event.specs.declared.entry.Entry.{Entry}
 use Rattle.core_event.specs.declared.event.Event.{Event}
 use Rattle.core_event.specs.declared.reply.Answer.{Answer}
-use Rattle.job_manager.specs.declared.manager.JobManager.{JobManager}
-use Rattle.service_desk.specs.declared.desk.Desk.{Desk}
 use Rattle.service_desk.specs.Desks.{site_of}
 use Rattle.build_laws.specs.States.{State, Finds}
 use Rattle.build_run.specs.Books as books
@@ -17,7 +15,6 @@ use Rattle.build_run.specs.Books.{Book, Deed, at}
 use Rattle.ws_core.specs.States.{Moment}
 use Rattle.ws_core.specs.Histories as core
 use Rattle.ws_core.specs.Histories.{replay}
-use Rattle.ws_core.specs.Refusals.{current}
 use Rattle.ws_core.specs.Sessions.{Session}
 use Rattle.ws_core.specs.Steps.{step}
 use Rattle.build_core.specs.States.{item_of, state_of}

@@ -1,5 +1,5 @@
 -- What is handed is due, as the book of the build has it.
-use Rattle.std.proofs.Common.{◌≡◌, ℕ, ◌≤◌, Bool, true, false, not, ◌==◌, ◌&&◌, List, [], ◌∷◌, ◌++◌, length, Option, Some, None, IfSome, refl, sym, ap, ◌∙◌, subst}
+use Rattle.std.proofs.Common.{◌≡◌, ℕ, ◌≤◌, Bool, true, false, not, ◌==◌, ◌&&◌, List, [], ◌∷◌, ◌++◌, length, Option, Some, None, refl, sym, ap, ◌∙◌, subst}
 use Rattle.std.specs.Prelude.{is_none}
 use Rattle.std.specs.Option.{option_map}
 use Rattle.job_queue.proofs.Found.{same_Some}
@@ -19,11 +19,10 @@ use Rattle.core_event.specs.declared.service.ServiceEvent.TheVariants as service
 use Rattle.job_manager.specs.declared.manager.JobManager.{JobManager}
 use Rattle.pass_table.specs.Passes.{batches_of}
 use Rattle.service_desk.specs.Refusals.{not_serving, unrooted}
-use Rattle.service_desk.specs.Sites.{site_in}
 use Rattle.ws_core.specs.States.{Moment}
 use Rattle.ws_core.specs.Sessions.{Session}
 use Rattle.ws_core.specs.Steps.{step}
-use Rattle.build_core.specs.States.{item_of, site_of_item, state_of}
+use Rattle.build_core.specs.States.{item_of, state_of}
 use Rattle.build_core.specs.Histories.{book_of, given_of, may_build, Steps}
 use Rattle.build_core.proofs.Handings.{handed_missing, handed_present, handed_to}
 use Rattle.build_core.proofs.Sites.{has_builder, item_site}

@@ -1,6 +1,5 @@
 -- What the worker's events of builds keep.
-use Rattle.std.proofs.Common.{◌≡◌, ◌≢◌, ℕ, ◌+◌, ◌-◌, ◌≤◌, Bool, true, false, List, [], ◌∷◌, ◌++◌, map, Option, Some, None, refl, sym, ap, ◌∙◌, subst, arith, append_assoc, append-nil}
-use Rattle.std.specs.List.{AllByRecursion}
+use Rattle.std.proofs.Common.{◌≡◌, ℕ, ◌+◌, ◌-◌, Bool, true, false, List, [], ◌∷◌, Option, Some, None, refl, sym, ap, ◌∙◌, subst, arith}
 use Rattle.pass_table.specs.declared.pass.Pass.{Pass}
 use Rattle.pass_table.specs.Passes.{job_of}
 use Rattle.pass_table.specs.Rows.{with_batches}
@@ -14,8 +13,8 @@ use Rattle.job_manager.specs.Refusals.{refusal}
 use Rattle.ws_core.specs.States.{Moment}
 use Rattle.ws_core.specs.Histories.{after, has_entered, replay}
 use Rattle.ws_core.specs.Steps.{act, acted, step, tells, told}
-use Rattle.run_order.specs.Alone.{IsPlain, IsSingle}
-use Rattle.run_order.specs.Counts.{giving, left, scheduling}
+use Rattle.run_order.specs.Alone.{IsPlain}
+use Rattle.run_order.specs.Counts.{scheduling}
 use Rattle.run_order.proofs.Managed.{step_serving}
 use Rattle.run_order.proofs.Single.{batches_job, step_single}
 use Rattle.run_order.proofs.Staying.{step_stays}
@@ -25,7 +24,6 @@ use Rattle.core_event.specs.declared.service.Purpose.TheVariants.{Build}
 use Rattle.core_event.specs.declared.service.ServiceEvent.{ServiceEvent}
 use Rattle.core_event.specs.declared.service.ServiceEvent.TheVariants.{Checkout, CheckIn, Handed, Commit, Clean}
 use Rattle.proj_desc.specs.FirstCause.{first_cause}
-use Rattle.res_path.specs.Paths.{Names}
 use Rattle.service_desk.specs.declared.desk.Desk.{Desk}
 use Rattle.service_desk.specs.Sites.{site_in}
 use Rattle.ws_core.specs.Effects.{clean_for, commit_for, effect_by, hand, other_effect, serve}

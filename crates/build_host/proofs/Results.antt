@@ -1,5 +1,5 @@
 -- What calls of the host leave, by what they answered.
-use Rattle.std.proofs.Common.{◌≡◌, ◌⊎◌, inl, inr, ℕ, ◌+◌, ◌≤◌, zero, suc, Bool, true, false, ◌||◌, cond, List, [], ◌∷◌, ◌++◌, map, length, Option, Some, None, Result, Ok, Err, refl, sym, ap, ◌∙◌, subst, arith, length-append}
+use Rattle.std.proofs.Common.{◌≡◌, ◌⊎◌, inl, inr, ℕ, ◌+◌, ◌≤◌, zero, suc, Bool, true, false, ◌||◌, cond, List, [], ◌∷◌, map, length, Option, Some, None, Result, Ok, Err, refl, sym, ap, ◌∙◌, subst, arith, length-append}
 use Rattle.std.specs.Prelude.{is_some, IfOk, IfSome, OnOk, OnErr, MatchOption}
 use Rattle.std.specs.List.{list_any, position_from}
 use Rattle.std.specs.Str.{bytes_eq}
@@ -10,10 +10,9 @@ use Rattle.builder_api.specs.Told.{Call, Told, WasCalledAt, WasFirstCalled, plac
 use Rattle.builder_api.proofs.Places.{itself, same_name}
 use Rattle.build_laws.specs.States.{Item, IsItem}
 use Rattle.build_plan.specs.Descriptions.{desc_at}
-use Rattle.build_run.specs.declared.answers.Given.{Given}
 use Rattle.build_run.specs.declared.answers.Started.{Started}
 use Rattle.build_run.specs.declared.answers.Taken.{Taken}
-use Rattle.build_run.specs.Books.{Hands, Takes}
+use Rattle.build_run.specs.Books.{Takes}
 use Rattle.build_run.specs.Starts.{Closes, IsCut, Opens}
 use Rattle.core_event.specs.declared.event.Event.TheVariants as events
 use Rattle.core_event.specs.declared.event.Event.TheVariants.{Service}
@@ -28,7 +27,7 @@ use Rattle.build_core.proofs.Sites.{has_builder}
 use Rattle.builder_api.specs.Meanings.{Meanings}
 use Rattle.build_run.specs.declared.answers.BuildAnswer.{BuildAnswer}
 use Rattle.build_run.specs.Commands.{IsAnswered, IsUnanswered}
-use Rattle.build_host.specs.Hosts.{Goes, StayBuilders}
+use Rattle.build_host.specs.Hosts.{Goes}
 use Rattle.build_host.proofs.Closing.{check_in, closes, cut_first, cut_second}
 use Rattle.build_host.proofs.Handing.{is_rooted, it_serves}
 
@@ -52,36 +51,28 @@ opened_at (Ok s) x y kind project first n began c told len same h =
     (subst (λ z. Opens kind project (book_of x 1 first began told) s (book_of y 1 (length x.history) z told)) (sym same) (h first began told))
 opened_at (Err e) x y kind project first n began c told len same h = tt
 
--- ---- at the workspace and the builders that the host was made of
+-- ---- from a host whose command hasn't begun
 
-pub goes_at : (x y z : Session) → Goes x y → z ≡ y → Goes x z
-goes_at x y z goes is = subst (Goes x) (sym is) goes
-
-pub builders_at : (ms : Meanings) (a b c : List Told) → StayBuilders ms a b → c ≡ b → StayBuilders ms a c
-builders_at ms a b c stay is = subst (StayBuilders ms a) (sym is) stay
-
-pub answered_at : {E : Type 0} (r : Result BuildAnswer E) (ms : Meanings) (kind : BuildKind) (project : Option (List ℕ)) (x y z : Session) (n : ℕ) (b c told now new : List Told) → b ≡ told → z ≡ y → new ≡ now
-    → IfOk r (λ a. IsAnswered ms kind project (book_of x 1 0 b told) a (book_of y 1 n c now))
-    → IfOk r (λ a. (m : ℕ) × (d : List Told) × IsAnswered ms kind project (book_of x 1 0 told told) a (book_of z 1 m d new))
-answered_at (Ok a) ms kind project x y z n b c told now new same is named h = (
+pub answered_at : {E : Type 0} (r : Result BuildAnswer E) (ms : Meanings) (kind : BuildKind) (project : Option (List ℕ)) (x y : Session) (first n : ℕ) (b c told now : List Told) → first ≡ 0 → b ≡ told
+    → IfOk r (λ a. IsAnswered ms kind project (book_of x 1 first b told) a (book_of y 1 n c now))
+    → IfOk r (λ a. (m : ℕ) × (d : List Told) × IsAnswered ms kind project (book_of x 1 0 told told) a (book_of y 1 m d now))
+answered_at (Ok a) ms kind project x y first n b c told now none same h = (
   n,
   c,
-  subst (λ u. IsAnswered ms kind project (book_of x 1 0 told told) a (book_of z 1 n c u)) (sym named)
-      (subst (λ (u : Session). IsAnswered ms kind project (book_of x 1 0 told told) a (book_of u 1 n c now)) (sym is)
-      (subst (λ u. IsAnswered ms kind project (book_of x 1 0 u told) a (book_of y 1 n c now)) same h)),
+  subst (λ i. IsAnswered ms kind project (book_of x 1 i told told) a (book_of y 1 n c now)) none
+      (subst (λ u. IsAnswered ms kind project (book_of x 1 first u told) a (book_of y 1 n c now)) same h),
 )
-answered_at (Err e) ms kind project x y z n b c told now new same is named h = tt
+answered_at (Err e) ms kind project x y first n b c told now none same h = tt
 
-pub unanswered_at : {E : Type 0} (r : Result BuildAnswer E) (ms : Meanings) (kind : BuildKind) (project : Option (List ℕ)) (x y z : Session) (n : ℕ) (b c told now new : List Told) → b ≡ told → z ≡ y → new ≡ now
-    → OnErr r (IsUnanswered ms kind project (book_of x 1 0 b told) (book_of y 1 n c now))
-    → OnErr r ((m : ℕ) × (d : List Told) × IsUnanswered ms kind project (book_of x 1 0 told told) (book_of z 1 m d new))
-unanswered_at (Ok a) ms kind project x y z n b c told now new same is named h = tt
-unanswered_at (Err e) ms kind project x y z n b c told now new same is named h = (
+pub unanswered_at : {E : Type 0} (r : Result BuildAnswer E) (ms : Meanings) (kind : BuildKind) (project : Option (List ℕ)) (x y : Session) (first n : ℕ) (b c told now : List Told) → first ≡ 0 → b ≡ told
+    → OnErr r (IsUnanswered ms kind project (book_of x 1 first b told) (book_of y 1 n c now))
+    → OnErr r ((m : ℕ) × (d : List Told) × IsUnanswered ms kind project (book_of x 1 0 told told) (book_of y 1 m d now))
+unanswered_at (Ok a) ms kind project x y first n b c told now none same h = tt
+unanswered_at (Err e) ms kind project x y first n b c told now none same h = (
   n,
   c,
-  subst (λ u. IsUnanswered ms kind project (book_of x 1 0 told told) (book_of z 1 n c u)) (sym named)
-      (subst (λ (u : Session). IsUnanswered ms kind project (book_of x 1 0 told told) (book_of u 1 n c now)) (sym is)
-      (subst (λ u. IsUnanswered ms kind project (book_of x 1 0 u told) (book_of y 1 n c now)) same h)),
+  subst (λ i. IsUnanswered ms kind project (book_of x 1 i told told) (book_of y 1 n c now)) none
+      (subst (λ u. IsUnanswered ms kind project (book_of x 1 first u told) (book_of y 1 n c now)) same h),
 )
 
 module _ {A E : Type 0} (i : ℕ) (c told : List Told) (o : BuildOutcome) (x m y : Session) (may : may_build x.state.manager 1 ≡ true) (steps : Steps 1 (check_in o) x m) where

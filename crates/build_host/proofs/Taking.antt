@@ -5,7 +5,7 @@ use Rattle.job_queue.proofs.Found.{same_Some}
 use Rattle.builder_api.specs.declared.edits.Edits.{Edits}
 use Rattle.builder_api.specs.Told.{Told}
 use Rattle.build_due.specs.declared.site.Site.{Site}
-use Rattle.build_laws.specs.States.{Item, IsItem, State, item, task}
+use Rattle.build_laws.specs.States.{Item, IsItem, item, task}
 use Rattle.build_laws.specs.Commits.{IsCommitted}
 use Rattle.build_meets.proofs.Meets.{touched_by}
 use Rattle.build_plan.specs.Descriptions.{desc_at}
@@ -13,14 +13,11 @@ use Rattle.build_run.specs.declared.answers.Taken.{Taken}
 use Rattle.build_run.specs.declared.answers.Taken.TheVariants as taken
 use Rattle.build_run.specs.Books.{Commit, Takes, at}
 use Rattle.core_event.specs.declared.event.Event.TheVariants.{Service}
-use Rattle.core_event.specs.declared.reply.Answer.{Answer}
 use Rattle.core_event.specs.declared.reply.Answer.TheVariants as answers
 use Rattle.core_event.specs.declared.service.ServiceEvent.TheVariants as services
 use Rattle.core_event.specs.Replies.{refusal_number}
-use Rattle.output_edits.specs.declared.refusal.EditRefusal.{EditRefusal}
 use Rattle.service_desk.specs.declared.desk.UnderWay.{UnderWay}
 use Rattle.service_desk.specs.Desks.{site_of}
-use Rattle.service_desk.specs.Sites.{site_in}
 use Rattle.ws_content.specs.Deeds.{edit_refusal}
 use Rattle.ws_core.specs.States.{Moment}
 use Rattle.ws_core.specs.Refusals.{current}
@@ -29,7 +26,6 @@ use Rattle.ws_core.specs.Steps.{step}
 use Rattle.build_core.specs.States.{item_of, site_of_item, state_of}
 use Rattle.build_core.specs.Histories.{book_of, deed_of, may_build, taken_of, Steps}
 use Rattle.build_core.proofs.Commits.{AreMade, AreRefused, Commits, commits, committed_to}
-use Rattle.build_core.proofs.Leaves.{Leaves}
 use Rattle.build_core.proofs.Sites.{site_item, under_site}
 use Rattle.build_host.proofs.Growing.{book_after, finds_itself}
 use Rattle.build_host.proofs.Handing.{is_rooted, it_serves}

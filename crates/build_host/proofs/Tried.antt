@@ -1,7 +1,7 @@
 -- An event of a build leaves an entry: the one worker never waits.
-use Rattle.std.proofs.Common.{◌≡◌, ℕ, Bool, true, false, not, ◌&&◌, nat_le, List, [], ◌∷◌, length, Option, Some, None, refl, sym, ap, ◌∙◌}
+use Rattle.std.proofs.Common.{◌≡◌, ℕ, Bool, true, false, not, nat_le, List, [], ◌∷◌, length, Option, Some, None, refl, sym, ap, ◌∙◌}
 use Rattle.std.specs.Prelude.{slice_get}
-use Rattle.std.specs.Option.{option_map, option_or}
+use Rattle.std.specs.Option.{option_map}
 use Rattle.std.specs.FinMap.{contains_key}
 use Rattle.res_path.specs.Paths.{Names}
 use Rattle.proj_desc.specs.FirstCause.{first_cause, when}
@@ -16,18 +16,15 @@ use Rattle.builder_api.specs.declared.edits.Edits.{Edits}
 use Rattle.build_due.specs.declared.site.Site.{Site}
 use Rattle.core_event.specs.declared.event.Event.{Event}
 use Rattle.core_event.specs.declared.event.Event.TheVariants.{Begin, Batch, EndBatch, End, Service}
-use Rattle.core_event.specs.declared.reply.Answer.{Answer}
 use Rattle.core_event.specs.declared.reply.Refusal.{Refusal}
 use Rattle.core_event.specs.declared.reply.Refusal.TheVariants as refusals
 use Rattle.core_event.specs.declared.service.Purpose.TheVariants.{Build}
 use Rattle.core_event.specs.declared.service.ServiceEvent.{ServiceEvent}
 use Rattle.core_event.specs.declared.service.ServiceEvent.TheVariants.{Checkout, CheckIn, Handed, Commit, Clean}
 use Rattle.core_event.specs.Replies.{is_attempt, is_conflict}
-use Rattle.core_event.specs.Events.{waits}
 use Rattle.pass_table.specs.Passes.{Passes, serves}
 use Rattle.sched_rules.specs.declared.ws_atom.WsAtom.{WsAtom}
-use Rattle.service_desk.specs.Desks.{site_of}
-use Rattle.service_desk.specs.Refusals.{command_causes, commands_of, no_builder, not_serving, project_causes, scope_causes, services_out, site_causes, unrooted}
+use Rattle.service_desk.specs.Refusals.{commands_of, no_builder, not_serving, project_causes, scope_causes, site_causes, unrooted}
 use Rattle.service_desk.specs.Sites.{site_in}
 use Rattle.ws_content.specs.Deeds.{edit_refusal}
 use Rattle.output_commit.specs.Committed as outputs

@@ -1,5 +1,5 @@
 //! A build command.
-ghost use Rattle.std.specs.Prelude.{◌≡◌, ℕ, List, map, None, IfOk, OnOk, OnErr, option_copied};
+ghost use Rattle.std.specs.Prelude.{◌≡◌, ◌≤◌, ℕ, List, length, map, None, IfOk, OnOk, OnErr, option_copied};
 ghost use Rattle.builder_api.specs.Told.{Told};
 ghost use Rattle.build_run.specs.Commands.{IsAnswered, IsUnanswered};
 ghost use Rattle.build_run.specs.Starts.{MayEnd};
@@ -38,7 +38,30 @@ fn run<H: Host>(
     }
 }
 
-/// The worker as a host makes a build.
+/// The worker as a host makes a build, from the beginning on.
+fn made<'a, B: Builder, M: Meanings>(
+    host: &mut WorkerHost<'a, B, M>,
+    kind: BuildKind,
+    project: Option<&Name>,
+) -> Result<BuildAnswer, NoMemory>
+    requires ready { IsReady M.meaning host.old.core.now (map (λ b. B.tells b) host.old.builders.now) × (host.old.first ≤ length host.old.core.now.history) }
+    requires first { host.old.first ≡ 0 }
+    requires began { map (λ b. B.tells b) host.old.began.now.value ≡ map (λ b. B.tells b) host.old.builders.now }
+    ensures same_core { host.new.core.ghost_name ≡ host.old.core.ghost_name }
+    ensures same_builders { host.new.builders.ghost_name ≡ host.old.builders.ghost_name }
+    ensures answered { IfOk result (λ answer. (first : ℕ) × (began : List Told)
+        × IsAnswered M.meaning kind (option_copied project.entry) (book_of host.old.core.now 1 0 (map (λ b. B.tells b) host.old.builders.now) (map (λ b. B.tells b) host.old.builders.now)) answer
+        (book_of host.new.core.now 1 first began (map (λ b. B.tells b) host.new.builders.now))) }
+    ensures unanswered { OnErr result ((first : ℕ) × (began : List Told)
+        × IsUnanswered M.meaning kind (option_copied project.entry) (book_of host.old.core.now 1 0 (map (λ b. B.tells b) host.old.builders.now) (map (λ b. B.tells b) host.old.builders.now))
+        (book_of host.new.core.now 1 first began (map (λ b. B.tells b) host.new.builders.now))) }
+    ensures goes { Goes host.old.core.now host.new.core.now }
+    ensures builders { StayBuilders M.meaning (map (λ b. B.tells b) host.old.builders.now) (map (λ b. B.tells b) host.new.builders.now) }
+{
+    run(host, kind, project)
+}
+
+/// The worker makes a build over what it is lent.
 fn hosted<B: Builder, M: Meanings>(
     core: &mut Core<LayerTree>,
     builders: &mut Builders<B>,
@@ -56,16 +79,16 @@ fn hosted<B: Builder, M: Meanings>(
     ensures goes { Goes core.old core.new }
     ensures builders { StayBuilders M.meaning (map (λ b. B.tells b) builders.old) (map (λ b. B.tells b) builders.new) }
 {
-    let began = Snapshot::of(&*builders);
+    let mut began = Snapshot::of(&*builders);
     let mut host = WorkerHost::<'_, B, M> {
         core,
         builders,
         alloc,
         first: 0,
-        began,
+        began: &mut began,
         meanings: PhantomData,
     };
-    let answer = run(&mut host, kind, project);
+    let answer = made(&mut host, kind, project);
     let WorkerHost {
         core: _,
         builders: _,

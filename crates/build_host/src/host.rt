@@ -28,7 +28,7 @@ pub struct WorkerHost<'a, B: Builder, M: Meanings> {
     /// How many entries there were when the build command began.
     pub first: usize,
     /// The builders as they were then.
-    pub began: Snapshot<Builders<B>>,
+    pub began: &'a mut Snapshot<Builders<B>>,
     pub meanings: PhantomData<M>,
 }
 
@@ -41,7 +41,7 @@ impl<'a, B: Builder, M: Meanings> Host for WorkerHost<'a, B, M> {
 
     type Told = M;
 
-    ghost book = { λ h. book_of h.core.now 1 h.first (map (λ b. B.tells b) h.began.value) (map (λ b. B.tells b) h.builders.now) };
+    ghost book = { λ h. book_of h.core.now 1 h.first (map (λ b. B.tells b) h.began.now.value) (map (λ b. B.tells b) h.builders.now) };
 
     ghost ends = { λ entries done outcome. Unit {0} };
 
@@ -65,7 +65,7 @@ impl<'a, B: Builder, M: Meanings> Host for WorkerHost<'a, B, M> {
 
     fn start(&mut self, kind: BuildKind, project: Option<&Name>) -> Result<Started, NoMemory> {
         self.first = self.core.history().len();
-        self.began = Snapshot::of(&*self.builders);
+        *self.began = Snapshot::of(&*self.builders);
         open(self.core, self.alloc, kind, project)
     }
 

@@ -5,7 +5,6 @@ use Rattle.job_queue.specs.Queues.{live}
 use Rattle.core_event.specs.declared.entry.Entry.{Entry}
 use Rattle.core_event.specs.declared.event.Event.TheVariants.{Take}
 use Rattle.core_event.specs.declared.reply.Reply.{Reply}
-use Rattle.builder_api.specs.Meanings.{Meanings}
 use Rattle.script_lang.specs.declared.script.Command.{Command}
 use Rattle.script_lang.specs.declared.script.Job.{Job}
 use Rattle.ws_core.specs.States.{Moment}
@@ -56,8 +55,8 @@ took a b r o ready at replied given opened s h = elim (take_gives a.state ready.
 
 -- ---- parts
 
-pub made_none : (ms : Meanings) (jobs : List Job) (a : Session) → IsReady a.state → Makes (Parts (Made ms) (jobs_plan jobs) 1) a a
-made_none ms jobs a r = record { opened = refl; grew = ([], sym (append-nil a.history), parts_none (Made ms) (jobs_plan jobs) 1); ready = r }
+pub made_none : (jobs : List Job) (a : Session) → IsReady a.state → Makes (Parts Made (jobs_plan jobs) 1) a a
+made_none jobs a r = record { opened = refl; grew = ([], sym (append-nil a.history), parts_none Made (jobs_plan jobs) 1); ready = r }
 
 -- where a job was taken, its history goes on
 taken_on : (a b c d : Session) (name : List ℕ) (p e : List Entry) (t : TakesOne name b c) → b.history ≡ a.history ++ p → d.history ≡ c.history ++ e
@@ -67,50 +66,50 @@ taken_on a b c d name p e t before after =
     ∙ (append_assoc (a.history ++ p) (entry 1 Take t.taken ∷ []) e ∙ append_assoc a.history p (entry 1 Take t.taken ∷ e)))
 
 -- one more job is done
-pub made_more : (ms : Meanings) (jobs : List Job) (a b c d : Session) (name : List ℕ) (commands : List Command) → Makes (Parts (Made ms) (jobs_plan jobs) 1) a b → TakesOne name b c
-    → commands ≡ commands_of (jobs_plan jobs) name → Ends ms commands c d → Makes (Parts (Made ms) (jobs_plan jobs) 1) a d
-made_more ms jobs a b c d name commands m t are e = record {
+pub made_more : (jobs : List Job) (a b c d : Session) (name : List ℕ) (commands : List Command) → Makes (Parts Made (jobs_plan jobs) 1) a b → TakesOne name b c
+    → commands ≡ commands_of (jobs_plan jobs) name → Ends commands c d → Makes (Parts Made (jobs_plan jobs) 1) a d
+made_more jobs a b c d name commands m t are e = record {
   opened = e.made.opened ∙ (t.opened ∙ m.opened);
   grew = (
     m.grew.0 ++ entry 1 Take t.taken ∷ e.made.grew.0,
     taken_on a b c d name m.grew.0 e.made.grew.0 t m.grew.1 e.made.grew.1,
-    parts_more (Made ms) (jobs_plan jobs) 1 name m.grew.0 (entry 1 Take t.taken ∷ e.made.grew.0) m.grew.2 part,
+    parts_more Made (jobs_plan jobs) 1 name m.grew.0 (entry 1 Take t.taken ∷ e.made.grew.0) m.grew.2 part,
   );
   ready = e.made.ready;
 }
   where
-    part : IsPart (Made ms) ms 1 (commands_of (jobs_plan jobs) name) name (entry 1 Take t.taken ∷ e.made.grew.0)
+    part : IsPart Made 1 (commands_of (jobs_plan jobs) name) name (entry 1 Take t.taken ∷ e.made.grew.0)
     part = record {
       taken = t.taken;
       body = e.made.grew.2.body;
       finished = e.made.grew.2.finished;
       are = ap (λ l. entry 1 Take t.taken ∷ l) e.made.grew.2.are;
       gives = t.gives;
-      made = subst (λ l. InTurn (Made ms 1) l e.made.grew.2.body) are e.made.grew.2.made;
+      made = subst (λ l. InTurn (Made 1) l e.made.grew.2.body) are e.made.grew.2.made;
     }
 
 -- it is cut
-pub made_cut : (ms : Meanings) (jobs : List Job) (a b c d : Session) (name : List ℕ) (commands : List Command) → Makes (Parts (Made ms) (jobs_plan jobs) 1) a b → TakesOne name b c
-    → commands ≡ commands_of (jobs_plan jobs) name → Stops (Cut (InTurn (Made ms 1) commands)) c d → Stops (Cut (Parts (Made ms) (jobs_plan jobs) 1)) a d
-made_cut ms jobs a b c d name commands m t are e = record {
+pub made_cut : (jobs : List Job) (a b c d : Session) (name : List ℕ) (commands : List Command) → Makes (Parts Made (jobs_plan jobs) 1) a b → TakesOne name b c
+    → commands ≡ commands_of (jobs_plan jobs) name → Stops (Cut (InTurn (Made 1) commands)) c d → Stops (Cut (Parts Made (jobs_plan jobs) 1)) a d
+made_cut jobs a b c d name commands m t are e = record {
   opened = e.opened ∙ (t.opened ∙ m.opened);
   grew = (
     m.grew.0 ++ entry 1 Take t.taken ∷ e.grew.0,
     taken_on a b c d name m.grew.0 e.grew.0 t m.grew.1 e.grew.1,
-    parts_cut (Made ms) (jobs_plan jobs) 1 name m.grew.0 (entry 1 Take t.taken ∷ e.grew.0) m.grew.2
-        (part_cut (Made ms) ms 1 (commands_of (jobs_plan jobs) name) name t.taken e.grew.0 t.gives (subst (λ l. Cut (InTurn (Made ms 1) l) e.grew.0) are e.grew.2)),
+    parts_cut Made (jobs_plan jobs) 1 name m.grew.0 (entry 1 Take t.taken ∷ e.grew.0) m.grew.2
+        (part_cut Made 1 (commands_of (jobs_plan jobs) name) name t.taken e.grew.0 t.gives (subst (λ l. Cut (InTurn (Made 1) l) e.grew.0) are e.grew.2)),
   );
   there = e.there;
 }
 
 -- no other is begun
-pub made_stop : (ms : Meanings) (jobs : List Job) (a b c : Session) → Makes (Parts (Made ms) (jobs_plan jobs) 1) a b → c ≡ b → Stops (Cut (Parts (Made ms) (jobs_plan jobs) 1)) a c
-made_stop ms jobs a b c m same = subst (λ x. Stops (Cut (Parts (Made ms) (jobs_plan jobs) 1)) a x) (sym same) (record {
+pub made_stop : (jobs : List Job) (a b c : Session) → Makes (Parts Made (jobs_plan jobs) 1) a b → c ≡ b → Stops (Cut (Parts Made (jobs_plan jobs) 1)) a c
+made_stop jobs a b c m same = subst (λ x. Stops (Cut (Parts Made (jobs_plan jobs) 1)) a x) (sym same) (record {
   opened = m.opened;
-  grew = (m.grew.0, m.grew.1, parts_whole (Made ms) (jobs_plan jobs) 1 m.grew.0 m.grew.2);
+  grew = (m.grew.0, m.grew.1, parts_whole Made (jobs_plan jobs) 1 m.grew.0 m.grew.2);
   there = ready_there b.state m.ready;
 })
 
 -- no other is there
-pub made_all : (ms : Meanings) (jobs : List Job) (a b c : Session) → Makes (Parts (Made ms) (jobs_plan jobs) 1) a b → TakesNone b c → Makes (Parts (Made ms) (jobs_plan jobs) 1) a c × IsOver c
-made_all ms jobs a b c m t = (record { opened = t.opened ∙ m.opened; grew = (m.grew.0, t.history ∙ m.grew.1, m.grew.2); ready = t.ready }, t.over)
+pub made_all : (jobs : List Job) (a b c : Session) → Makes (Parts Made (jobs_plan jobs) 1) a b → TakesNone b c → Makes (Parts Made (jobs_plan jobs) 1) a c × IsOver c
+made_all jobs a b c m t = (record { opened = t.opened ∙ m.opened; grew = (m.grew.0, t.history ∙ m.grew.1, m.grew.2); ready = t.ready }, t.over)

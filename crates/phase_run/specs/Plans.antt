@@ -1,41 +1,31 @@
 -- What a script asks of a run.
-use Rattle.std.specs.Prelude.{ℕ, List, map}
+use Rattle.std.specs.Prelude.{List, map}
 use Rattle.script_lang.specs.declared.script.Command.{Command}
 use Rattle.script_lang.specs.declared.script.Command.TheVariants as commands
 use Rattle.script_lang.specs.declared.script.Job.{Job}
 use Rattle.script_lang.specs.declared.script.Phase.{Phase}
 use Rattle.script_lang.specs.Commands.{priority_number}
-use Rattle.builder_api.specs.Meanings.{Meanings}
-use Rattle.core_event.specs.declared.entry.Entry.{Entry}
+use Rattle.core_event.specs.declared.event.Event.{Event}
 use Rattle.core_event.specs.declared.event.Event.TheVariants.{Sleep, Wake, Cancel, Begin, TryBegin, End, Batch, EndBatch, Checkpoint, Operation}
 use Rattle.run_order.specs.Plans.{JobPlan}
 use Rattle.run_order.specs.Plans as order
-use Rattle.run_order.specs.Parts.{Making, CommandEntries}
-use Rattle.build_host.specs.Builds.{IsBuild}
-use Rattle.phase_run.specs.declared.plan.Asked.{Asked}
-use Rattle.phase_run.specs.declared.plan.Asked.TheVariants as asked
+use Rattle.run_order.specs.Parts.{Making, OneEvent}
 
--- what a command asks of the worker
-abbrev pub asked_of : Command → Asked
-asked_of (commands.Operation op) = asked.One (Operation op)
-asked_of commands.Batch = asked.One Batch
-asked_of commands.EndBatch = asked.One EndBatch
-asked_of commands.Checkpoint = asked.One Checkpoint
-asked_of (commands.Begin rule) = asked.One (Begin rule)
-asked_of (commands.TryBegin rule) = asked.One (TryBegin rule)
-asked_of (commands.End rule) = asked.One (End rule)
-asked_of (commands.Sleep name) = asked.One (Sleep name)
-asked_of (commands.Wake name) = asked.One (Wake name)
-asked_of (commands.Cancel name) = asked.One (Cancel name)
-asked_of (commands.Build kind project) = asked.Build kind project
+abbrev pub event_of : Command → Event
+event_of (commands.Operation op) = Operation op
+event_of commands.Batch = Batch
+event_of commands.EndBatch = EndBatch
+event_of commands.Checkpoint = Checkpoint
+event_of (commands.Begin rule) = Begin rule
+event_of (commands.TryBegin rule) = TryBegin rule
+event_of (commands.End rule) = End rule
+event_of (commands.Sleep name) = Sleep name
+event_of (commands.Wake name) = Wake name
+event_of (commands.Cancel name) = Cancel name
 
--- the entries of what is asked: that of the event, or those of a build by builders with these meanings
-abbrev pub AskedEntries : Meanings → ℕ → Asked → List Entry → Type 0
-AskedEntries ms k (asked.One event) h = CommandEntries k event h
-AskedEntries ms k (asked.Build kind project) h = IsBuild ms k kind project h
-
-abbrev pub Made : Meanings → Making Command
-Made ms k command h = AskedEntries ms k (asked_of command) h
+-- each command is one event
+abbrev pub Made : Making Command
+Made = OneEvent event_of
 
 abbrev pub job_plan : Job → JobPlan Command
 job_plan job = record { name = job.name; priority = priority_number job.priority; asleep = job.asleep; rule = job.rule; commands = job.commands }

@@ -4,14 +4,12 @@ ghost use Rattle.script_lang.specs.Names.{HaveOwnNames};
 ghost use Rattle.ws_core.specs.Histories.{replay};
 ghost use Rattle.run_order.specs.Lists.{acts, Cut};
 ghost use Rattle.run_order.specs.Orders.{scheduled, cancelled, sleeps, sleepers, IsPhase, IsCutPhase};
-ghost use Rattle.build_host.specs.Hosts.{IsServed, StayBuilders};
 ghost use Rattle.phase_run.specs.Plans.{Made, job_plan, jobs_plan, phase_plan};
 ghost use Rattle.phase_run.specs.Inside.Doing.{IsReady, Makes, Stops};
 
 use crate::NoMemory;
 use crate::plan::schedule_of;
 use crate::worker::work;
-use builder_api::{Builder, Builders, Meanings};
 use core_event::Event;
 use elem_tree::LayerTree;
 use res_path::Name;
@@ -74,20 +72,13 @@ fn cancel(core: &mut Core<LayerTree>, alloc: Global, jobs: &[Job]) -> Result<(),
 }
 
 /// The phase is run.
-pub fn run_phase<B: Builder, M: Meanings>(
-    core: &mut Core<LayerTree>,
-    builders: &mut Builders<B>,
-    alloc: Global,
-    phase: &Phase,
-) -> Result<(), NoMemory>
-    requires ready { IsReady core.old.state }
-    requires served { IsServed M.meaning core.old.opened (map (λ b. B.tells b) builders.old) }
-    ensures done { MatchResult result (λ _. Makes (IsPhase (Made M.meaning) 1 (phase_plan phase.now) (replay core.old.opened core.old.history)) core.old core.new)
-        (λ _. Stops (IsCutPhase (Made M.meaning) 1 (phase_plan phase.now) (replay core.old.opened core.old.history)) core.old core.new) }
-    ensures builders { StayBuilders M.meaning (map (λ b. B.tells b) builders.old) (map (λ b. B.tells b) builders.new) }
+pub fn run_phase(core: &mut Core<LayerTree>, alloc: Global, phase: &Phase) -> Result<(), NoMemory>
+    requires { IsReady core.old.state }
+    ensures { MatchResult result (λ _. Makes (IsPhase Made 1 (phase_plan phase.now) (replay core.old.opened core.old.history)) core.old core.new)
+        (λ _. Stops (IsCutPhase Made 1 (phase_plan phase.now) (replay core.old.opened core.old.history)) core.old core.new) }
 {
     let jobs = phase.jobs.as_slice();
     schedule(core, alloc, jobs)?;
-    work::<B, M>(core, builders, alloc, jobs)?;
+    work(core, alloc, jobs)?;
     cancel(core, alloc, jobs)
 }

@@ -1,25 +1,20 @@
 -- The definitions at worked scripts.
-use Rattle.std.proofs.Common.{◌≡◌, ℕ, true, false, List, [], ◌∷◌, map, get_or, Some, None, refl, ap, subst, arith, lit≤}
+use Rattle.std.proofs.Common.{◌≡◌, ℕ, true, false, List, [], ◌∷◌, get_or, refl, ap, arith, lit≤}
 use Rattle.std.specs.Prelude.{codes, pos}
 use Rattle.std.specs.Fmt.{digits}
 use Rattle.std.specs.List.{AllByRecursion}
-use Rattle.res_path.specs.Paths.{IsPath}
 use Rattle.sched_rules.specs.declared.ws_atom.WsAtom.TheVariants.{Path, Mutex, Lines}
 use Rattle.mark_set.specs.declared.value.RawValue.TheVariants.{Int}
-use Rattle.builder_api.specs.declared.kind.BuildKind.{BuildKind}
-use Rattle.builder_api.specs.declared.kind.BuildKind.TheVariants.{Full, Auto, Incremental, Clean}
 use Rattle.op_kind.specs.declared.op.Op.TheVariants.{CreateFile, CreateProject, Derived, Move, Describe, Mark, Read}
 use Rattle.op_kind.specs.declared.op.Want.TheVariants.{Cat}
-use Rattle.script_lang.specs.declared.script.Command.TheVariants.{Operation, Batch, EndBatch, Checkpoint, Begin, TryBegin, Sleep, Wake, Cancel, Build}
+use Rattle.script_lang.specs.declared.script.Command.TheVariants.{Operation, Batch, EndBatch, Checkpoint, Begin, TryBegin, Sleep, Wake, Cancel}
 use Rattle.script_lang.specs.declared.script.Job.{Job}
 use Rattle.script_lang.specs.declared.script.Priority.TheVariants.{Long, Decorate}
-use Rattle.script_lang.specs.declared.line.Line.{Line}
-use Rattle.script_lang.specs.declared.line.Line.TheVariants.{BeginPhase, InJob}
+use Rattle.script_lang.specs.declared.line.Line.TheVariants.{BeginPhase}
 use Rattle.script_parts.specs.Parts.{a_path, a_number, FitsPart, FitsParts, rule_read}
-use Rattle.script_lang.specs.Commands.{FitsLine, line_parts}
+use Rattle.script_lang.specs.Commands.{line_parts}
 use Rattle.script_lang.specs.Names.{HaveOwnNames}
-use Rattle.script_lang.specs.Scripts.{command_text, script_text, IsScript, HasOwnNames}
-use Rattle.script_lang.proofs.Coded.{line_at, known}
+use Rattle.script_lang.specs.Scripts.{script_text, IsScript, HasOwnNames}
 use Rattle.script_words.specs.declared.words.Token.{Token}
 
 -- ---- scripts
@@ -31,7 +26,7 @@ one_job = record {
   asleep = true;
   rule = Path [] ∷ Lines (codes "P" ∷ []) 3 9 ∷ [];
   commands = Batch ∷ Operation (CreateProject (codes "P" ∷ [])) ∷ Operation (CreateFile (codes "P" ∷ codes "a" ∷ []) (codes "hi")) ∷ Operation (Derived (codes "P" ∷ codes "a" ∷ []) true)
-      ∷ Operation (Move (codes "P" ∷ codes "a" ∷ []) []) ∷ Operation (Describe (codes "P" ∷ []) []) ∷ Operation (Read [] Cat) ∷ Operation (Mark [] (codes "t") ((codes "n", Int (pos 7)) ∷ [])) ∷ Begin [] ∷ TryBegin (Mutex (codes "m") ∷ []) ∷ Checkpoint ∷ EndBatch ∷ Sleep (codes "k") ∷ Wake (codes "k") ∷ Cancel (codes "k") ∷ Build Full None ∷ Build Incremental (Some (codes "P")) ∷ [];
+      ∷ Operation (Move (codes "P" ∷ codes "a" ∷ []) []) ∷ Operation (Describe (codes "P" ∷ []) []) ∷ Operation (Read [] Cat) ∷ Operation (Mark [] (codes "t") ((codes "n", Int (pos 7)) ∷ [])) ∷ Begin [] ∷ TryBegin (Mutex (codes "m") ∷ []) ∷ Checkpoint ∷ EndBatch ∷ Sleep (codes "k") ∷ Wake (codes "k") ∷ Cancel (codes "k") ∷ [];
 }
 
 other_job : Job
@@ -39,7 +34,7 @@ other_job = record { name = codes "k"; priority = Decorate; asleep = false; rule
 
 -- the words of each line as they stand in a text
 its_text : script_text (record { phases = record { jobs = one_job ∷ other_job ∷ [] } ∷ [] }) ≡ codes
-    "phase\njob j 30 asleep path / lines /P 3 9\nbatch\ncreate project /P\ncreate file /P/a hi\nderived /P/a on\nmove /P/a /\ndescribe /P \"\"\ncat /\nmark / t n int 7\nbegin null\ntrybegin mutex m\ncheckpoint\nendbatch\nsleep k\nwake k\ncancel k\nbuild full\nbuild incr /P\nendjob\njob k 50 null\nendjob\nendphase\n"
+    "phase\njob j 30 asleep path / lines /P 3 9\nbatch\ncreate project /P\ncreate file /P/a hi\nderived /P/a on\nmove /P/a /\ndescribe /P \"\"\ncat /\nmark / t n int 7\nbegin null\ntrybegin mutex m\ncheckpoint\nendbatch\nsleep k\nwake k\ncancel k\nendjob\njob k 50 null\nendjob\nendphase\n"
 unfolding one_job other_job digits
 its_text = refl
 
@@ -71,49 +66,3 @@ one_kept = refl
 -- no words are a range whose last line is above its first
 no_lines : (token : Token) → FitsPart token (a_number 32 9 3) → ⊥
 no_lines token h = omega (arith, h.0.reaches)
-
--- ---- builds
-
-abbrev bare_token : List ℕ → Token
-bare_token text = record { bare = true; word = text }
-
-one_name : IsPath (codes "P" ∷ [])
-unfolding lib.Utf8.encode
-one_name = record { names = (record { utf8 = (80 ∷ [], (refl, refl)); form = refl }, tt); deep = lit≤ tt; long = lit≤ tt }
-
--- the two forms, word for word
-whole_build : FitsLine (bare_token (codes "build") ∷ bare_token (codes "full") ∷ []) (InJob (Build Full None))
-whole_build = record { written = InJob (Build Full None); read = refl; fits = ((refl, refl), ((refl, refl), tt)) }
-
-project_build : FitsLine (bare_token (codes "build") ∷ bare_token (codes "incr") ∷ bare_token (codes "/P") ∷ []) (InJob (Build Incremental (Some (codes "P"))))
-project_build = record { written = InJob (Build Incremental (Some (codes "P"))); read = refl; fits = ((refl, refl), ((refl, refl), ((one_name, refl), tt))) }
-
-each_kind : map (λ (kind : BuildKind). command_text (Build kind (Some (codes "P")))) (Full ∷ Auto ∷ Incremental ∷ Clean ∷ [])
-    ≡ codes "build full /P" ∷ codes "build auto /P" ∷ codes "build incr /P" ∷ codes "build clean /P" ∷ []
-each_kind = refl
-
--- words behind `build` that stand for no build are no line
-wrong_build : (rest : List Token) → (FitsParts (bare_token (codes "build") ∷ rest) (line_parts (line_at (codes "build" ∷ map (λ (t : Token). t.word) rest))) → ⊥)
-    → (line : Line) → FitsLine (bare_token (codes "build") ∷ rest) line → ⊥
-wrong_build rest none line h =
-    let tokens = bare_token (codes "build") ∷ rest in
-    none (subst (λ (line : Line). FitsParts tokens (line_parts line)) (known tokens h.written h.fits) h.fits)
-
--- no kind, another kind, a kind between quotes, the root, a path of two names, two paths
-no_kind : (line : Line) → FitsLine (bare_token (codes "build") ∷ []) line → ⊥
-no_kind = wrong_build [] (λ h. h.1)
-
-other_kind : (line : Line) → FitsLine (bare_token (codes "build") ∷ bare_token (codes "all") ∷ []) line → ⊥
-other_kind = wrong_build (bare_token (codes "all") ∷ []) (λ h. let other : codes "all" ≡ codes "clean" = h.1.0.1 in cc)
-
-quoted_kind : (line : Line) → FitsLine (bare_token (codes "build") ∷ record { bare = false; word = codes "full" } ∷ []) line → ⊥
-quoted_kind = wrong_build (record { bare = false; word = codes "full" } ∷ []) (λ h. let bare : false ≡ true = h.1.0.0 in cc)
-
-no_root : (line : Line) → FitsLine (bare_token (codes "build") ∷ bare_token (codes "full") ∷ bare_token (codes "/") ∷ []) line → ⊥
-no_root = wrong_build (bare_token (codes "full") ∷ bare_token (codes "/") ∷ []) (λ h. let empty : false ≡ true = h.1.1.0.0.names.0.form in cc)
-
-no_folder : (line : Line) → FitsLine (bare_token (codes "build") ∷ bare_token (codes "full") ∷ bare_token (codes "/P/a") ∷ []) line → ⊥
-no_folder = wrong_build (bare_token (codes "full") ∷ bare_token (codes "/P/a") ∷ []) (λ h. let slash : false ≡ true = h.1.1.0.0.names.0.form in cc)
-
-not_two : (line : Line) → FitsLine (bare_token (codes "build") ∷ bare_token (codes "full") ∷ bare_token (codes "/P") ∷ bare_token (codes "/Q") ∷ []) line → ⊥
-not_two = wrong_build (bare_token (codes "full") ∷ bare_token (codes "/P") ∷ bare_token (codes "/Q") ∷ []) (λ h. h.1.1.1)

@@ -1,23 +1,14 @@
 -- The lines of a script: what each says, and the words that say it.
 use Rattle.std.specs.Prelude.{◌≡◌, ℕ, Bool, true, false, List, [], ◌∷◌, ◌++◌, codes}
-use Rattle.builder_api.specs.declared.kind.BuildKind.{BuildKind}
-use Rattle.builder_api.specs.declared.kind.BuildKind.TheVariants.{Full, Auto, Incremental, Clean}
 use Rattle.script_lang.specs.declared.script.Command.{Command}
-use Rattle.script_lang.specs.declared.script.Command.TheVariants.{Operation, Batch, EndBatch, Checkpoint, Begin, TryBegin, End, Sleep, Wake, Cancel, Build}
+use Rattle.script_lang.specs.declared.script.Command.TheVariants.{Operation, Batch, EndBatch, Checkpoint, Begin, TryBegin, End, Sleep, Wake, Cancel}
 use Rattle.script_lang.specs.declared.script.Priority.{Priority}
-use Rattle.script_lang.specs.declared.script.Priority.TheVariants.{Interactive, Short, Long, Build as BuildPriority, Decorate}
+use Rattle.script_lang.specs.declared.script.Priority.TheVariants.{Interactive, Short, Long, Build, Decorate}
 use Rattle.script_lang.specs.declared.line.Line.{Line}
 use Rattle.script_lang.specs.declared.line.Line.TheVariants.{BeginPhase, BeginJob, InJob, EndJob, EndPhase}
 use Rattle.script_words.specs.declared.words.Token.{Token}
-use Rattle.script_parts.specs.Parts.{Part, FitsParts, keyword, a_name, project_parts, rule_parts, rule_read}
+use Rattle.script_parts.specs.Parts.{Part, FitsParts, keyword, a_name, rule_parts, rule_read}
 use Rattle.script_ops.specs.Operations.{operation_parts}
-
--- the word of what a build asks for
-abbrev pub kind_word : BuildKind → List ℕ
-kind_word Full = codes "full"
-kind_word Auto = codes "auto"
-kind_word Incremental = codes "incr"
-kind_word Clean = codes "clean"
 
 -- the parts of a command's line
 abbrev pub command_parts : Command → List Part
@@ -31,20 +22,19 @@ command_parts (End rule) = keyword (codes "end") ∷ rule_parts rule
 command_parts (Sleep name) = keyword (codes "sleep") ∷ a_name name ∷ []
 command_parts (Wake name) = keyword (codes "wake") ∷ a_name name ∷ []
 command_parts (Cancel name) = keyword (codes "cancel") ∷ a_name name ∷ []
-command_parts (Build kind project) = keyword (codes "build") ∷ keyword (kind_word kind) ∷ project_parts project
 
 abbrev pub priority_number : Priority → ℕ
 priority_number Interactive = 10
 priority_number Short = 20
 priority_number Long = 30
-priority_number BuildPriority = 40
+priority_number Build = 40
 priority_number Decorate = 50
 
 abbrev pub priority_word : Priority → List ℕ
 priority_word Interactive = codes "10"
 priority_word Short = codes "20"
 priority_word Long = codes "30"
-priority_word BuildPriority = codes "40"
+priority_word Build = codes "40"
 priority_word Decorate = codes "50"
 
 -- the word of a job that is scheduled asleep
@@ -73,7 +63,6 @@ command_read (End atoms) = End (rule_read atoms)
 command_read (Sleep name) = Sleep name
 command_read (Wake name) = Wake name
 command_read (Cancel name) = Cancel name
-command_read (Build kind project) = Build kind project
 
 -- the line that is read where this one is written, whose rule may be any atoms
 abbrev pub line_read : Line → Line

@@ -1,9 +1,9 @@
 //! Which line of a script the words of a line are.
-ghost use Rattle.std.specs.Prelude.{◌≡◌, ◌≢◌, [], ◌∷◌, true, IfOk, MatchOption};
+ghost use Rattle.std.specs.Prelude.{◌≡◌, ◌≢◌, [], true, IfOk, MatchOption};
 ghost use Rattle.script_lang.specs.declared.line.Line.TheVariants.{InJob};
 ghost use Rattle.script_lang.specs.declared.script.Command.TheVariants.{Operation};
 ghost use Rattle.script_lang.specs.Inside.Reading.{IsLineOf, IsStartFound, IsSleepFound};
-ghost use Rattle.script_lang.specs.Commands.{kind_word, priority_word};
+ghost use Rattle.script_lang.specs.Commands.{priority_word};
 ghost use Rattle.script_parts.specs.Parts.{keyword};
 ghost use Rattle.script_parts.specs.Inside.Found.{IsPartFound};
 ghost use Rattle.script_ops.specs.Inside.Verbs.{begun_with, stands_alone, begins_operation};
@@ -11,10 +11,9 @@ ghost use Rattle.script_ops.specs.Inside.Verbs.{begun_with, stands_alone, begins
 use crate::NoMemory;
 use crate::line::Line;
 use crate::script::{Command, Priority};
-use builder_api::BuildKind;
 use op_kind::Op;
 use script_ops::{Verb, operation_with, verb_of};
-use script_parts::{ScriptRule, is_key, name_alone, name_of, project_if_any, rule_of};
+use script_parts::{ScriptRule, is_key, name_alone, name_of, rule_of};
 use script_words::Token;
 use std::alloc::Global;
 
@@ -43,7 +42,6 @@ fn line_with(alloc: Global, verb: Verb, rest: &mut [Token]) -> Result<Option<Lin
         Verb::Sleep => Ok(sleep_line(rest)),
         Verb::Wake => Ok(wake_line(rest)),
         Verb::Cancel => Ok(cancel_line(rest)),
-        Verb::Build => Ok(build_line(rest)),
         Verb::Phase
         | Verb::EndPhase
         | Verb::EndJob
@@ -185,28 +183,6 @@ fn cancel_line(rest: &mut [Token]) -> Option<Line>
     }
 }
 
-fn build_line(rest: &mut [Token]) -> Option<Line>
-    ensures { IsLineOf (begun_with Verb.Build rest.old) result }
-{
-    let [kind, place @ ..] = rest else {
-        return None;
-    };
-    build_of(kind, place)
-}
-
-/// The line of a build whose kind is this token and that goes on with these.
-fn build_of(kind: &Token, rest: &mut [Token]) -> Option<Line>
-    ensures { IsLineOf (begun_with Verb.Build (kind.now ∷ rest.old)) result }
-{
-    let Some(kind) = kind_of(kind) else {
-        return None;
-    };
-    match project_if_any(rest) {
-        None => None,
-        Some(project) => Some(Line::InJob(Command::Build(kind, project))),
-    }
-}
-
 /// The line of an operation.
 fn doing(op: Op) -> Line
     ensures { result ≡ InJob (Operation op) }
@@ -232,25 +208,6 @@ fn priority_of(token: &Token) -> Option<Priority>
     }
     if is_key(token, b"50") {
         return Some(Priority::Decorate);
-    }
-    None
-}
-
-/// What a build asks for, where the token says that.
-fn kind_of(token: &Token) -> Option<BuildKind>
-    ensures { IsPartFound (λ kind. keyword (kind_word kind)) token.now result }
-{
-    if is_key(token, b"full") {
-        return Some(BuildKind::Full);
-    }
-    if is_key(token, b"auto") {
-        return Some(BuildKind::Auto);
-    }
-    if is_key(token, b"incr") {
-        return Some(BuildKind::Incremental);
-    }
-    if is_key(token, b"clean") {
-        return Some(BuildKind::Clean);
     }
     None
 }

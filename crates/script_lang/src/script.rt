@@ -4,7 +4,6 @@ ghost use Rattle.script_lang.specs.Commands.{priority_number};
 ghost use Rattle.script_lang.specs.Names.{HaveOwnNames};
 
 use crate::NoMemory;
-use builder_api::BuildKind;
 use op_kind::Op;
 use res_path::Name;
 use script_parts::ScriptRule;
@@ -34,8 +33,6 @@ pub enum Command {
     Wake(Name),
     /// The job of this name is cancelled (`Job.cancel`).
     Cancel(Name),
-    /// The workspace is built, or the project of this name alone (`IWorkspace.build`, `IProject.build`).
-    Build(BuildKind, Option<Name>),
 }
 
 /// Commands in the order in which they are run. A contract sees the list.

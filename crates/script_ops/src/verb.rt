@@ -23,7 +23,6 @@ pub enum Verb {
     Sleep,
     Wake,
     Cancel,
-    Build,
     Create,
     Delete,
     Write,
@@ -76,7 +75,7 @@ fn verb_named(word: &[u8]) -> Option<Verb>
     }
 }
 
-/// The verb with this name, of those that bound phases, jobs, batches and rules, of those that steer jobs, and of builds.
+/// The verb with this name, of those that bound phases, jobs, batches and rules, and of those that steer jobs.
 fn bound_named(word: &[u8]) -> Option<Verb>
     ensures { IsNamed bounds word.now result }
 {
@@ -94,7 +93,6 @@ fn bound_named(word: &[u8]) -> Option<Verb>
         b"sleep" => Some(Verb::Sleep),
         b"wake" => Some(Verb::Wake),
         b"cancel" => Some(Verb::Cancel),
-        b"build" => Some(Verb::Build),
         _ => None,
     }
 }

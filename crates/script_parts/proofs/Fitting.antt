@@ -1,5 +1,5 @@
 -- Tokens and the parts that they stand for.
-use Rattle.std.proofs.Common.{◌≡◌, ℕ, suc, ◌+◌, ◌<◌, ◌≤◌, Bool, true, false, Option, Some, None, List, [], ◌∷◌, ◌++◌, length, refl, sym, ◌∙◌, ap, subst, append-nil, arith}
+use Rattle.std.proofs.Common.{◌≡◌, suc, ◌+◌, ◌<◌, ◌≤◌, Bool, true, false, Option, Some, None, List, [], ◌∷◌, ◌++◌, length, refl, sym, ◌∙◌, ap, subst, append-nil, arith}
 use Rattle.std.specs.Prelude.{◌==◌}
 use Rattle.std.specs.List.{flat_map}
 use Rattle.std.proofs.lemmas.Bool.Decides.{nat_tests}
@@ -7,7 +7,7 @@ use Rattle.std.proofs.lemmas.Grind.{flat_map-append}
 use Rattle.mark_set.specs.declared.value.RawValue.{RawValue}
 use Rattle.mark_set.specs.declared.value.RawValue.TheVariants.{Int as IntValue, Bool as BoolValue, Text as TextValue}
 use Rattle.script_words.specs.declared.words.Token.{Token}
-use Rattle.script_parts.specs.Parts.{Part, a_path, FitsParts, project_parts, set_parts}
+use Rattle.script_parts.specs.Parts.{Part, FitsParts, set_parts}
 use Rattle.script_parts.specs.Inside.Found.{FitsFront, FitsNoFront}
 
 pub fit_size : (tokens : List Token) (parts : List Part) → FitsParts tokens parts → length tokens ≡ length parts
@@ -67,11 +67,6 @@ set_some tokens value h = let size = fit_size tokens (set_parts value) h in omeg
 
 pub set_few : (tokens : List Token) (value : Option RawValue) → FitsParts tokens (set_parts value) → length tokens ≤ 2
 set_few tokens value h = let size = fit_size tokens (set_parts value) h in omega (arith, size, (set_length value).1)
-
--- a project has one word, and none where there is no project
-pub project_few : (tokens : List Token) (project : Option (List ℕ)) → FitsParts tokens (project_parts project) → length tokens ≤ 1
-project_few tokens None h = let size = fit_size tokens [] h in omega (arith, size)
-project_few tokens (Some name) h = let size = fit_size tokens (a_path (name ∷ []) ∷ []) h in omega (arith, size)
 
 -- ---- values one after another
 

@@ -1,6 +1,5 @@
 pub mod Numbers
 pub mod Paths
-pub mod Projects
 pub mod Values
 pub mod Fitting
 pub mod Fronts

@@ -66,13 +66,6 @@ pub one_word : (old mid new : List ℕ) (word : Word) (parts : List Part) → mi
 one_word old mid new word parts h g =
     g ∙ ap (λ (text : List ℕ). text ++ spaced parts) h ∙ append_assoc old (word_text word) (spaced parts) ∙ ap (λ (text : List ℕ). old ++ text) (sym (spaced_behind word parts))
 
-pub two_words : (old mid new a : List ℕ) (word : Word) (parts : List Part) → mid ≡ old ++ (a ++ 32 ∷ word_text word) → new ≡ mid ++ spaced parts
-    → new ≡ old ++ (a ++ 32 ∷ join_with_byte 32 (word_text word ∷ map word_text (map part_word parts)))
-two_words old mid new a word parts h g =
-    g ∙ ap (λ (text : List ℕ). text ++ spaced parts) h ∙ append_assoc old (a ++ 32 ∷ word_text word) (spaced parts)
-    ∙ ap (λ (text : List ℕ). old ++ text) (append_assoc a (32 ∷ word_text word) (spaced parts)
-    ∙ ap (λ (text : List ℕ). a ++ 32 ∷ text) (sym (spaced_behind word parts)))
-
 pub three_words : (old mid new a b : List ℕ) (word : Word) (parts : List Part) → mid ≡ old ++ (a ++ 32 ∷ (b ++ 32 ∷ word_text word)) → new ≡ mid ++ spaced parts
     → new ≡ old ++ (a ++ 32 ∷ (b ++ 32 ∷ join_with_byte 32 (word_text word ∷ map word_text (map part_word parts))))
 three_words old mid new a b word parts h g =

@@ -1,5 +1,5 @@
 -- The values that some words are.
-use Rattle.std.proofs.Common.{◌≡◌, ℕ, zero, suc, ℤ, Bool, true, false, Option, Some, None, List, [], ◌∷◌, ◌++◌, map, drop, FitsSigned, refl, ◌∙◌, ap, append-nil, arith}
+use Rattle.std.proofs.Common.{◌≡◌, ℕ, zero, suc, ℤ, Bool, true, false, Option, Some, None, List, [], ◌∷◌, ◌++◌, map, FitsSigned, refl, ◌∙◌, ap, arith}
 use Rattle.std.specs.Prelude.{codes, if◌then◌else◌}
 use Rattle.std.specs.Int.{w32}
 use Rattle.std.specs.List.{flat_map, AllByRecursion}
@@ -15,7 +15,7 @@ use Rattle.ws_elem.specs.declared.depth.Depth.{Depth}
 use Rattle.ws_elem.specs.declared.depth.Depth.TheVariants.{Zero, One, Infinite}
 use Rattle.script_words.specs.declared.words.Token.{Token}
 use Rattle.script_words.specs.Words.{Word}
-use Rattle.script_parts.specs.Parts.{Part, keyword, a_number, an_integer, a_name, a_path, a_text, a_word, IsNumber, FitsPart, FitsParts, project_parts, atom_parts, rule_parts, value_parts, attribute_parts, set_parts, truth_word, part_word}
+use Rattle.script_parts.specs.Parts.{Part, keyword, a_number, an_integer, a_name, a_path, a_text, a_word, IsNumber, FitsPart, FitsParts, atom_parts, rule_parts, value_parts, attribute_parts, set_parts, truth_word, part_word}
 use Rattle.script_parts.proofs.Numbers.{number_back, integer_back}
 use Rattle.script_parts.proofs.Paths.{path_at, path_back}
 
@@ -58,11 +58,6 @@ atoms_at (kind ∷ place ∷ from ∷ []) = short_at kind place ∷ []
 atoms_at (kind ∷ place ∷ from ∷ to ∷ words) = if bytes_eq kind (codes "lines")
     then Lines (path_at place) (digits_value 10 from) (digits_value 10 to) ∷ atoms_at words
     else short_at kind place ∷ atoms_at (from ∷ to ∷ words)
-
--- the project whose path the word is, if one is there
-abbrev pub project_at : List Word → Option (List ℕ)
-project_at [] = None
-project_at (word ∷ words) = Some (drop 1 word)
 
 abbrev pub IsNamed : Part → Type 0
 IsNamed (keyword text) = Unit {0}
@@ -124,10 +119,6 @@ atoms_back (Lines f a b ∷ atoms) h =
 pub rule_back : (atoms : List WsAtom) → AreNamed (rule_parts atoms) → atoms_at (words_of (rule_parts atoms)) ≡ atoms
 rule_back [] h = refl
 rule_back (atom ∷ atoms) h = atoms_back (atom ∷ atoms) h
-
-pub project_back : (project : Option (List ℕ)) → project_at (words_of (project_parts project)) ≡ project
-project_back None = refl
-project_back (Some name) = ap (λ (name : List ℕ). Some name) (append-nil name)
 
 pub fit_word : (token : Token) (part : Part) → FitsPart token part → token.word ≡ part_word part
 fit_word token (keyword text) h = h.1

@@ -82,13 +82,6 @@ rule_parts (atom ∷ atoms) = flat_map atom_parts (atom ∷ atoms)
 abbrev pub rule_read : List WsAtom → List WsAtom
 rule_read atoms = rule_of atom_cmp atom_contains atoms
 
--- ---- projects
-
--- the path of the project of this name, or nothing where there is none
-abbrev pub project_parts : Option (List ℕ) → List Part
-project_parts None = []
-project_parts (Some name) = a_path (name ∷ []) ∷ []
-
 -- ---- switches, depths and attributes
 
 abbrev pub switch_word : Bool → List ℕ

@@ -3,13 +3,13 @@
 
 ghost use Rattle.std.specs.Prelude.{[], ◌∷◌, IfOk};
 ghost use Rattle.std.specs.List.{flat_map};
-ghost use Rattle.script_parts.specs.Parts.{keyword, a_name, a_number, a_path, a_text, a_word, attribute_parts, depth_word, project_parts, set_parts, switch_word};
+ghost use Rattle.script_parts.specs.Parts.{keyword, a_name, a_number, a_path, a_text, a_word, attribute_parts, depth_word, set_parts, switch_word};
 ghost use Rattle.script_parts.specs.Inside.Found.{IsFound, IsPairFound, IsTripleFound};
 
 use crate::NoMemory;
 use crate::attributes::{attributes_of, set_value_of};
 use crate::parts::{
-    depth_of, number_of, path_of, switch_of, take_name, take_path, take_project, take_word, text_of,
+    depth_of, number_of, path_of, switch_of, take_name, take_path, take_word, text_of,
 };
 use bytes::Bytes;
 use mark_set::{RawAttrs, RawText, RawValue};
@@ -34,21 +34,6 @@ pub fn name_alone(tokens: &mut [Token]) -> Option<Name>
 {
     match tokens {
         [name] => take_name(name),
-        _ => None,
-    }
-}
-
-/// The name of the project whose path stands alone, or that there is none where nothing stands.
-#[tactic(auto, using(crate::proofs::Fitting::project_few))]
-pub fn project_if_any(tokens: &mut [Token]) -> Option<Option<Name>>
-    ensures { IsFound project_parts tokens.old result }
-{
-    match tokens {
-        [] => Some(None),
-        [place] => match take_project(place) {
-            None => None,
-            Some(name) => Some(Some(name)),
-        },
         _ => None,
     }
 }

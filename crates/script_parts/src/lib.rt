@@ -2,7 +2,7 @@
 //!
 //! - `parts`, `arguments`, `attributes`, `rules`: what the words of a line stand for.
 //! - `script_rule`: a `ScriptRule`, a rule as scripts name it.
-//! - `part_text`, `attribute_text`, `project_text`, `rule_text`: how the parts of a line are printed.
+//! - `part_text`, `attribute_text`, `rule_text`: how the parts of a line are printed.
 #![tactic(auto)]
 
 mod arguments;
@@ -10,7 +10,6 @@ mod attribute_text;
 mod attributes;
 mod part_text;
 mod parts;
-mod project_text;
 mod rule_text;
 mod rules;
 mod script_rule;
@@ -18,7 +17,7 @@ mod script_rule;
 pub use arguments::{
     name_alone, path_alone, path_and_bytes, path_and_id, path_and_name, path_and_switch,
     path_id_change, path_kind_attributes, path_kind_depth, path_name_bytes, path_name_depth,
-    project_if_any, two_paths,
+    two_paths,
 };
 pub use attribute_text::{put_attributes, put_set};
 pub use part_text::{
@@ -26,7 +25,6 @@ pub use part_text::{
     put_three, put_two, switch_word, text_word,
 };
 pub use parts::{is_key, name_of};
-pub use project_text::put_project;
 pub use rule_text::put_rule;
 pub use rules::rule_of;
 pub use script_rule::ScriptRule;

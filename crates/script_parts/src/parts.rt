@@ -1,5 +1,5 @@
 //! What the words of a line stand for, one by one.
-ghost use Rattle.std.specs.Prelude.{◌≡◌, List, [], ◌∷◌, drop, ℕ, ◌<◌, ◌^◌, ℤ, decimal, FitsSigned, IfOk, MatchBool, MatchOption, IsTrue, ◌↔◌};
+ghost use Rattle.std.specs.Prelude.{◌≡◌, List, ℕ, ◌<◌, ◌^◌, ℤ, decimal, FitsSigned, IfOk, MatchOption, IsTrue, ◌↔◌};
 ghost use Rattle.std.specs.Fmt.{signed_decimal};
 ghost use Rattle.std.specs.Int.{w32};
 ghost use Rattle.res_path.specs.Names.{IsName};
@@ -76,35 +76,6 @@ fn name_in(word: Bytes) -> Option<Name>
     match Name::from_text(text) {
         Ok(name) => Some(name),
         Err(_) => None,
-    }
-}
-
-/// The name of the project whose path the token spells: a path of one name. The token's text goes over to it.
-pub fn take_project(token: &mut Token) -> Option<Name>
-    ensures { IsPartFound (λ name. a_path (name ∷ [])) token.old result }
-{
-    project_in(take_word(token))
-}
-
-/// The name that is alone in the path that a word is.
-fn project_in(word: Bytes) -> Option<Name>
-    ensures { MatchOption result ((name : List ℕ) → IsPath (name ∷ []) → word ≡ path_text (name ∷ []) → ⊥)
-        (λ name. IsPath (name ∷ []) × (word ≡ path_text (name ∷ []))) }
-{
-    let mut name = word;
-    if !starts_with_slash(name.as_slice()) {
-        return None;
-    }
-    name.advance(1);
-    name_in(name)
-}
-
-fn starts_with_slash(word: &[u8]) -> bool
-    ensures { MatchBool result (word.now ≡ 47 ∷ drop 1 word.now) ((more : List ℕ) → word.now ≡ 47 ∷ more → ⊥) }
-{
-    match word {
-        [first, ..] => *first == b'/',
-        [] => false,
     }
 }
 

@@ -6,7 +6,6 @@ use Rattle.core_event.specs.declared.event.Event.TheVariants.{Take, Finish}
 use Rattle.core_event.specs.declared.reply.Answer.{Answer}
 use Rattle.core_event.specs.declared.reply.Answer.TheVariants.{Job as Taken}
 use Rattle.core_event.specs.declared.reply.Reply.{Reply}
-use Rattle.builder_api.specs.Meanings.{Meanings}
 use Rattle.script_lang.specs.declared.script.Command.{Command}
 use Rattle.ws_core.specs.States.{Moment}
 use Rattle.ws_core.specs.Histories.{has_entered, replay}
@@ -47,15 +46,15 @@ pub record Works (P : List Entry → Type 0) (old new : Session) : Type 0 where
   pub left : left new.state ≤ left old.state
 
 -- the entries of a job's commands, and Finish
-pub record EndsPart (ms : Meanings) (commands : List Command) (h : List Entry) : Type 0 where
+pub record EndsPart (commands : List Command) (h : List Entry) : Type 0 where
   pub body : List Entry
   pub finished : Reply
   pub are : h ≡ body ++ entry 1 Finish finished ∷ []
-  pub made : InTurn (Made ms 1) commands body
+  pub made : InTurn (Made 1) commands body
 
 -- the job is done, and no more jobs are left than before
-pub record Ends (ms : Meanings) (commands : List Command) (old new : Session) : Type 0 where
-  pub made : Makes (EndsPart ms commands) old new
+pub record Ends (commands : List Command) (old new : Session) : Type 0 where
+  pub made : Makes (EndsPart commands) old new
   pub left : left new.state ≤ left old.state
 
 -- the job that an answer gives

@@ -1,7 +1,6 @@
 -- What is left of phases that are run and told.
 use Rattle.std.specs.Prelude.{◌≡◌, ◌<◌, ℕ, true, List, ◌++◌, length, get_or, take}
 use Rattle.core_event.specs.declared.entry.Entry.{Entry}
-use Rattle.builder_api.specs.Meanings.{Meanings}
 use Rattle.script_lang.specs.declared.script.Command.{Command}
 use Rattle.script_lang.specs.declared.script.Phase as script
 use Rattle.ws_core.specs.Histories.{has_entered, replay, told_of}
@@ -21,24 +20,24 @@ abbrev pub TellsFront : List Entry → List Entry → List Heard → List Heard 
 TellsFront h h' old new = (l : List Entry) × (rest : List Entry) × (h' ≡ (h ++ l) ++ rest) × HeardMore (told_of l) old new
 
 -- a phase was run and told
-pub record RunsPhase (ms : Meanings) (phase : script.Phase) (a b : Session) (old new : List Heard) : Type 0 where
-  pub made : Makes (IsPhase (Made ms) 1 (phase_plan phase) (replay a.opened a.history)) a b
+pub record RunsPhase (phase : script.Phase) (a b : Session) (old new : List Heard) : Type 0 where
+  pub made : Makes (IsPhase Made 1 (phase_plan phase) (replay a.opened a.history)) a b
   pub told : Tells a.history b.history old new
 
 -- it was cut, and nothing was told
-pub record CutsPhase (ms : Meanings) (phase : script.Phase) (a b : Session) (old new : List Heard) : Type 0 where
-  pub stopped : Stops (IsCutPhase (Made ms) 1 (phase_plan phase) (replay a.opened a.history)) a b
+pub record CutsPhase (phase : script.Phase) (a b : Session) (old new : List Heard) : Type 0 where
+  pub stopped : Stops (IsCutPhase Made 1 (phase_plan phase) (replay a.opened a.history)) a b
   pub quiet : new ≡ old
 
 -- phases were run, one after another, and told
-pub record RunsPhases (ms : Meanings) (phases : List (Phase Command)) (a b : Session) (old new : List Heard) : Type 0 where
+pub record RunsPhases (phases : List (Phase Command)) (a b : Session) (old new : List Heard) : Type 0 where
   pub opened : b.opened ≡ a.opened
-  pub run : Phases (Made ms) 1 a.opened phases a.history b.history
+  pub run : Phases Made 1 a.opened phases a.history b.history
   pub ready : IsReady b.state
   pub told : Tells a.history b.history old new
 
 -- some phases were run and told, and the next one was cut
-pub record CutsPhases (ms : Meanings) (phases : List (Phase Command)) (a b : Session) (old new : List Heard) : Type 0 where
+pub record CutsPhases (phases : List (Phase Command)) (a b : Session) (old new : List Heard) : Type 0 where
   pub opened : b.opened ≡ a.opened
   pub at : ℕ
   pub few : at < length phases
@@ -46,7 +45,7 @@ pub record CutsPhases (ms : Meanings) (phases : List (Phase Command)) (a b : Ses
   pub front : List Entry
   pub middle : List Entry
   pub are : b.history ≡ front ++ middle
-  pub run : Phases (Made ms) 1 a.opened (take at phases) a.history front
-  pub cut : IsCutPhase (Made ms) 1 (get_or phases at next) (replay a.opened front) middle
+  pub run : Phases Made 1 a.opened (take at phases) a.history front
+  pub cut : IsCutPhase Made 1 (get_or phases at next) (replay a.opened front) middle
   pub there : has_entered 1 b.state ≡ true
   pub told : TellsFront a.history b.history old new

@@ -1,7 +1,7 @@
-use Rattle.std.proofs.Common.{◌≡◌, inl, inr, length, refl, sym, ◌∙◌, subst}
+use Rattle.std.proofs.Common.{inl, inr, length, refl, sym, ◌∙◌, subst}
 use Rattle.std.specs.Option.{option_copied}
 use Rattle.build_run.specs.declared.answers.Started.TheVariants as started
-use Rattle.build_host.specs.Hosts.{Asked, Goes}
+use Rattle.build_host.specs.Hosts.{Asked}
 use Rattle.build_host.specs.Laws.{goes_on}
 use Rattle.build_host.proofs.Begun.{Batched, Begun, fails_batched, fails_begun, fails_ended, fails_none, fails_refused, opens, stops_at_once, stops_later}
 use Rattle.build_host.proofs.Results.{err_holds}

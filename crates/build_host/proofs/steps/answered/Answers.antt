@@ -1,6 +1,5 @@
 use Rattle.std.proofs.Common.{ap}
 use Rattle.core_event.specs.declared.reply.Reply.{Reply}
-use Rattle.build_core.specs.Histories.{Steps}
 use Rattle.build_host.proofs.Keeping.{goes_same, step_goes, stepped}
 use Rattle.build_host.proofs.steps.answered.Goals as goal
 

@@ -1,5 +1,5 @@
-use Rattle.std.proofs.Common.{map, refl, sym, ap, ◌∙◌, subst}
-use Rattle.ws_core.specs.States.{Moment}
+use Rattle.std.proofs.Common.{map, sym, ap, ◌∙◌, subst}
+use Rattle.ws_core.specs.Histories.{fresh}
 use Rattle.ws_core.specs.Sessions.{Session}
 use Rattle.run_order.specs.Orders.{CutShuffle}
 use Rattle.phase_run.specs.Plans.{Made, phases_plan}
@@ -13,7 +13,7 @@ pub returns-then-is_empty-clause-told : goal.returns-then-is_empty-clause-told
 returns-then-is_empty-clause-told g c = heard_all c.args.core.now.history c.args.core.now.history (map (λ l. g.L.Listener.heard l) c.args.listeners.now) (map (λ l. g.L.Listener.heard l) c.args.listeners.now) c.requires.history (tells_none c.args.core.now.history (map (λ l. g.L.Listener.heard l) c.args.listeners.now))
 
 pub returns-in_err-enter-clause-cut : goal.returns-in_err-enter-clause-cut
-returns-in_err-enter-clause-cut g c = err_holds c.from_residual.result (cut_at_first g.M.Meanings.meaning c.args.core.now.opened (phases_plan c.args.phases.now) c.enter.new.core.history (some_phases c.args.phases.now c.if-is_empty.ensures) (ap (λ (x : Session). x.history) c.in_err-enter.ensures.same ∙ c.requires.history))
+returns-in_err-enter-clause-cut g c = err_holds c.from_residual.result (cut_at_first (phases_plan c.args.phases.now) c.enter.new.core.history (some_phases c.args.phases.now c.if-is_empty.ensures) (ap (λ (x : Session). x.history) c.in_err-enter.ensures.same ∙ c.requires.history))
 
 pub returns-in_err-enter-clause-told_some : goal.returns-in_err-enter-clause-told_some
 returns-in_err-enter-clause-told_some g c = err_holds c.from_residual.result
@@ -22,39 +22,30 @@ returns-in_err-enter-clause-told_some g c = err_holds c.from_residual.result
 
 pub returns-in_err-run_each-clause-cut : goal.returns-in_err-run_each-clause-cut
 returns-in_err-run_each-clause-cut g c = err_holds c.from_residual-in_err-run_each.result
-    (run_cut g.M.Meanings.meaning c.args.core.now.opened (phases_plan c.args.phases.now) (some_phases c.args.phases.now c.if-is_empty.ensures) c.args.core.now c.enter.new.core c.run_each.new.core refl c.requires.history c.in_ok-enter.ensures.made (map (λ l. g.L.Listener.heard l) c.enter.new.listeners) (map (λ l. g.L.Listener.heard l) c.run_each.new.listeners) c.in_err-run_each.ensures.done)
+    (run_cut (phases_plan c.args.phases.now) (some_phases c.args.phases.now c.if-is_empty.ensures) c.args.core.now c.enter.new.core c.run_each.new.core c.requires.opened c.requires.history c.in_ok-enter.ensures.made (map (λ l. g.L.Listener.heard l) c.enter.new.listeners) (map (λ l. g.L.Listener.heard l) c.run_each.new.listeners) c.in_err-run_each.ensures)
 
 pub returns-in_err-run_each-clause-told_some : goal.returns-in_err-run_each-clause-told_some
 returns-in_err-run_each-clause-told_some g c = err_holds c.from_residual-in_err-run_each.result
     (heard_front c.args.core.now.history c.run_each.new.core.history (map (λ l. g.L.Listener.heard l) c.args.listeners.now) (map (λ l. g.L.Listener.heard l) c.run_each.new.listeners) c.requires.history
-    (tells_then c.args.core.now.history c.enter.new.core.history c.run_each.new.core.history (map (λ l. g.L.Listener.heard l) c.args.listeners.now) (map (λ l. g.L.Listener.heard l) c.enter.new.listeners) (map (λ l. g.L.Listener.heard l) c.run_each.new.listeners) c.in_ok-enter.ensures.told c.in_err-run_each.ensures.done.told))
+    (tells_then c.args.core.now.history c.enter.new.core.history c.run_each.new.core.history (map (λ l. g.L.Listener.heard l) c.args.listeners.now) (map (λ l. g.L.Listener.heard l) c.enter.new.listeners) (map (λ l. g.L.Listener.heard l) c.run_each.new.listeners) c.in_ok-enter.ensures.told c.in_err-run_each.ensures.told))
 
 pub returns-clause-whole : goal.returns-clause-whole
 returns-clause-whole g c = ok_on c.leave.result
-    (run_all g.M.Meanings.meaning c.args.core.now.opened (phases_plan c.args.phases.now) (some_phases c.args.phases.now c.if-is_empty.ensures) c.args.core.now c.enter.new.core c.run_each.new.core refl c.requires.history c.in_ok-enter.ensures.made c.leave.new.core (map (λ l. g.L.Listener.heard l) c.enter.new.listeners) (map (λ l. g.L.Listener.heard l) c.run_each.new.listeners) c.in_ok-run_each.ensures.done) c.leave.ensures.made
+    (run_all (phases_plan c.args.phases.now) (some_phases c.args.phases.now c.if-is_empty.ensures) c.args.core.now c.enter.new.core c.run_each.new.core c.requires.opened c.requires.history c.in_ok-enter.ensures.made c.leave.new.core (map (λ l. g.L.Listener.heard l) c.enter.new.listeners) (map (λ l. g.L.Listener.heard l) c.run_each.new.listeners) c.in_ok-run_each.ensures) c.leave.ensures.made
 
 pub returns-clause-cut : goal.returns-clause-cut
 returns-clause-cut g c = err_on c.leave.result
-    (λ same. subst (λ (x : Session). CutShuffle (Made g.M.Meanings.meaning) c.args.core.now.opened (phases_plan c.args.phases.now) 1 x.history) (sym same)
-    (run_left g.M.Meanings.meaning c.args.core.now.opened (phases_plan c.args.phases.now) (some_phases c.args.phases.now c.if-is_empty.ensures) c.args.core.now c.enter.new.core c.run_each.new.core refl c.requires.history c.in_ok-enter.ensures.made (map (λ l. g.L.Listener.heard l) c.enter.new.listeners) (map (λ l. g.L.Listener.heard l) c.run_each.new.listeners) c.in_ok-run_each.ensures.done)) c.leave.ensures.same
+    (λ same. subst (λ (x : Session). CutShuffle Made fresh (phases_plan c.args.phases.now) 1 x.history) (sym same)
+    (run_left (phases_plan c.args.phases.now) (some_phases c.args.phases.now c.if-is_empty.ensures) c.args.core.now c.enter.new.core c.run_each.new.core c.requires.opened c.requires.history c.in_ok-enter.ensures.made (map (λ l. g.L.Listener.heard l) c.enter.new.listeners) (map (λ l. g.L.Listener.heard l) c.run_each.new.listeners) c.in_ok-run_each.ensures)) c.leave.ensures.same
 
 pub returns-clause-told : goal.returns-clause-told
 returns-clause-told g c = ok_on c.leave.result
     (λ last. heard_all c.args.core.now.history c.leave.new.core.history (map (λ l. g.L.Listener.heard l) c.args.listeners.now) (map (λ l. g.L.Listener.heard l) c.leave.new.listeners) c.requires.history
     (tells_on c.args.core.now.history c.run_each.new.core.history c.leave.new.core.history (map (λ l. g.L.Listener.heard l) c.args.listeners.now) (map (λ l. g.L.Listener.heard l) c.run_each.new.listeners) (map (λ l. g.L.Listener.heard l) c.leave.new.listeners)
-    (tells_on c.args.core.now.history c.enter.new.core.history c.run_each.new.core.history (map (λ l. g.L.Listener.heard l) c.args.listeners.now) (map (λ l. g.L.Listener.heard l) c.enter.new.listeners) (map (λ l. g.L.Listener.heard l) c.run_each.new.listeners) c.in_ok-enter.ensures.told c.in_ok-run_each.ensures.done.told) last)) c.leave.ensures.told
+    (tells_on c.args.core.now.history c.enter.new.core.history c.run_each.new.core.history (map (λ l. g.L.Listener.heard l) c.args.listeners.now) (map (λ l. g.L.Listener.heard l) c.enter.new.listeners) (map (λ l. g.L.Listener.heard l) c.run_each.new.listeners) c.in_ok-enter.ensures.told c.in_ok-run_each.ensures.told) last)) c.leave.ensures.told
 
 pub returns-clause-told_some : goal.returns-clause-told_some
 returns-clause-told_some g c = err_both c.leave.result
     (λ same quiet. subst (λ l. HeardFront c.leave.new.core.history (map (λ l. g.L.Listener.heard l) c.args.listeners.now) (map (λ l. g.L.Listener.heard l) l)) (sym quiet) (subst (λ (x : Session). HeardFront x.history (map (λ l. g.L.Listener.heard l) c.args.listeners.now) (map (λ l. g.L.Listener.heard l) c.run_each.new.listeners)) (sym same)
     (heard_stop c.args.core.now.history c.run_each.new.core.history (map (λ l. g.L.Listener.heard l) c.args.listeners.now) (map (λ l. g.L.Listener.heard l) c.run_each.new.listeners) c.requires.history
-    (tells_on c.args.core.now.history c.enter.new.core.history c.run_each.new.core.history (map (λ l. g.L.Listener.heard l) c.args.listeners.now) (map (λ l. g.L.Listener.heard l) c.enter.new.listeners) (map (λ l. g.L.Listener.heard l) c.run_each.new.listeners) c.in_ok-enter.ensures.told c.in_ok-run_each.ensures.done.told)))) c.leave.ensures.same c.leave.ensures.quiet
-
-pub run_each-requires-clause-served : goal.run_each-requires-clause-served
-run_each-requires-clause-served g c = record {
-  named = ap (λ (m : Moment). m.desk.builders) (c.in_ok-enter.ensures.made.opened ∙ c.requires.opened);
-  means = c.requires.means;
-}
-
-pub enter-requires : goal.enter-requires
-enter-requires g c = (map (λ b. b.named) (map (λ b. g.B.Builder.tells b) c.args.builders.now), c.requires.state)
+    (tells_on c.args.core.now.history c.enter.new.core.history c.run_each.new.core.history (map (λ l. g.L.Listener.heard l) c.args.listeners.now) (map (λ l. g.L.Listener.heard l) c.enter.new.listeners) (map (λ l. g.L.Listener.heard l) c.run_each.new.listeners) c.in_ok-enter.ensures.told c.in_ok-run_each.ensures.told)))) c.leave.ensures.same c.leave.ensures.quiet

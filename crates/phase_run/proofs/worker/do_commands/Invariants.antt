@@ -1,5 +1,4 @@
-use Rattle.std.proofs.Common.{map, take}
-use Rattle.build_host.specs.Hosts.{StayBuilders}
+use Rattle.std.proofs.Common.{take}
 use Rattle.run_order.specs.Lists.{InTurn}
 use Rattle.phase_run.specs.Plans.{Made}
 use Rattle.phase_run.specs.Inside.Doing.{Works}
@@ -7,6 +6,4 @@ use Rattle.phase_run.proofs.worker.do_commands.Given as goal
 
 -- the commands so far are done
 abbrev pub invariant-loop-command : goal.invariant-loop-command
-invariant-loop-command g l =
-    Works (InTurn (Made g.M.Meanings.meaning 1) (take l.command-index l.commands)) l.fn.core l.core
-    × StayBuilders g.M.Meanings.meaning (map (λ b. g.B.Builder.tells b) l.fn.builders) (map (λ b. g.B.Builder.tells b) l.builders)
+invariant-loop-command l = Works (InTurn (Made 1) (take l.command-index l.commands)) l.fn.core l.core

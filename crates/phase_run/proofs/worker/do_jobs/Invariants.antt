@@ -1,5 +1,3 @@
-use Rattle.std.proofs.Common.{map}
-use Rattle.build_host.specs.Hosts.{StayBuilders}
 use Rattle.run_order.specs.Parts.{Parts}
 use Rattle.run_order.specs.Counts.{left}
 use Rattle.phase_run.specs.Plans.{Made, jobs_plan}
@@ -8,10 +6,8 @@ use Rattle.phase_run.proofs.worker.do_jobs.Given as goal
 
 -- the jobs that were taken are done
 abbrev pub invariant-loop-name : goal.invariant-loop-name
-invariant-loop-name g l =
-    Makes (Parts (Made g.M.Meanings.meaning) (jobs_plan l.book) 1) l.fn.core l.core
-    × StayBuilders g.M.Meanings.meaning (map (λ b. g.B.Builder.tells b) l.fn.builders) (map (λ b. g.B.Builder.tells b) l.builders)
+invariant-loop-name l = Makes (Parts Made (jobs_plan l.book) 1) l.fn.core l.core
 
 -- each turn takes one that was left
 abbrev pub decreases-loop-name : goal.decreases-loop-name
-decreases-loop-name g l = left l.core.state
+decreases-loop-name l = left l.core.state

@@ -19,7 +19,7 @@ returns-then-is_none-clause-stays g c = (
 pub returns-then-is_none-clause-cleaned : goal.returns-then-is_none-clause-cleaned
 returns-then-is_none-clause-cleaned g c =
     let none : is_some c.in_ok-refused.refused ≡ false = c.is_none.ensures ∙ ap not c.if-is_none.true in
-    clears 1 c.args.self.now.first (map (λ b. g.B.Builder.tells b) c.args.self.now.began.value) (map (λ b. g.B.Builder.tells b) c.args.self.now.builders.now) (map (λ b. g.B.Builder.tells b) c.clean_first.new.self) (item c.args.project.now c.args.index c.args.command.now) c.in_ok-refused.refused c.args.self.now.core.now c.clear.new.core c.requires.ready.1 c.requires.serving c.requires.described
+    clears 1 c.args.self.now.first (map (λ b. g.B.Builder.tells b) c.args.self.now.began.now.value) (map (λ b. g.B.Builder.tells b) c.args.self.now.builders.now) (map (λ b. g.B.Builder.tells b) c.clean_first.new.self) (item c.args.project.now c.args.index c.args.command.now) c.in_ok-refused.refused c.args.self.now.core.now c.clear.new.core c.requires.ready.1 c.requires.serving c.requires.described
     c.in_ok-refused.ensures.steps.0 c.in_ok-refused.ensures.steps.1
     (λ same. subst (λ n. WasFirstCalled n calls.Cleaned (map (λ b. g.B.Builder.tells b) c.args.self.now.builders.now) (map (λ b. g.B.Builder.tells b) c.clean_first.new.self)) c.text.ensures.text c.clean_first.ensures.called)
     (λ m is. absurd (none_some c.in_ok-refused.refused m none is))
@@ -27,7 +27,7 @@ returns-then-is_none-clause-cleaned g c =
 pub returns-else-is_none-clause-cleaned : goal.returns-else-is_none-clause-cleaned
 returns-else-is_none-clause-cleaned g c =
     let some : is_some c.in_ok-refused.refused ≡ true = c.is_none.ensures ∙ ap not c.if-is_none.false in
-    clears 1 c.args.self.now.first (map (λ b. g.B.Builder.tells b) c.args.self.now.began.value) (map (λ b. g.B.Builder.tells b) c.args.self.now.builders.now) (map (λ b. g.B.Builder.tells b) c.args.self.now.builders.now) (item c.args.project.now c.args.index c.args.command.now) c.in_ok-refused.refused c.args.self.now.core.now c.clear.new.core c.requires.ready.1 c.requires.serving c.requires.described
+    clears 1 c.args.self.now.first (map (λ b. g.B.Builder.tells b) c.args.self.now.began.now.value) (map (λ b. g.B.Builder.tells b) c.args.self.now.builders.now) (map (λ b. g.B.Builder.tells b) c.args.self.now.builders.now) (item c.args.project.now c.args.index c.args.command.now) c.in_ok-refused.refused c.args.self.now.core.now c.clear.new.core c.requires.ready.1 c.requires.serving c.requires.described
     c.in_ok-refused.ensures.steps.0 c.in_ok-refused.ensures.steps.1
     (λ same. let no : false ≡ true = sym (ap is_some same) ∙ some in cc)
     (λ m is. refl)
