@@ -1,7 +1,7 @@
 -- The meanings of the standard builders, by their names.
-use Rattle.std.specs.Prelude.{ℕ, Bool, true, false, if◌then◌else◌, List, codes, Option, Some, None, IfSome}
+use Rattle.std.specs.Prelude.{ℕ, Bool, true, false, if◌then◌else◌, List, codes, Some, None, IfSome}
 use Rattle.std.specs.Str.{bytes_eq}
-use Rattle.builder_api.specs.Meanings.{Meaning, Meanings, IsMeaning}
+use Rattle.builder_api.specs.Meanings.{Meanings, IsMeaning}
 use Rattle.std_copy.specs.Copied.{copy}
 use Rattle.std_copy.proofs.Laws.{copy_means}
 use Rattle.std_concat.specs.Concat.{concat}
