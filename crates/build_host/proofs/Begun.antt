@@ -46,7 +46,8 @@ use Rattle.run_order.proofs.Managed.{step_services}
 use Rattle.build_host.specs.Hosts.{Asked, checkout}
 use Rattle.build_host.proofs.Batches.{batch_open}
 use Rattle.build_host.proofs.Growing.{length_after, mine_grows, since_grows}
-use Rattle.build_host.proofs.Keeping.{step_keeps, step_names}
+use Rattle.build_history.proofs.Names.{step_names}
+use Rattle.build_host.proofs.Keeping.{step_keeps}
 use Rattle.build_host.proofs.Lists.{drop_all}
 
 -- the entries of the worker
@@ -259,9 +260,9 @@ opens kind scope j c told x m n y p there h g = record {
 
     names : y.state.desk.builders ≡ x.state.desk.builders
     names =
-        ap (λ (s : Moment). s.desk.builders) g.steps.state ∙ step_names n.state (checkout kind scope) tt
-        ∙ ap (λ (s : Moment). s.desk.builders) h.steps.state ∙ step_names m.state events.Batch tt
-        ∙ ap (λ (s : Moment). s.desk.builders) h.begun.steps.state ∙ step_names x.state (events.Begin root_rule) tt
+        ap (λ (s : Moment). s.desk.builders) g.steps.state ∙ step_names n.state 1 (checkout kind scope)
+        ∙ ap (λ (s : Moment). s.desk.builders) h.steps.state ∙ step_names m.state 1 events.Batch
+        ∙ ap (λ (s : Moment). s.desk.builders) h.begun.steps.state ∙ step_names x.state 1 (events.Begin root_rule)
 
     first : length x.history ≤ length x.history
     first = omega arith

@@ -28,7 +28,8 @@ use Rattle.build_core.specs.States.{state_of}
 use Rattle.build_core.specs.Histories.{book_of, entries_of}
 use Rattle.build_core.proofs.Entered.{entries_append}
 use Rattle.build_host.specs.Builds.{IsBuild}
-use Rattle.build_host.specs.Hosts.{Goes, IsBuilding, IsOwn, checkout}
+use Rattle.build_history.specs.Events.{IsBuilding, IsOwn}
+use Rattle.build_host.specs.Hosts.{Goes, checkout}
 use Rattle.build_host.specs.Laws.{all_on}
 
 -- ---- entries that end a build

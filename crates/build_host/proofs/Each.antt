@@ -4,7 +4,7 @@ use Rattle.core_event.specs.declared.event.Event.TheVariants.{Enter, Leave, Sche
 use Rattle.core_event.specs.declared.service.ServiceEvent.{ServiceEvent}
 use Rattle.sched_rules.specs.declared.ws_atom.WsAtom.{WsAtom}
 use Rattle.std.proofs.Common.{List}
-use Rattle.build_host.specs.Hosts.{IsBuilding}
+use Rattle.build_history.specs.Events.{IsBuilding}
 
 -- what holds of each of the five kinds holds of every event of a build
 pub each : (P : Event → Type 0) → ((rule : List WsAtom) → P (Begin rule)) → P Batch → ((x : ServiceEvent) → P (Service x)) → P EndBatch → ((rule : List WsAtom) → P (End rule)) → (e : Event) → IsBuilding e → P e

@@ -1,45 +1,33 @@
 -- What the worker's events of builds keep.
-use Rattle.std.proofs.Common.{◌≡◌, ℕ, ◌+◌, ◌-◌, Bool, true, false, List, [], ◌∷◌, Option, Some, None, refl, sym, ap, ◌∙◌, subst, arith}
+use Rattle.std.proofs.Common.{◌≡◌, ◌+◌, ◌-◌, true, List, [], ◌∷◌, Option, Some, None, refl, sym, ap, ◌∙◌, subst, arith}
 use Rattle.pass_table.specs.declared.pass.Pass.{Pass}
 use Rattle.pass_table.specs.Passes.{job_of}
 use Rattle.pass_table.specs.Rows.{with_batches}
-use Rattle.core_event.specs.declared.entry.Entry.{Entry}
 use Rattle.core_event.specs.declared.event.Event.{Event}
-use Rattle.core_event.specs.declared.event.Event.TheVariants.{Begin, Batch, EndBatch, End, Leave, Service}
+use Rattle.core_event.specs.declared.event.Event.TheVariants.{Leave}
 use Rattle.core_event.specs.declared.reply.Refusal.{Refusal}
 use Rattle.job_manager.specs.declared.manager.JobManager.{JobManager}
 use Rattle.job_manager.specs.Effects.{decided, outcome}
 use Rattle.job_manager.specs.Refusals.{refusal}
 use Rattle.ws_core.specs.States.{Moment}
 use Rattle.ws_core.specs.Histories.{after, has_entered, replay}
-use Rattle.ws_core.specs.Steps.{act, acted, step, tells, told}
+use Rattle.ws_core.specs.Steps.{step}
 use Rattle.run_order.specs.Alone.{IsPlain}
 use Rattle.run_order.specs.Counts.{scheduling}
 use Rattle.run_order.proofs.Managed.{step_serving}
 use Rattle.run_order.proofs.Single.{batches_job, step_single}
 use Rattle.run_order.proofs.Staying.{step_stays}
 use Rattle.run_order.proofs.Taken.{step_left}
-use Rattle.build_due.specs.declared.site.Site.{Site}
-use Rattle.core_event.specs.declared.service.Purpose.TheVariants.{Build}
-use Rattle.core_event.specs.declared.service.ServiceEvent.{ServiceEvent}
-use Rattle.core_event.specs.declared.service.ServiceEvent.TheVariants.{Checkout, CheckIn, Handed, Commit, Clean}
-use Rattle.proj_desc.specs.FirstCause.{first_cause}
-use Rattle.service_desk.specs.declared.desk.Desk.{Desk}
-use Rattle.service_desk.specs.Sites.{site_in}
-use Rattle.ws_core.specs.Effects.{clean_for, commit_for, effect_by, hand, other_effect, serve}
 use Rattle.ws_core.specs.Histories as core
-use Rattle.ws_core.specs.Refusals as core_refusals
-use Rattle.ws_core.specs.Refusals.{current, service_causes}
 use Rattle.ws_core.specs.Sessions.{Session}
 use Rattle.build_core.specs.Histories.{Steps}
-use Rattle.build_core.proofs.Leaves.{managed_leaves, refused, served}
+use Rattle.build_core.proofs.Leaves.{served}
 use Rattle.builder_api.specs.Meanings.{Meanings}
 use Rattle.builder_api.specs.Told.{Told}
-use Rattle.core_event.specs.declared.reply.Answer.{Answer}
-use Rattle.core_event.specs.Events.{operation_of, service_of}
-use Rattle.op_kind.specs.declared.op.Op.{Op}
-use Rattle.build_host.specs.Hosts.{IsAlone, IsBuilding, IsReady, IsServed, Keeps, Goes, StayBuilders}
+use Rattle.build_history.specs.Events.{IsBuilding}
+use Rattle.build_host.specs.Hosts.{IsAlone, IsReady, IsServed, Keeps, Goes, StayBuilders}
 use Rattle.build_host.specs.Laws.{goes_itself}
+use Rattle.build_history.proofs.Names.{replay_names, step_names}
 use Rattle.build_host.proofs.Each.{each}
 use Rattle.build_host.proofs.Tried.{building_tried}
 use Rattle.run_order.proofs.Written.{written_more}
@@ -79,42 +67,6 @@ step_keeps s e there b =
       left = omega (arith, le, none);
     }
 
--- ---- the builders' names
-
-served_names : (s : Moment) (k : ℕ) (x : ServiceEvent) → (serve s k x).0.desk.builders ≡ s.desk.builders
-served_names s k (Checkout (Build kind scope)) = refl
-served_names s k (CheckIn outcome) = refl
-served_names s k (Handed project index kind) = of (site_in s.resources.tree project index)
-  where
-    of : (o : Option Site) → (hand s o kind).0.desk.builders ≡ s.desk.builders
-    of None = refl
-    of (Some site) = refl
-served_names s k (Commit edits) = of (current s)
-  where
-    of : (o : Option Site) → (commit_for s o edits).0.desk.builders ≡ s.desk.builders
-    of None = refl
-    of (Some site) = refl
-served_names s k (Clean project index) = of (site_in s.resources.tree project index)
-  where
-    of : (o : Option Site) → (clean_for s o).0.desk.builders ≡ s.desk.builders
-    of None = refl
-    of (Some site) = refl
-
-service_names : (s : Moment) (k : ℕ) (x : ServiceEvent) → (step s k (Service x)).0.desk.builders ≡ s.desk.builders
-service_names s k x = by (first_cause (service_causes s k x)) refl
-  where
-    by : (r : Option Refusal) → first_cause (service_causes s k x) ≡ r → (step s k (Service x)).0.desk.builders ≡ s.desk.builders
-    by None is = ap (λ (d : Desk). d.builders) (served s k x is).desk ∙ served_names s k x
-    by (Some r) is = ap (λ (d : Desk). d.builders) (refused s k x r is).desk
-
-pub step_names : (s : Moment) (e : Event) → IsBuilding e → (step s 1 e).0.desk.builders ≡ s.desk.builders
-step_names s e b = each (λ v. (step s 1 v).0.desk.builders ≡ s.desk.builders)
-    (λ rule. ap (λ (d : Desk). d.builders) (managed_leaves s 1 (Begin rule) refl refl).desk)
-    (ap (λ (d : Desk). d.builders) (managed_leaves s 1 Batch refl refl).desk)
-    (λ x. service_names s 1 x)
-    (ap (λ (d : Desk). d.builders) (managed_leaves s 1 EndBatch refl refl).desk)
-    (λ rule. ap (λ (d : Desk). d.builders) (managed_leaves s 1 (End rule) refl refl).desk) e b
-
 -- ---- sessions
 
 pub step_goes : (e : Event) (x y : Session) → Steps 1 e x y → IsBuilding e → has_entered 1 x.state ≡ true → Goes x y
@@ -124,7 +76,7 @@ step_goes e x y steps b there = record {
   history = steps.history;
   own = (record { pass = refl; building = b }, tt);
   keeps = subst (Keeps x.state) (sym steps.state) (step_keeps x.state e there b);
-  names = ap (λ (s : Moment). s.desk.builders) steps.state ∙ step_names x.state e b;
+  names = ap (λ (s : Moment). s.desk.builders) steps.state ∙ step_names x.state 1 e;
 }
 
 -- the worker did an event, as the core tells it
@@ -162,30 +114,6 @@ pub alone_on : (x y : Session) → Goes x y → IsAlone x.state → IsAlone y.st
 alone_on x y goes h = record { worker = goes.keeps.worker h.worker; single = goes.keeps.single h.single }
 
 -- ---- served
-
-effect_names : (s : Moment) (k : ℕ) (e : Event) (o : Option Op) → (effect_by o s k e).0.desk.builders ≡ s.desk.builders
-effect_names s k e (Some op) = refl
-effect_names s k e None = by (service_of e)
-  where
-    by : (x : Option ServiceEvent) → (other_effect x s k e).0.desk.builders ≡ s.desk.builders
-    by None = refl
-    by (Some x) = served_names s k x
-
--- no event changes the builders' names
-any_names : (s : Moment) (k : ℕ) (e : Event) → (step s k e).0.desk.builders ≡ s.desk.builders
-any_names s k e = told_names (tells e (act s k e).0) (act s k e).0 (act s k e).1 ∙ by (core_refusals.refusal s k e)
-  where
-    told_names : (b : Bool) (t : Moment) (a : Answer) → (told b t a).0.desk.builders ≡ t.desk.builders
-    told_names true t a = refl
-    told_names false t a = refl
-
-    by : (r : Option Refusal) → (acted r s k e).0.desk.builders ≡ s.desk.builders
-    by None = effect_names s k e (operation_of e)
-    by (Some r) = refl
-
-replay_names : (s : Moment) (h : List Entry) → (replay s h).desk.builders ≡ s.desk.builders
-replay_names s [] = refl
-replay_names s (x ∷ h) = replay_names (after s x) h ∙ any_names s x.pass x.event
 
 -- the worker that is alone and served is ready to build
 pub served_ready : (ms : Meanings) (x : Session) (b : List Told) → IsServed ms x.opened b → x.state ≡ replay x.opened x.history → IsAlone x.state → IsReady ms x b

@@ -11,3 +11,4 @@ pub mod Begun
 pub mod Closing
 pub mod Cutting
 pub mod Results
+pub mod Served

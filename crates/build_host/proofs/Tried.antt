@@ -39,7 +39,7 @@ use Rattle.build_core.specs.Histories.{started_of, taken_of}
 use Rattle.build_core.proofs.Leaves.{refused, served}
 use Rattle.run_order.proofs.Managed.{told_answer}
 use Rattle.run_order.proofs.Waiting.{both_false, never_tried}
-use Rattle.build_host.specs.Hosts.{IsBuilding}
+use Rattle.build_history.specs.Events.{IsBuilding}
 use Rattle.build_host.proofs.Each.{each}
 
 -- this is no conflict

@@ -9,7 +9,7 @@ use Rattle.build_run.specs.Commands.{IsAnswered}
 use Rattle.core_event.specs.declared.entry.Entry.{Entry}
 use Rattle.ws_core.specs.States.{Moment}
 use Rattle.build_core.specs.Histories.{entries_of}
-use Rattle.build_host.specs.Hosts.{IsOwn}
+use Rattle.build_history.specs.Events.{IsOwn}
 
 -- the pass made these entries from a state on, and as builds read them they are those of a whole build command, which was
 -- answered so

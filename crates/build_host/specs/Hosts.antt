@@ -4,34 +4,23 @@ use Rattle.std.specs.List.{AllByRecursion}
 use Rattle.pass_table.specs.Passes.{job_of}
 use Rattle.core_event.specs.declared.entry.Entry.{Entry}
 use Rattle.core_event.specs.declared.event.Event.{Event}
-use Rattle.core_event.specs.declared.event.Event.TheVariants.{Begin, Batch, EndBatch, End, Service}
-use Rattle.core_event.specs.declared.service.Purpose.TheVariants.{Build}
+use Rattle.core_event.specs.declared.event.Event.TheVariants.{Service}
+use Rattle.core_event.specs.declared.service.Purpose.TheVariants as purposes
 use Rattle.core_event.specs.declared.service.ServiceEvent.TheVariants.{Checkout}
 use Rattle.builder_api.specs.declared.kind.BuildKind.{BuildKind}
 use Rattle.builder_api.specs.Told.{Told, HaveMeanings}
 use Rattle.builder_api.specs.Meanings.{Meanings}
 use Rattle.ws_core.specs.States.{Moment}
-use Rattle.ws_core.specs.Histories.{has_entered}
+use Rattle.ws_core.specs.Histories.{has_entered, replay}
 use Rattle.ws_core.specs.Sessions.{Session}
 use Rattle.ws_core.specs.Steps.{step}
 use Rattle.build_run.specs.declared.answers.Started.{Started}
 use Rattle.build_core.specs.Histories.{started_of, Steps}
+use Rattle.build_history.specs.Events.{IsOwn}
+use Rattle.build_history.specs.Calls.{calls, WereCalled}
+use Rattle.build_history.specs.Settled.{AreSound, KeepsBuilt}
 use Rattle.run_order.specs.Alone.{IsSingle}
 use Rattle.run_order.specs.Counts.{left}
-
--- an event of a build command
-abbrev pub IsBuilding : Event → Type 0
-IsBuilding (Begin rule) = Unit {0}
-IsBuilding Batch = Unit {0}
-IsBuilding (Service x) = Unit {0}
-IsBuilding EndBatch = Unit {0}
-IsBuilding (End rule) = Unit {0}
-IsBuilding event = ⊥
-
--- an entry of one, which the pass made
-pub record IsOwn (k : ℕ) (x : Entry) : Type 0 where
-  pub pass : x.pass ≡ k
-  pub building : IsBuilding x.event
 
 -- the passes stay, all rules are the worker's, it runs the job that it ran, and no more jobs are left than before
 pub record Keeps (s t : Moment) : Type 0 where
@@ -70,9 +59,24 @@ pub record StayBuilders (ms : Meanings) (old new : List Told) : Type 0 where
   pub names : map (λ b. b.named) new ≡ map (λ b. b.named) old
   pub means : HaveMeanings ms old → HaveMeanings ms new
 
+-- the state that the history of a session leads to
+abbrev pub reached : Session → Moment
+reached x = replay x.opened x.history
+
+-- the worker and its builders went on from one session to another
+pub record Serves (ms : Meanings) (x y : Session) (old new : List Told) : Type 0 where
+  pub opened : y.opened ≡ x.opened
+  pub entries : List Entry
+  pub history : y.history ≡ x.history ++ entries
+  -- the builders are the same ones, and were called for what the entries hand and clean
+  pub stays : StayBuilders ms old new
+  pub called : WereCalled (calls (reached x) entries) old new
+  -- from sound records on each build that settled left what it must, and records are sound again
+  pub keeps : AreSound ms (reached x) → KeepsBuilt ms (reached x) (reached y) entries
+
 -- the event that asks for the services
 abbrev pub checkout : BuildKind → Option (List ℕ) → Event
-checkout kind scope = Service (Checkout (Build kind scope))
+checkout kind scope = Service (Checkout (purposes.Build kind scope))
 
 -- the services are asked for, with this answer
 pub record Asked (kind : BuildKind) (scope : Option (List ℕ)) (n p : Session) (answer : Started) : Type 0 where

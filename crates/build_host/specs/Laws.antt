@@ -1,12 +1,19 @@
 -- What stays while the worker builds stays over several of its events.
-use Rattle.std.proofs.Common.{List, [], ◌∷◌, ◌++◌, refl, sym, ap, ◌∙◌, arith, append_assoc, append-nil}
+use Rattle.std.proofs.Common.{◌≡◌, List, [], ◌∷◌, ◌++◌, refl, sym, ap, ◌∙◌, arith, append_assoc, append-nil, subst}
 use Rattle.std.specs.List.{AllByRecursion}
 use Rattle.builder_api.specs.Meanings.{Meanings}
 use Rattle.builder_api.specs.Told.{Told}
 use Rattle.core_event.specs.declared.entry.Entry.{Entry}
 use Rattle.ws_core.specs.States.{Moment}
 use Rattle.ws_core.specs.Sessions.{Session}
-use Rattle.build_host.specs.Hosts.{Goes, IsOwn, IsReady, Keeps, StayBuilders}
+use Rattle.ws_core.specs.Histories.{replay}
+use Rattle.build_history.specs.Calls.{calls, WereCalled}
+use Rattle.build_history.specs.Events.{IsOwn, NoServices}
+use Rattle.build_history.proofs.Calls.{called_append, called_none, calls_append, no_calls}
+use Rattle.build_history.proofs.Names.{replay_append}
+use Rattle.build_history.proofs.Settling as settling
+use Rattle.build_history.proofs.Settling.{plain_keeps}
+use Rattle.build_host.specs.Hosts.{Goes, IsReady, Keeps, Serves, StayBuilders, reached}
 
 keeps_itself : (s : Moment) → Keeps s s
 keeps_itself s = record { zeroth = λ h. h; worker = λ h. h; single = λ h. h; job = refl; left = omega arith }
@@ -52,3 +59,36 @@ ready_on ms x y a b goes stay h = record {
   named = goes.names ∙ h.named ∙ sym stay.names;
   means = stay.means h.means;
 }
+
+-- ---- a worker and its builders
+
+-- the state that a session leads to that went on
+went_on : (x y : Session) (l : List Entry) → y.opened ≡ x.opened → y.history ≡ x.history ++ l → reached y ≡ replay (reached x) l
+went_on x y l o h = ap (λ s. replay s y.history) o ∙ ap (replay x.opened) h ∙ replay_append x.opened x.history l
+
+pub serves_on : (ms : Meanings) (x y z : Session) (a b c : List Told) → Serves ms x y a b → Serves ms y z b c → Serves ms x z a c
+serves_on ms x y z a b c p q =
+    let on = went_on x y p.entries p.opened p.history in record {
+      opened = q.opened ∙ p.opened;
+      entries = p.entries ++ q.entries;
+      history = q.history ∙ ap (λ h. h ++ q.entries) p.history ∙ append_assoc x.history p.entries q.entries;
+      stays = builders_on ms a b c p.stays q.stays;
+      called = subst (λ cs. WereCalled cs a c)
+          (sym (calls_append (reached x) p.entries q.entries ∙ ap (λ s. calls (reached x) p.entries ++ calls s q.entries) (sym on)))
+          (called_append (calls (reached x) p.entries) (calls (reached y) q.entries) a b c p.called q.called);
+      keeps = λ sound. settling.keeps_on ms (reached x) (reached y) (reached z) p.entries q.entries on (p.keeps sound) (q.keeps (p.keeps sound).sound);
+    }
+
+-- without an event of the services no builder is called, and no build settles
+pub serves_quietly : (ms : Meanings) (x y : Session) (told : List Told) (l : List Entry) → y.opened ≡ x.opened → y.history ≡ x.history ++ l → NoServices l → Serves ms x y told told
+serves_quietly ms x y told l o h quiet = record {
+  opened = o;
+  entries = l;
+  history = h;
+  stays = builders_stay ms told;
+  called = called_none (calls (reached x) l) told (no_calls (reached x) l quiet);
+  keeps = plain_keeps ms (reached x) (reached y) l (went_on x y l o h) quiet;
+}
+
+pub serves_itself : (ms : Meanings) (x : Session) (told : List Told) → Serves ms x x told told
+serves_itself ms x told = serves_quietly ms x x told [] refl (sym (append-nil x.history)) tt

@@ -6,7 +6,7 @@ ghost use Rattle.build_run.specs.Starts.{MayEnd};
 ghost use Rattle.build_core.specs.Histories.{book_of};
 ghost use Rattle.run_order.specs.Lists.{Cut, Grew};
 ghost use Rattle.build_host.specs.Builds.{IsBuild};
-ghost use Rattle.build_host.specs.Hosts.{Goes, IsReady, StayBuilders};
+ghost use Rattle.build_host.specs.Hosts.{Goes, IsReady, Serves, StayBuilders};
 
 use crate::NoMemory;
 use crate::host::WorkerHost;
@@ -110,13 +110,18 @@ pub fn build<B: Builder, M: Meanings>(
     project: Option<&Name>,
 ) -> Result<BuildAnswer, NoMemory>
     requires { IsReady M.meaning core.old (map (λ b. B.tells b) builders.old) }
-    // the entries are those of a build, or the first of them where memory wanted
+    // the entries are those of a build that was answered so, or the first of one where memory wanted
     ensures made { OnOk result (Grew (IsBuild M.meaning 1 kind (option_copied project.entry)) core.old.history core.new.history) }
     ensures cut { OnErr result (Grew (Cut (IsBuild M.meaning 1 kind (option_copied project.entry))) core.old.history core.new.history) }
+    ensures answered { IfOk result (λ answer. (first : ℕ) × (began : List Told)
+        × IsAnswered M.meaning kind (option_copied project.entry) (book_of core.old 1 0 (map (λ b. B.tells b) builders.old) (map (λ b. B.tells b) builders.old)) answer
+        (book_of core.new 1 first began (map (λ b. B.tells b) builders.new))) }
     ensures home { OnOk result (core.old.state.manager.passes.services ≡ None → core.new.state.manager.passes.services ≡ None) }
     ensures goes { Goes core.old core.new }
-    ensures builders { StayBuilders M.meaning (map (λ b. B.tells b) builders.old) (map (λ b. B.tells b) builders.new) }
+    ensures serves { Serves M.meaning core.old core.new (map (λ b. B.tells b) builders.old) (map (λ b. B.tells b) builders.new) }
 {
     settle(core);
-    hosted::<B, M>(core, builders, alloc, kind, project)
+    let answer = hosted::<B, M>(core, builders, alloc, kind, project);
+    settle(core);
+    answer
 }

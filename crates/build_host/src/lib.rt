@@ -18,3 +18,4 @@ mod steps;
 pub use building::build;
 pub use host::WorkerHost;
 pub use res_path::NoMemory;
+pub use steps::settle;

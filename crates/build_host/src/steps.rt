@@ -3,11 +3,12 @@ ghost use Rattle.std.specs.Prelude.{◌≡◌, true, IfOk, OnOk, OnErr};
 ghost use Rattle.core_event.specs.declared.event.Event.TheVariants.{Service};
 ghost use Rattle.core_event.specs.declared.service.Outcomes.TheVariants.{Build};
 ghost use Rattle.core_event.specs.declared.service.ServiceEvent.TheVariants.{CheckIn};
-ghost use Rattle.ws_core.specs.Histories.{replay};
+ghost use Rattle.ws_core.specs.Histories.{Legal, replay};
 ghost use Rattle.ws_core.specs.Sessions.{IsConsistent};
 ghost use Rattle.ws_core.specs.Steps.{step};
 ghost use Rattle.build_core.specs.Histories.{may_build, Steps};
-ghost use Rattle.build_host.specs.Hosts.{Goes, IsAlone, IsBuilding};
+ghost use Rattle.build_history.specs.Events.{IsBuilding};
+ghost use Rattle.build_host.specs.Hosts.{Goes, IsAlone};
 
 use crate::NoMemory;
 use builder_api::BuildOutcome;
@@ -19,12 +20,14 @@ use ws_core::Core;
 /// The number of the worker's pass.
 const WORKER: u64 = 1;
 
-/// The state is sound, and the one that the history leads to, as of every workspace. Nothing is done.
+/// The state is sound, and the one that the history leads to, which is a legal one, as of every workspace. Nothing is done.
 pub fn settle<T: Remembers + Drop>(core: &Core<T>)
     ensures placed { core.now.state ≡ replay core.now.opened core.now.history }
     ensures sound { IsConsistent core.now.state }
+    ensures legal { Legal core.now.opened core.now.history }
 {
     let _ = core.state();
+    let _ = core.history();
 }
 
 /// The worker does an event. Answers what the core does.

@@ -13,13 +13,13 @@ use Rattle.ws_core.specs.Histories.{entry_of, replay, written}
 use Rattle.ws_core.specs.Sessions.{Session}
 use Rattle.run_order.specs.Lists.{entry, Cut, InTurn}
 use Rattle.run_order.specs.Plans.{commands_of}
-use Rattle.run_order.specs.Parts.{IsPart, Parts}
+use Rattle.run_order.specs.Parts.{IsPart, Making, Parts}
 use Rattle.run_order.specs.Counts.{giving, left}
 use Rattle.run_order.proofs.Parts.{part_cut, parts_none, parts_more, parts_cut, parts_whole}
 use Rattle.run_order.proofs.Idle.{take_gives}
 use Rattle.run_order.proofs.Taken.{step_left}
 use Rattle.run_order.proofs.Written.{written_more, written_none, taken_tried, untaken_tried}
-use Rattle.phase_run.specs.Plans.{Made, jobs_plan}
+use Rattle.phase_run.specs.Plans.{jobs_plan}
 use Rattle.phase_run.specs.Inside.Doing.{IsReady, IsAtWork, Makes, Stops, Ends, IsOver, Takes, TakesOne, TakesNone, job_given}
 use Rattle.phase_run.proofs.Commanded.{ready_there, zeroth_stays}
 
@@ -53,11 +53,6 @@ took a b r o ready at replied given opened s h = elim (take_gives a.state ready.
     is : o ≡ job_given (step a.state 1 Take).1.answer
     is = given ∙ ap (λ (v : Reply). job_given v.answer) replied
 
--- ---- parts
-
-pub made_none : (jobs : List Job) (a : Session) → IsReady a.state → Makes (Parts Made (jobs_plan jobs) 1) a a
-made_none jobs a r = record { opened = refl; grew = ([], sym (append-nil a.history), parts_none Made (jobs_plan jobs) 1); ready = r }
-
 -- where a job was taken, its history goes on
 taken_on : (a b c d : Session) (name : List ℕ) (p e : List Entry) (t : TakesOne name b c) → b.history ≡ a.history ++ p → d.history ≡ c.history ++ e
     → d.history ≡ a.history ++ (p ++ entry 1 Take t.taken ∷ e)
@@ -65,51 +60,57 @@ taken_on a b c d name p e t before after =
     after ∙ (ap (λ l. l ++ e) (t.history ∙ ap (λ l. l ++ entry 1 Take t.taken ∷ []) before)
     ∙ (append_assoc (a.history ++ p) (entry 1 Take t.taken ∷ []) e ∙ append_assoc a.history p (entry 1 Take t.taken ∷ e)))
 
--- one more job is done
-pub made_more : (jobs : List Job) (a b c d : Session) (name : List ℕ) (commands : List Command) → Makes (Parts Made (jobs_plan jobs) 1) a b → TakesOne name b c
-    → commands ≡ commands_of (jobs_plan jobs) name → Ends commands c d → Makes (Parts Made (jobs_plan jobs) 1) a d
-made_more jobs a b c d name commands m t are e = record {
-  opened = e.made.opened ∙ (t.opened ∙ m.opened);
-  grew = (
-    m.grew.0 ++ entry 1 Take t.taken ∷ e.made.grew.0,
-    taken_on a b c d name m.grew.0 e.made.grew.0 t m.grew.1 e.made.grew.1,
-    parts_more Made (jobs_plan jobs) 1 name m.grew.0 (entry 1 Take t.taken ∷ e.made.grew.0) m.grew.2 part,
-  );
-  ready = e.made.ready;
-}
-  where
-    part : IsPart Made 1 (commands_of (jobs_plan jobs) name) name (entry 1 Take t.taken ∷ e.made.grew.0)
-    part = record {
-      taken = t.taken;
-      body = e.made.grew.2.body;
-      finished = e.made.grew.2.finished;
-      are = ap (λ l. entry 1 Take t.taken ∷ l) e.made.grew.2.are;
-      gives = t.gives;
-      made = subst (λ l. InTurn (Made 1) l e.made.grew.2.body) are e.made.grew.2.made;
-    }
+module _ (Make : Making Command) where
+  -- ---- parts
 
--- it is cut
-pub made_cut : (jobs : List Job) (a b c d : Session) (name : List ℕ) (commands : List Command) → Makes (Parts Made (jobs_plan jobs) 1) a b → TakesOne name b c
-    → commands ≡ commands_of (jobs_plan jobs) name → Stops (Cut (InTurn (Made 1) commands)) c d → Stops (Cut (Parts Made (jobs_plan jobs) 1)) a d
-made_cut jobs a b c d name commands m t are e = record {
-  opened = e.opened ∙ (t.opened ∙ m.opened);
-  grew = (
-    m.grew.0 ++ entry 1 Take t.taken ∷ e.grew.0,
-    taken_on a b c d name m.grew.0 e.grew.0 t m.grew.1 e.grew.1,
-    parts_cut Made (jobs_plan jobs) 1 name m.grew.0 (entry 1 Take t.taken ∷ e.grew.0) m.grew.2
-        (part_cut Made 1 (commands_of (jobs_plan jobs) name) name t.taken e.grew.0 t.gives (subst (λ l. Cut (InTurn (Made 1) l) e.grew.0) are e.grew.2)),
-  );
-  there = e.there;
-}
+  pub made_none : (jobs : List Job) (a : Session) → IsReady a.state → Makes (Parts Make (jobs_plan jobs) 1) a a
+  made_none jobs a r = record { opened = refl; grew = ([], sym (append-nil a.history), parts_none Make (jobs_plan jobs) 1); ready = r }
 
--- no other is begun
-pub made_stop : (jobs : List Job) (a b c : Session) → Makes (Parts Made (jobs_plan jobs) 1) a b → c ≡ b → Stops (Cut (Parts Made (jobs_plan jobs) 1)) a c
-made_stop jobs a b c m same = subst (λ x. Stops (Cut (Parts Made (jobs_plan jobs) 1)) a x) (sym same) (record {
-  opened = m.opened;
-  grew = (m.grew.0, m.grew.1, parts_whole Made (jobs_plan jobs) 1 m.grew.0 m.grew.2);
-  there = ready_there b.state m.ready;
-})
+  -- one more job is done
+  pub made_more : (jobs : List Job) (a b c d : Session) (name : List ℕ) (commands : List Command) → Makes (Parts Make (jobs_plan jobs) 1) a b → TakesOne name b c
+      → commands ≡ commands_of (jobs_plan jobs) name → Ends Make commands c d → Makes (Parts Make (jobs_plan jobs) 1) a d
+  made_more jobs a b c d name commands m t are e = record {
+    opened = e.made.opened ∙ (t.opened ∙ m.opened);
+    grew = (
+      m.grew.0 ++ entry 1 Take t.taken ∷ e.made.grew.0,
+      taken_on a b c d name m.grew.0 e.made.grew.0 t m.grew.1 e.made.grew.1,
+      parts_more Make (jobs_plan jobs) 1 name m.grew.0 (entry 1 Take t.taken ∷ e.made.grew.0) m.grew.2 part,
+    );
+    ready = e.made.ready;
+  }
+    where
+      part : IsPart Make 1 (commands_of (jobs_plan jobs) name) name (entry 1 Take t.taken ∷ e.made.grew.0)
+      part = record {
+        taken = t.taken;
+        body = e.made.grew.2.body;
+        finished = e.made.grew.2.finished;
+        are = ap (λ l. entry 1 Take t.taken ∷ l) e.made.grew.2.are;
+        gives = t.gives;
+        made = subst (λ l. InTurn (Make 1) l e.made.grew.2.body) are e.made.grew.2.made;
+      }
 
--- no other is there
-pub made_all : (jobs : List Job) (a b c : Session) → Makes (Parts Made (jobs_plan jobs) 1) a b → TakesNone b c → Makes (Parts Made (jobs_plan jobs) 1) a c × IsOver c
-made_all jobs a b c m t = (record { opened = t.opened ∙ m.opened; grew = (m.grew.0, t.history ∙ m.grew.1, m.grew.2); ready = t.ready }, t.over)
+  -- it is cut
+  pub made_cut : (jobs : List Job) (a b c d : Session) (name : List ℕ) (commands : List Command) → Makes (Parts Make (jobs_plan jobs) 1) a b → TakesOne name b c
+      → commands ≡ commands_of (jobs_plan jobs) name → Stops (Cut (InTurn (Make 1) commands)) c d → Stops (Cut (Parts Make (jobs_plan jobs) 1)) a d
+  made_cut jobs a b c d name commands m t are e = record {
+    opened = e.opened ∙ (t.opened ∙ m.opened);
+    grew = (
+      m.grew.0 ++ entry 1 Take t.taken ∷ e.grew.0,
+      taken_on a b c d name m.grew.0 e.grew.0 t m.grew.1 e.grew.1,
+      parts_cut Make (jobs_plan jobs) 1 name m.grew.0 (entry 1 Take t.taken ∷ e.grew.0) m.grew.2
+          (part_cut Make 1 (commands_of (jobs_plan jobs) name) name t.taken e.grew.0 t.gives (subst (λ l. Cut (InTurn (Make 1) l) e.grew.0) are e.grew.2)),
+    );
+    there = e.there;
+  }
+
+  -- no other is begun
+  pub made_stop : (jobs : List Job) (a b c : Session) → Makes (Parts Make (jobs_plan jobs) 1) a b → c ≡ b → Stops (Cut (Parts Make (jobs_plan jobs) 1)) a c
+  made_stop jobs a b c m same = subst (λ x. Stops (Cut (Parts Make (jobs_plan jobs) 1)) a x) (sym same) (record {
+    opened = m.opened;
+    grew = (m.grew.0, m.grew.1, parts_whole Make (jobs_plan jobs) 1 m.grew.0 m.grew.2);
+    there = ready_there b.state m.ready;
+  })
+
+  -- no other is there
+  pub made_all : (jobs : List Job) (a b c : Session) → Makes (Parts Make (jobs_plan jobs) 1) a b → TakesNone b c → Makes (Parts Make (jobs_plan jobs) 1) a c × IsOver c
+  made_all jobs a b c m t = (record { opened = t.opened ∙ m.opened; grew = (m.grew.0, t.history ∙ m.grew.1, m.grew.2); ready = t.ready }, t.over)

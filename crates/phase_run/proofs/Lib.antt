@@ -6,3 +6,4 @@ pub mod Phases
 pub mod Heard
 pub mod Runs
 pub mod Books
+pub mod Served

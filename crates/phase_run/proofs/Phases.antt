@@ -17,17 +17,17 @@ use Rattle.ws_core.specs.Sessions.{Session}
 use Rattle.ws_core.proofs.Grown.{replay_append}
 use Rattle.run_order.specs.Lists.{acts, Cut, Grew}
 use Rattle.run_order.specs.Plans.{JobPlan, HaveOwnNames}
-use Rattle.run_order.specs.Parts.{Parts}
+use Rattle.run_order.specs.Parts.{Making, Parts}
 use Rattle.run_order.specs.Orders.{scheduled, cancelled, sleeps, sleepers, IsPhase, IsCutPhase}
 use Rattle.run_order.proofs.Lists.{some_acts, cut_whole, cut_none, grew_on}
 use Rattle.run_order.proofs.Counted.{acts_next, acts_begun}
 use Rattle.run_order.proofs.Cancelling.{cancels_one, cancels_begun}
-use Rattle.run_order.proofs.Alone.{event_by_one, phase_alone, cut_phase_alone}
+use Rattle.run_order.proofs.Alone.{MadeByOne, phase_alone, cut_phase_alone}
 use Rattle.run_order.proofs.Parts.{parts_none, parts_whole}
 use Rattle.run_order.proofs.Staying.{step_stays}
 use Rattle.run_order.proofs.Idle.{schedule_keeps, cancel_keeps}
 use Rattle.run_order.proofs.Written.{schedule_tried, cancel_tried, act_made}
-use Rattle.phase_run.specs.Plans.{event_of, Made, job_plan, jobs_plan}
+use Rattle.phase_run.specs.Plans.{job_plan, jobs_plan}
 use Rattle.phase_run.specs.Inside.Doing.{IsReady, Makes, Stops, IsOver}
 use Rattle.phase_run.proofs.Commanded.{ready_there}
 
@@ -167,62 +167,63 @@ one_end h x y = append_assoc h x y ∙ ap (λ l. h ++ l) (sym (append-nil (x ++ 
 all_ends : (h x y z : List Entry) → ((h ++ x) ++ y) ++ z ≡ h ++ ((x ++ y) ++ z)
 all_ends h x y z = ap (λ l. l ++ z) (append_assoc h x y) ∙ append_assoc h (x ++ y) z
 
--- cut while jobs were scheduled
-pub phase_unscheduled : (jobs : List Job) (a b : Session) → Stops (Cut (Scheduled (jobs_plan jobs))) a b → Stops (IsCutPhase Made 1 (jobs_plan jobs) (replay a.opened a.history)) a b
-phase_unscheduled jobs a b m = record {
-  opened = m.opened;
-  grew = (
-    (m.grew.0 ++ []) ++ [],
-    m.grew.1 ∙ two_ends a.history m.grew.0,
-    cut_phase_alone Made (event_by_one event_of) (jobs_plan jobs) (replay a.opened a.history) m.grew.0 [] [] m.grew.2
-        (parts_whole Made (jobs_plan jobs) 1 [] (parts_none Made (jobs_plan jobs) 1)) (none_of (replay (replay a.opened a.history) (m.grew.0 ++ [])) (jobs_plan jobs)),
-  );
-  there = m.there;
-}
-
--- cut while they were done
-pub phase_undone : (jobs : List Job) (a b c : Session) → Makes (Scheduled (jobs_plan jobs)) a b → Stops (Cut (Parts Made (jobs_plan jobs) 1)) b c
-    → Stops (IsCutPhase Made 1 (jobs_plan jobs) (replay a.opened a.history)) a c
-phase_undone jobs a b c m n = record {
-  opened = n.opened ∙ m.opened;
-  grew = (
-    (m.grew.0 ++ n.grew.0) ++ [],
-    n.grew.1 ∙ (ap (λ l. l ++ n.grew.0) m.grew.1 ∙ one_end a.history m.grew.0 n.grew.0),
-    cut_phase_alone Made (event_by_one event_of) (jobs_plan jobs) (replay a.opened a.history) m.grew.0 n.grew.0 [] (cut_whole (Scheduled (jobs_plan jobs)) m.grew.0 m.grew.2)
-        n.grew.2 (none_of (replay (replay a.opened a.history) (m.grew.0 ++ n.grew.0)) (jobs_plan jobs)),
-  );
-  there = n.there;
-}
-
-module _ (jobs : List Job) (a b c d : Session) (m : Makes (Scheduled (jobs_plan jobs)) a b) (n : Makes (Parts Made (jobs_plan jobs) 1) b c) where
-  done_at : replay c.opened c.history ≡ replay (replay a.opened a.history) (m.grew.0 ++ n.grew.0)
-  done_at = led a c (m.grew.0 ++ n.grew.0) (n.opened ∙ m.opened) (n.grew.1 ∙ (ap (λ l. l ++ n.grew.0) m.grew.1 ∙ append_assoc a.history m.grew.0 n.grew.0))
-
-  ends_at : (z : List Entry) → d.history ≡ c.history ++ z → d.history ≡ a.history ++ ((m.grew.0 ++ n.grew.0) ++ z)
-  ends_at z e = e ∙ (ap (λ l. l ++ z) (n.grew.1 ∙ ap (λ l. l ++ n.grew.0) m.grew.1) ∙ all_ends a.history m.grew.0 n.grew.0 z)
-
-  -- cut while those that sleep were cancelled
-  pub phase_uncancelled : Stops (Cut (Cancelled (replay c.opened c.history) (jobs_plan jobs))) c d → Stops (IsCutPhase Made 1 (jobs_plan jobs) (replay a.opened a.history)) a d
-  phase_uncancelled o = record {
-    opened = o.opened ∙ (n.opened ∙ m.opened);
+module _ (Make : Making Command) (one : MadeByOne Make) where
+  -- cut while jobs were scheduled
+  pub phase_unscheduled : (jobs : List Job) (a b : Session) → Stops (Cut (Scheduled (jobs_plan jobs))) a b → Stops (IsCutPhase Make 1 (jobs_plan jobs) (replay a.opened a.history)) a b
+  phase_unscheduled jobs a b m = record {
+    opened = m.opened;
     grew = (
-      (m.grew.0 ++ n.grew.0) ++ o.grew.0,
-      ends_at o.grew.0 o.grew.1,
-      cut_phase_alone Made (event_by_one event_of) (jobs_plan jobs) (replay a.opened a.history) m.grew.0 n.grew.0 o.grew.0 (cut_whole (Scheduled (jobs_plan jobs)) m.grew.0 m.grew.2)
-          (parts_whole Made (jobs_plan jobs) 1 n.grew.0 n.grew.2) (subst (λ t. Cut (Cancelled t (jobs_plan jobs)) o.grew.0) done_at o.grew.2),
+      (m.grew.0 ++ []) ++ [],
+      m.grew.1 ∙ two_ends a.history m.grew.0,
+      cut_phase_alone Make one (jobs_plan jobs) (replay a.opened a.history) m.grew.0 [] [] m.grew.2
+          (parts_whole Make (jobs_plan jobs) 1 [] (parts_none Make (jobs_plan jobs) 1)) (none_of (replay (replay a.opened a.history) (m.grew.0 ++ [])) (jobs_plan jobs)),
     );
-    there = o.there;
+    there = m.there;
   }
 
-  -- whole
-  pub phase_done : IsOver c → Makes (Cancelled (replay c.opened c.history) (jobs_plan jobs)) c d → Makes (IsPhase Made 1 (jobs_plan jobs) (replay a.opened a.history)) a d
-  phase_done over o = record {
-    opened = o.opened ∙ (n.opened ∙ m.opened);
+  -- cut while they were done
+  pub phase_undone : (jobs : List Job) (a b c : Session) → Makes (Scheduled (jobs_plan jobs)) a b → Stops (Cut (Parts Make (jobs_plan jobs) 1)) b c
+      → Stops (IsCutPhase Make 1 (jobs_plan jobs) (replay a.opened a.history)) a c
+  phase_undone jobs a b c m n = record {
+    opened = n.opened ∙ m.opened;
     grew = (
-      (m.grew.0 ++ n.grew.0) ++ o.grew.0,
-      ends_at o.grew.0 o.grew.1,
-      phase_alone Made (event_by_one event_of) (jobs_plan jobs) (replay a.opened a.history) m.grew.0 n.grew.0 o.grew.0 m.grew.2 n.grew.2
-          (subst (λ (t : Moment). live t.manager.jobs ≡ 0) done_at over) (subst (λ t. Cancelled t (jobs_plan jobs) o.grew.0) done_at o.grew.2),
+      (m.grew.0 ++ n.grew.0) ++ [],
+      n.grew.1 ∙ (ap (λ l. l ++ n.grew.0) m.grew.1 ∙ one_end a.history m.grew.0 n.grew.0),
+      cut_phase_alone Make one (jobs_plan jobs) (replay a.opened a.history) m.grew.0 n.grew.0 [] (cut_whole (Scheduled (jobs_plan jobs)) m.grew.0 m.grew.2)
+          n.grew.2 (none_of (replay (replay a.opened a.history) (m.grew.0 ++ n.grew.0)) (jobs_plan jobs)),
     );
-    ready = o.ready;
+    there = n.there;
   }
+
+  module _ (jobs : List Job) (a b c d : Session) (m : Makes (Scheduled (jobs_plan jobs)) a b) (n : Makes (Parts Make (jobs_plan jobs) 1) b c) where
+    done_at : replay c.opened c.history ≡ replay (replay a.opened a.history) (m.grew.0 ++ n.grew.0)
+    done_at = led a c (m.grew.0 ++ n.grew.0) (n.opened ∙ m.opened) (n.grew.1 ∙ (ap (λ l. l ++ n.grew.0) m.grew.1 ∙ append_assoc a.history m.grew.0 n.grew.0))
+
+    ends_at : (z : List Entry) → d.history ≡ c.history ++ z → d.history ≡ a.history ++ ((m.grew.0 ++ n.grew.0) ++ z)
+    ends_at z e = e ∙ (ap (λ l. l ++ z) (n.grew.1 ∙ ap (λ l. l ++ n.grew.0) m.grew.1) ∙ all_ends a.history m.grew.0 n.grew.0 z)
+
+    -- cut while those that sleep were cancelled
+    pub phase_uncancelled : Stops (Cut (Cancelled (replay c.opened c.history) (jobs_plan jobs))) c d → Stops (IsCutPhase Make 1 (jobs_plan jobs) (replay a.opened a.history)) a d
+    phase_uncancelled o = record {
+      opened = o.opened ∙ (n.opened ∙ m.opened);
+      grew = (
+        (m.grew.0 ++ n.grew.0) ++ o.grew.0,
+        ends_at o.grew.0 o.grew.1,
+        cut_phase_alone Make one (jobs_plan jobs) (replay a.opened a.history) m.grew.0 n.grew.0 o.grew.0 (cut_whole (Scheduled (jobs_plan jobs)) m.grew.0 m.grew.2)
+            (parts_whole Make (jobs_plan jobs) 1 n.grew.0 n.grew.2) (subst (λ t. Cut (Cancelled t (jobs_plan jobs)) o.grew.0) done_at o.grew.2),
+      );
+      there = o.there;
+    }
+
+    -- whole
+    pub phase_done : IsOver c → Makes (Cancelled (replay c.opened c.history) (jobs_plan jobs)) c d → Makes (IsPhase Make 1 (jobs_plan jobs) (replay a.opened a.history)) a d
+    phase_done over o = record {
+      opened = o.opened ∙ (n.opened ∙ m.opened);
+      grew = (
+        (m.grew.0 ++ n.grew.0) ++ o.grew.0,
+        ends_at o.grew.0 o.grew.1,
+        phase_alone Make one (jobs_plan jobs) (replay a.opened a.history) m.grew.0 n.grew.0 o.grew.0 m.grew.2 n.grew.2
+            (subst (λ (t : Moment). live t.manager.jobs ≡ 0) done_at over) (subst (λ t. Cancelled t (jobs_plan jobs) o.grew.0) done_at o.grew.2),
+      );
+      ready = o.ready;
+    }

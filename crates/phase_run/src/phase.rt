@@ -1,6 +1,7 @@
 //! A phase: pass 0 schedules the jobs, the worker runs them, and pass 0 cancels those that sleep.
 ghost use Rattle.std.specs.Prelude.{◌≡◌, ◌∷◌, [], map, MatchResult};
 ghost use Rattle.script_lang.specs.Names.{HaveOwnNames};
+ghost use Rattle.build_host.specs.Hosts.{IsServed, Serves};
 ghost use Rattle.ws_core.specs.Histories.{replay};
 ghost use Rattle.run_order.specs.Lists.{acts, Cut};
 ghost use Rattle.run_order.specs.Orders.{scheduled, cancelled, sleeps, sleepers, IsPhase, IsCutPhase};
@@ -10,6 +11,7 @@ ghost use Rattle.phase_run.specs.Inside.Doing.{IsReady, Makes, Stops};
 use crate::NoMemory;
 use crate::plan::schedule_of;
 use crate::worker::work;
+use builder_api::{Builder, Builders, Meanings};
 use core_event::Event;
 use elem_tree::LayerTree;
 use res_path::Name;
@@ -72,13 +74,20 @@ fn cancel(core: &mut Core<LayerTree>, alloc: Global, jobs: &[Job]) -> Result<(),
 }
 
 /// The phase is run.
-pub fn run_phase(core: &mut Core<LayerTree>, alloc: Global, phase: &Phase) -> Result<(), NoMemory>
-    requires { IsReady core.old.state }
-    ensures { MatchResult result (λ _. Makes (IsPhase Made 1 (phase_plan phase.now) (replay core.old.opened core.old.history)) core.old core.new)
-        (λ _. Stops (IsCutPhase Made 1 (phase_plan phase.now) (replay core.old.opened core.old.history)) core.old core.new) }
+pub fn run_phase<B: Builder, M: Meanings>(
+    core: &mut Core<LayerTree>,
+    builders: &mut Builders<B>,
+    alloc: Global,
+    phase: &Phase,
+) -> Result<(), NoMemory>
+    requires ready { IsReady core.old.state }
+    requires served { IsServed M.meaning core.old.opened (map (λ b. B.tells b) builders.old) }
+    ensures done { MatchResult result (λ _. Makes (IsPhase (Made M.meaning) 1 (phase_plan phase.now) (replay core.old.opened core.old.history)) core.old core.new)
+        (λ _. Stops (IsCutPhase (Made M.meaning) 1 (phase_plan phase.now) (replay core.old.opened core.old.history)) core.old core.new) }
+    ensures serves { Serves M.meaning core.old core.new (map (λ b. B.tells b) builders.old) (map (λ b. B.tells b) builders.new) }
 {
     let jobs = phase.jobs.as_slice();
     schedule(core, alloc, jobs)?;
-    work(core, alloc, jobs)?;
+    work::<B, M>(core, builders, alloc, jobs)?;
     cancel(core, alloc, jobs)
 }

@@ -2,27 +2,40 @@
 ghost use Rattle.std.specs.Prelude.{◌≡◌, IfOk};
 ghost use Rattle.core_event.specs.declared.event.Event.TheVariants.{Schedule};
 ghost use Rattle.script_lang.specs.Commands.{priority_number};
-ghost use Rattle.phase_run.specs.Plans.{event_of};
+ghost use Rattle.phase_run.specs.Plans.{asked_of};
 
 use crate::NoMemory;
+use builder_api::BuildKind;
 use core_event::Event;
+use res_path::Name;
 use script_lang::{Command, Job};
 
-/// What a command asks. The event shares the command's texts.
-pub fn event_of(command: &Command) -> Result<Event, NoMemory>
-    ensures { IfOk result (λ event. event ≡ event_of command.now) }
+/// What a command asks of the workspace.
+#[derive(Drop)]
+pub enum Asked {
+    /// One event.
+    One(Event),
+    /// A build of the project of this name, or of the whole workspace.
+    Build(BuildKind, Option<Name>),
+}
+
+/// What a command asks. It shares the command's texts.
+pub fn asked_of(command: &Command) -> Result<Asked, NoMemory>
+    ensures { IfOk result (λ asked. asked ≡ asked_of command.now) }
 {
     match command {
-        Command::Operation(op) => Ok(Event::Operation(op.copy()?)),
-        Command::Batch => Ok(Event::Batch),
-        Command::EndBatch => Ok(Event::EndBatch),
-        Command::Checkpoint => Ok(Event::Checkpoint),
-        Command::Begin(rule) => Ok(Event::Begin(rule.as_rule().copy()?)),
-        Command::TryBegin(rule) => Ok(Event::TryBegin(rule.as_rule().copy()?)),
-        Command::End(rule) => Ok(Event::End(rule.as_rule().copy()?)),
-        Command::Sleep(name) => Ok(Event::Sleep(name.copy()?)),
-        Command::Wake(name) => Ok(Event::Wake(name.copy()?)),
-        Command::Cancel(name) => Ok(Event::Cancel(name.copy()?)),
+        Command::Operation(op) => Ok(Asked::One(Event::Operation(op.copy()?))),
+        Command::Batch => Ok(Asked::One(Event::Batch)),
+        Command::EndBatch => Ok(Asked::One(Event::EndBatch)),
+        Command::Checkpoint => Ok(Asked::One(Event::Checkpoint)),
+        Command::Begin(rule) => Ok(Asked::One(Event::Begin(rule.as_rule().copy()?))),
+        Command::TryBegin(rule) => Ok(Asked::One(Event::TryBegin(rule.as_rule().copy()?))),
+        Command::End(rule) => Ok(Asked::One(Event::End(rule.as_rule().copy()?))),
+        Command::Sleep(name) => Ok(Asked::One(Event::Sleep(name.copy()?))),
+        Command::Wake(name) => Ok(Asked::One(Event::Wake(name.copy()?))),
+        Command::Cancel(name) => Ok(Asked::One(Event::Cancel(name.copy()?))),
+        Command::Build(kind, None) => Ok(Asked::Build(*kind, None)),
+        Command::Build(kind, Some(name)) => Ok(Asked::Build(*kind, Some(name.copy()?))),
     }
 }
 

@@ -1,18 +1,21 @@
 //! The worker enters, the phases are run one after another, and it leaves.
 ghost use Rattle.std.specs.Prelude.{◌≡◌, ◌⊎◌, ◌∷◌, [], true, map, MatchResult, OnOk, OnErr};
 ghost use Rattle.core_event.specs.declared.event.Event.TheVariants.{Enter, Leave};
-ghost use Rattle.ws_core.specs.Histories.{fresh, has_entered, replay};
+ghost use Rattle.builder_api.specs.Told.{HaveMeanings};
+ghost use Rattle.build_host.specs.Hosts.{IsServed, Serves};
+ghost use Rattle.ws_core.specs.Histories.{fresh_for, has_entered, replay};
 ghost use Rattle.run_order.specs.Lists.{acts, Grew};
 ghost use Rattle.run_order.specs.Orders.{Shuffle, CutShuffle};
 ghost use Rattle.phase_run.specs.Plans.{Made, phases_plan};
 ghost use Rattle.phase_run.specs.Runs.{HeardAll, HeardFront};
 ghost use Rattle.phase_run.specs.Inside.Doing.{IsReady, Makes};
-ghost use Rattle.phase_run.specs.Inside.Running.{Tells, RunsPhase, CutsPhase, RunsPhases, CutsPhases};
+ghost use Rattle.phase_run.specs.Inside.Running.{IsFresh, Tells, RunsPhase, CutsPhase, RunsPhases, CutsPhases};
 
 use crate::NoMemory;
 use crate::phase::run_phase;
 use crate::telling::tell_since;
-use crate::worker::settle;
+use build_host::settle;
+use builder_api::{Builder, Builders, Meanings};
 use core_event::Event;
 use elem_tree::LayerTree;
 use save_parts::{Listener, Listeners};
@@ -26,7 +29,8 @@ fn enter<L: Listener>(
     alloc: Global,
     listeners: &mut Listeners<L>,
 ) -> Result<(), NoMemory>
-    requires state { core.old.state ≡ fresh }
+    requires state { core.old.state ≡ core.old.opened }
+    requires fresh { IsFresh core.old.opened }
     ensures made { OnOk result (Makes (λ h. acts h ≡ (0, Enter) ∷ []) core.old core.new) }
     ensures told { OnOk result (Tells core.old.history core.new.history (map (λ l. L.heard l) listeners.old) (map (λ l. L.heard l) listeners.new)) }
     ensures same { OnErr result (core.new ≡ core.old) }
@@ -39,35 +43,41 @@ fn enter<L: Listener>(
 }
 
 /// A phase is run, and then what it told is told.
-fn run_and_tell<L: Listener>(
+fn run_and_tell<L: Listener, B: Builder, M: Meanings>(
     core: &mut Core<LayerTree>,
+    builders: &mut Builders<B>,
     alloc: Global,
     listeners: &mut Listeners<L>,
     phase: &Phase,
 ) -> Result<(), NoMemory>
-    requires { IsReady core.old.state }
-    ensures { MatchResult result (λ _. RunsPhase phase.now core.old core.new (map (λ l. L.heard l) listeners.old) (map (λ l. L.heard l) listeners.new))
-        (λ _. CutsPhase phase.now core.old core.new (map (λ l. L.heard l) listeners.old) (map (λ l. L.heard l) listeners.new)) }
+    requires ready { IsReady core.old.state }
+    requires served { IsServed M.meaning core.old.opened (map (λ b. B.tells b) builders.old) }
+    ensures done { MatchResult result (λ _. RunsPhase (Made M.meaning) phase.now core.old core.new (map (λ l. L.heard l) listeners.old) (map (λ l. L.heard l) listeners.new))
+        (λ _. CutsPhase (Made M.meaning) phase.now core.old core.new (map (λ l. L.heard l) listeners.old) (map (λ l. L.heard l) listeners.new)) }
+    ensures serves { Serves M.meaning core.old core.new (map (λ b. B.tells b) builders.old) (map (λ b. B.tells b) builders.new) }
 {
     let from = core.history().len();
-    run_phase(core, alloc, phase)?;
+    run_phase::<B, M>(core, builders, alloc, phase)?;
     tell_since(core, listeners, from);
     Ok(())
 }
 
 /// The phases are run, one after another.
-fn run_each<L: Listener>(
+fn run_each<L: Listener, B: Builder, M: Meanings>(
     core: &mut Core<LayerTree>,
+    builders: &mut Builders<B>,
     alloc: Global,
     listeners: &mut Listeners<L>,
     phases: &[Phase],
 ) -> Result<(), NoMemory>
-    requires { IsReady core.old.state }
-    ensures { MatchResult result (λ _. RunsPhases (phases_plan phases.now) core.old core.new (map (λ l. L.heard l) listeners.old) (map (λ l. L.heard l) listeners.new))
-        (λ _. CutsPhases (phases_plan phases.now) core.old core.new (map (λ l. L.heard l) listeners.old) (map (λ l. L.heard l) listeners.new)) }
+    requires ready { IsReady core.old.state }
+    requires served { IsServed M.meaning core.old.opened (map (λ b. B.tells b) builders.old) }
+    ensures done { MatchResult result (λ _. RunsPhases (Made M.meaning) (phases_plan phases.now) core.old core.new (map (λ l. L.heard l) listeners.old) (map (λ l. L.heard l) listeners.new))
+        (λ _. CutsPhases (Made M.meaning) (phases_plan phases.now) core.old core.new (map (λ l. L.heard l) listeners.old) (map (λ l. L.heard l) listeners.new)) }
+    ensures serves { Serves M.meaning core.old core.new (map (λ b. B.tells b) builders.old) (map (λ b. B.tells b) builders.new) }
 {
     for phase in phases {
-        run_and_tell(core, alloc, listeners, phase)?;
+        run_and_tell::<L, B, M>(core, builders, alloc, listeners, phase)?;
     }
     Ok(())
 }
@@ -92,52 +102,59 @@ fn leave<L: Listener>(
 }
 
 /// The worker enters, the phases are run, and it leaves.
-fn run_all<L: Listener>(
+fn run_all<L: Listener, B: Builder, M: Meanings>(
     core: &mut Core<LayerTree>,
+    builders: &mut Builders<B>,
     alloc: Global,
     listeners: &mut Listeners<L>,
     phases: &[Phase],
 ) -> Result<(), NoMemory>
-    requires opened { core.old.opened ≡ fresh }
-    requires state { core.old.state ≡ fresh }
+    requires state { core.old.state ≡ core.old.opened }
     requires history { core.old.history ≡ [] }
-    ensures opened { core.new.opened ≡ fresh }
-    ensures whole { OnOk result (Shuffle Made fresh (phases_plan phases.now) 1 core.new.history) }
-    ensures cut { OnErr result (CutShuffle Made fresh (phases_plan phases.now) 1 core.new.history) }
+    requires fresh { IsFresh core.old.opened }
+    requires served { IsServed M.meaning core.old.opened (map (λ b. B.tells b) builders.old) }
+    ensures opened { core.new.opened ≡ core.old.opened }
+    ensures whole { OnOk result (Shuffle (Made M.meaning) core.old.opened (phases_plan phases.now) 1 core.new.history) }
+    ensures cut { OnErr result (CutShuffle (Made M.meaning) core.old.opened (phases_plan phases.now) 1 core.new.history) }
     ensures there { OnErr result ((core.new.history ≡ []) ⊎ (has_entered 1 core.new.state ≡ true)) }
     ensures told { OnOk result (HeardAll core.new.history (map (λ l. L.heard l) listeners.old) (map (λ l. L.heard l) listeners.new)) }
     ensures told_some { OnErr result (HeardFront core.new.history (map (λ l. L.heard l) listeners.old) (map (λ l. L.heard l) listeners.new)) }
+    ensures serves { Serves M.meaning core.old core.new (map (λ b. B.tells b) builders.old) (map (λ b. B.tells b) builders.new) }
 {
     if phases.is_empty() {
         return Ok(());
     }
     enter(core, alloc, listeners)?;
-    run_each(core, alloc, listeners, phases)?;
+    run_each::<L, B, M>(core, builders, alloc, listeners, phases)?;
     leave(core, alloc, listeners)
 }
 
 /// Runs the phases of a script on a workspace that was just opened, by one worker, and tells listeners after each phase
-/// what it told. Without a phase nothing is done. Where memory wants the run stops where it is: the worker is still
-/// there, if it had entered, and the listeners were told what some beginning of the history tells.
+/// what it told. The workspace has the names of the builders, which its builds call. Without a phase nothing is done.
+/// Where memory wants the run stops where it is: the worker is still there, if it had entered, and the listeners were
+/// told what some beginning of the history tells. The builders are the same ones, and mean what they meant.
 ///
 /// A phase costs n log n steps for its n jobs, beside what their commands cost.
-pub fn run_phases<L: Listener>(
+pub fn run_phases<L: Listener, B: Builder, M: Meanings>(
     core: &mut Core<LayerTree>,
+    builders: &mut Builders<B>,
     alloc: Global,
     listeners: &mut Listeners<L>,
     phases: &[Phase],
 ) -> Result<(), NoMemory>
-    requires opened { core.old.opened ≡ fresh }
-    requires state { core.old.state ≡ fresh }
+    requires opened { core.old.opened ≡ fresh_for (map (λ b. b.named) (map (λ b. B.tells b) builders.old)) }
+    requires state { core.old.state ≡ core.old.opened }
     requires history { core.old.history ≡ [] }
-    ensures opened { core.new.opened ≡ fresh }
-    ensures whole { OnOk result (Shuffle Made fresh (phases_plan phases.now) 1 core.new.history) }
-    ensures cut { OnErr result (CutShuffle Made fresh (phases_plan phases.now) 1 core.new.history) }
+    requires means { HaveMeanings M.meaning (map (λ b. B.tells b) builders.old) }
+    ensures opened { core.new.opened ≡ core.old.opened }
+    ensures whole { OnOk result (Shuffle (Made M.meaning) core.old.opened (phases_plan phases.now) 1 core.new.history) }
+    ensures cut { OnErr result (CutShuffle (Made M.meaning) core.old.opened (phases_plan phases.now) 1 core.new.history) }
     ensures there { OnErr result ((core.new.history ≡ []) ⊎ (has_entered 1 (replay core.new.opened core.new.history) ≡ true)) }
     ensures told { OnOk result (HeardAll core.new.history (map (λ l. L.heard l) listeners.old) (map (λ l. L.heard l) listeners.new)) }
     ensures told_some { OnErr result (HeardFront core.new.history (map (λ l. L.heard l) listeners.old) (map (λ l. L.heard l) listeners.new)) }
+    ensures serves { Serves M.meaning core.old core.new (map (λ b. B.tells b) builders.old) (map (λ b. B.tells b) builders.new) }
 {
-    let ran = run_all(core, alloc, listeners, phases);
+    let ran = run_all::<L, B, M>(core, builders, alloc, listeners, phases);
     settle(core);
     ran
 }

@@ -1,14 +1,17 @@
 //! The worker takes jobs, does their commands and finishes them.
-ghost use Rattle.std.specs.Prelude.{◌≡◌, MatchResult};
+ghost use Rattle.std.specs.Prelude.{◌≡◌, map, MatchResult, option_copied};
+ghost use Rattle.build_host.specs.Builds.{IsBuild};
+ghost use Rattle.build_host.specs.Hosts.{IsServed, Serves};
 ghost use Rattle.run_order.specs.Lists.{Cut, InTurn};
-ghost use Rattle.run_order.specs.Parts.{Parts};
-ghost use Rattle.ws_core.specs.Histories.{replay};
-ghost use Rattle.phase_run.specs.Plans.{Made, jobs_plan};
-ghost use Rattle.phase_run.specs.Inside.Doing.{IsReady, IsAtWork, Makes, Stops, Works, Ends, IsOver, Takes, job_given};
+ghost use Rattle.run_order.specs.Parts.{CommandEntries, Parts};
+ghost use Rattle.phase_run.specs.Plans.{AskedEntries, Made, jobs_plan};
+ghost use Rattle.phase_run.specs.Inside.Doing.{IsAskable, IsAsked, IsReady, IsAtWork, Makes, Stops, Works, Ends, IsOver, Takes, job_given};
 
 use crate::NoMemory;
 use crate::book::JobBook;
-use crate::plan::event_of;
+use crate::plan::{Asked, asked_of};
+use build_host::{build, settle};
+use builder_api::{BuildKind, Builder, Builders, Meanings};
 use core_event::{Answer, Apart, Event};
 use elem_tree::LayerTree;
 use res_path::Name;
@@ -16,36 +19,104 @@ use script_lang::{Command, Job};
 use std::alloc::Global;
 use ws_core::Core;
 
-/// The worker does a command.
-fn do_command(core: &mut Core<LayerTree>, alloc: Global, command: &Command) -> Result<(), NoMemory>
-    requires { IsAtWork core.old.state }
-    ensures { MatchResult result (λ _. Works (Made 1 command.now) core.old core.new) (λ _. core.new ≡ core.old) }
+/// The worker does an event that a command asks.
+fn do_event(core: &mut Core<LayerTree>, alloc: Global, event: Event) -> Result<(), NoMemory>
+    requires work { IsAtWork core.old.state }
+    requires asked { IsAsked event }
+    ensures { MatchResult result (λ _. Works (CommandEntries 1 event) core.old core.new) (λ _. Stops (Cut (CommandEntries 1 event)) core.old core.new) }
 {
-    let event = event_of(command)?;
     core.perform(alloc, 1, event)
 }
 
-/// The worker does the commands, in order.
-fn do_commands(
+/// The worker makes a build.
+fn do_build<B: Builder, M: Meanings>(
     core: &mut Core<LayerTree>,
+    builders: &mut Builders<B>,
+    alloc: Global,
+    kind: BuildKind,
+    project: Option<&Name>,
+) -> Result<(), NoMemory>
+    requires work { IsAtWork core.old.state }
+    requires served { IsServed M.meaning core.old.opened (map (λ b. B.tells b) builders.old) }
+    ensures done { MatchResult result (λ _. Works (IsBuild M.meaning 1 kind (option_copied project.entry)) core.old core.new)
+        (λ _. Stops (Cut (IsBuild M.meaning 1 kind (option_copied project.entry))) core.old core.new) }
+    ensures serves { Serves M.meaning core.old core.new (map (λ b. B.tells b) builders.old) (map (λ b. B.tells b) builders.new) }
+{
+    settle(core);
+    let answer = build::<B, M>(core, builders, alloc, kind, project)?;
+    drop(answer);
+    Ok(())
+}
+
+/// The worker does what is asked.
+fn do_asked<B: Builder, M: Meanings>(
+    core: &mut Core<LayerTree>,
+    builders: &mut Builders<B>,
+    alloc: Global,
+    asked: Asked,
+) -> Result<(), NoMemory>
+    requires work { IsAtWork core.old.state }
+    requires asked { IsAskable asked }
+    requires served { IsServed M.meaning core.old.opened (map (λ b. B.tells b) builders.old) }
+    ensures done { MatchResult result (λ _. Works (AskedEntries M.meaning 1 asked) core.old core.new) (λ _. Stops (Cut (AskedEntries M.meaning 1 asked)) core.old core.new) }
+    ensures serves { Serves M.meaning core.old core.new (map (λ b. B.tells b) builders.old) (map (λ b. B.tells b) builders.new) }
+{
+    match asked {
+        Asked::One(event) => do_event(core, alloc, event),
+        Asked::Build(kind, None) => do_build::<B, M>(core, builders, alloc, kind, None),
+        Asked::Build(kind, Some(name)) => {
+            do_build::<B, M>(core, builders, alloc, kind, Some(&name))
+        }
+    }
+}
+
+/// The worker does a command.
+fn do_command<B: Builder, M: Meanings>(
+    core: &mut Core<LayerTree>,
+    builders: &mut Builders<B>,
+    alloc: Global,
+    command: &Command,
+) -> Result<(), NoMemory>
+    requires work { IsAtWork core.old.state }
+    requires served { IsServed M.meaning core.old.opened (map (λ b. B.tells b) builders.old) }
+    ensures done { MatchResult result (λ _. Works (Made M.meaning 1 command.now) core.old core.new) (λ _. Stops (Cut (Made M.meaning 1 command.now)) core.old core.new) }
+    ensures serves { Serves M.meaning core.old core.new (map (λ b. B.tells b) builders.old) (map (λ b. B.tells b) builders.new) }
+{
+    let asked = asked_of(command)?;
+    do_asked::<B, M>(core, builders, alloc, asked)
+}
+
+/// The worker does the commands, in order.
+fn do_commands<B: Builder, M: Meanings>(
+    core: &mut Core<LayerTree>,
+    builders: &mut Builders<B>,
     alloc: Global,
     commands: &[Command],
 ) -> Result<(), NoMemory>
-    requires { IsAtWork core.old.state }
-    ensures { MatchResult result (λ _. Works (InTurn (Made 1) commands.now) core.old core.new) (λ _. Stops (Cut (InTurn (Made 1) commands.now)) core.old core.new) }
+    requires work { IsAtWork core.old.state }
+    requires served { IsServed M.meaning core.old.opened (map (λ b. B.tells b) builders.old) }
+    ensures done { MatchResult result (λ _. Works (InTurn (Made M.meaning 1) commands.now) core.old core.new) (λ _. Stops (Cut (InTurn (Made M.meaning 1) commands.now)) core.old core.new) }
+    ensures serves { Serves M.meaning core.old core.new (map (λ b. B.tells b) builders.old) (map (λ b. B.tells b) builders.new) }
 {
     for command in commands {
-        do_command(core, alloc, command)?;
+        do_command::<B, M>(core, builders, alloc, command)?;
     }
     Ok(())
 }
 
 /// The worker does the commands of the job that it runs, and finishes.
-fn do_job(core: &mut Core<LayerTree>, alloc: Global, commands: &[Command]) -> Result<(), NoMemory>
-    requires { IsAtWork core.old.state }
-    ensures { MatchResult result (λ _. Ends commands.now core.old core.new) (λ _. Stops (Cut (InTurn (Made 1) commands.now)) core.old core.new) }
+fn do_job<B: Builder, M: Meanings>(
+    core: &mut Core<LayerTree>,
+    builders: &mut Builders<B>,
+    alloc: Global,
+    commands: &[Command],
+) -> Result<(), NoMemory>
+    requires work { IsAtWork core.old.state }
+    requires served { IsServed M.meaning core.old.opened (map (λ b. B.tells b) builders.old) }
+    ensures done { MatchResult result (λ _. Ends (Made M.meaning) commands.now core.old core.new) (λ _. Stops (Cut (InTurn (Made M.meaning 1) commands.now)) core.old core.new) }
+    ensures serves { Serves M.meaning core.old core.new (map (λ b. B.tells b) builders.old) (map (λ b. B.tells b) builders.new) }
 {
-    do_commands(core, alloc, commands)?;
+    do_commands::<B, M>(core, builders, alloc, commands)?;
     core.perform(alloc, 1, Event::Finish)
 }
 
@@ -62,13 +133,6 @@ fn job_of(answer: Answer) -> Option<Apart<Name>>
     }
 }
 
-/// The state is the one that the history leads to, as of every workspace. Nothing is done.
-pub fn settle(core: &Core<LayerTree>)
-    ensures { core.now.state ≡ replay core.now.opened core.now.history }
-{
-    let _ = core.state();
-}
-
 /// The worker takes the job that comes next: its name, or None where no job waits.
 fn take(core: &mut Core<LayerTree>, alloc: Global) -> Result<Option<Apart<Name>>, NoMemory>
     requires { IsReady core.old.state }
@@ -80,21 +144,35 @@ fn take(core: &mut Core<LayerTree>, alloc: Global) -> Result<Option<Apart<Name>>
 }
 
 /// The worker takes jobs, does each and finishes it, until none waits.
-fn do_jobs(core: &mut Core<LayerTree>, alloc: Global, book: &JobBook<'_>) -> Result<(), NoMemory>
-    requires { IsReady core.old.state }
-    ensures { MatchResult result (λ _. Makes (Parts Made (jobs_plan book.now) 1) core.old core.new × IsOver core.new) (λ _. Stops (Cut (Parts Made (jobs_plan book.now) 1)) core.old core.new) }
+fn do_jobs<B: Builder, M: Meanings>(
+    core: &mut Core<LayerTree>,
+    builders: &mut Builders<B>,
+    alloc: Global,
+    book: &JobBook<'_>,
+) -> Result<(), NoMemory>
+    requires ready { IsReady core.old.state }
+    requires served { IsServed M.meaning core.old.opened (map (λ b. B.tells b) builders.old) }
+    ensures done { MatchResult result (λ _. Makes (Parts (Made M.meaning) (jobs_plan book.now) 1) core.old core.new × IsOver core.new) (λ _. Stops (Cut (Parts (Made M.meaning) (jobs_plan book.now) 1)) core.old core.new) }
+    ensures serves { Serves M.meaning core.old core.new (map (λ b. B.tells b) builders.old) (map (λ b. B.tells b) builders.new) }
 {
     while let Some(name) = take(core, alloc)? {
-        do_job(core, alloc, book.commands(name.value()))?;
+        do_job::<B, M>(core, builders, alloc, book.commands(name.value()))?;
     }
     Ok(())
 }
 
 /// The worker does the jobs that wait, of which these are all, until none waits.
-pub fn work(core: &mut Core<LayerTree>, alloc: Global, jobs: &[Job]) -> Result<(), NoMemory>
-    requires { IsReady core.old.state }
-    ensures { MatchResult result (λ _. Makes (Parts Made (jobs_plan jobs.now) 1) core.old core.new × IsOver core.new) (λ _. Stops (Cut (Parts Made (jobs_plan jobs.now) 1)) core.old core.new) }
+pub fn work<B: Builder, M: Meanings>(
+    core: &mut Core<LayerTree>,
+    builders: &mut Builders<B>,
+    alloc: Global,
+    jobs: &[Job],
+) -> Result<(), NoMemory>
+    requires ready { IsReady core.old.state }
+    requires served { IsServed M.meaning core.old.opened (map (λ b. B.tells b) builders.old) }
+    ensures done { MatchResult result (λ _. Makes (Parts (Made M.meaning) (jobs_plan jobs.now) 1) core.old core.new × IsOver core.new) (λ _. Stops (Cut (Parts (Made M.meaning) (jobs_plan jobs.now) 1)) core.old core.new) }
+    ensures serves { Serves M.meaning core.old core.new (map (λ b. B.tells b) builders.old) (map (λ b. B.tells b) builders.new) }
 {
     let book = JobBook::of(alloc, jobs)?;
-    do_jobs(core, alloc, &book)
+    do_jobs::<B, M>(core, builders, alloc, &book)
 }

@@ -30,7 +30,8 @@ use Rattle.job_manager.specs.Refusals.{refusal}
 use Rattle.job_manager.specs.Effects.{effect, taken, next_job, decided, outcome}
 use Rattle.ws_core.specs.States.{Moment}
 use Rattle.ws_core.specs.Steps.{step}
-use Rattle.ws_core.specs.Histories.{fresh}
+use Rattle.res_path.specs.Paths.{Names}
+use Rattle.ws_core.specs.Histories.{fresh_for}
 use Rattle.run_order.specs.Alone.{AllOfOne, IsSingle, IsPlain, IsIdle, IsBusy, IsCommand}
 use Rattle.run_order.proofs.Managed.{step_services, step_answer}
 use Rattle.run_order.proofs.Waiting.{command_plain}
@@ -105,11 +106,11 @@ idle_over m i none = none_pass (λ job. is_live job.state) m.jobs.jobs each
         by states.Waiting e = absurd (waits job (ap (λ held. may_start atom_conflicts held job) (sym i.rules) ∙ none_next m.jobs m.passes.rules name job none is) e)
         by states.Running e = absurd (i.runs name (ap (option_map (λ (j : Job WsAtom). j.state)) is ∙ ap Some e))
 
--- in the fresh workspace, once pass 1 was let in
-pub entered_idle : IsIdle (step fresh 0 Enter).0.manager
-entered_idle = subst IsIdle (sym (step_manager fresh 0 Enter refl)) (record {
+-- in the fresh workspace, whoever its builders are, once pass 1 was let in
+pub entered_idle : (builders : Names) → IsIdle (step (fresh_for builders) 0 Enter).0.manager
+entered_idle builders = subst IsIdle (sym (step_manager (fresh_for builders) 0 Enter refl)) (record {
   rules = refl;
-  there = get-insert nat_cmp_total fresh.manager.passes.there 1 idle 1 ∙ ap (λ b. cond b (Some idle) (get fresh.manager.passes.there 1)) (itself nat_cmp_total 1);
+  there = get-insert nat_cmp_total (fresh_for builders).manager.passes.there 1 idle 1 ∙ ap (λ b. cond b (Some idle) (get (fresh_for builders).manager.passes.there 1)) (itself nat_cmp_total 1);
   runs = λ name is. not_Some states.Running (sym (ap (option_map (λ (j : Job WsAtom). j.state)) (get-empty name_cmp name)) ∙ is);
   services = refl;
 })

@@ -5,22 +5,23 @@ use Rattle.std.specs.Str.{bytes_eq}
 use Rattle.std.proofs.Math.Seq.{take-length}
 use Rattle.sched_rules.specs.declared.ws_atom.WsAtom.{WsAtom}
 use Rattle.sched_rules.specs.declared.ws_atom.WsAtom.TheVariants.{Path, Mutex, Lines}
+use Rattle.builder_api.specs.declared.kind.BuildKind.{BuildKind}
 use Rattle.script_lang.specs.declared.script.Command.TheVariants as command
 use Rattle.script_lang.specs.declared.script.Priority.{Priority}
 use Rattle.script_lang.specs.declared.line.Line.{Line}
 use Rattle.script_lang.specs.declared.line.Line.TheVariants.{BeginPhase, BeginJob, InJob, EndJob, EndPhase}
 use Rattle.script_ops.specs.declared.verb.Verb.{Verb}
-use Rattle.script_ops.specs.declared.verb.Verb.TheVariants.{Phase, EndPhase as EndPhaseVerb, Job, EndJob as EndJobVerb, Batch, EndBatch, Checkpoint, Begin, TryBegin, End, Sleep, Wake, Cancel}
+use Rattle.script_ops.specs.declared.verb.Verb.TheVariants.{Phase, EndPhase as EndPhaseVerb, Job, EndJob as EndJobVerb, Batch, EndBatch, Checkpoint, Begin, TryBegin, End, Sleep, Wake, Cancel, Build}
 use Rattle.script_words.specs.declared.words.Token.{Token}
 use Rattle.script_words.specs.Words.{Word}
-use Rattle.script_parts.specs.Parts.{Part, keyword, a_name, FitsPart, FitsParts, rule_parts}
-use Rattle.script_lang.specs.Commands.{FitsLine, asleep_parts, priority_word, line_parts, line_read}
+use Rattle.script_parts.specs.Parts.{Part, keyword, a_name, FitsPart, FitsParts, rule_parts, scope_parts}
+use Rattle.script_lang.specs.Commands.{FitsLine, asleep_parts, kind_word, priority_word, line_parts, line_read}
 use Rattle.script_lang.specs.Inside.Reading.{IsLineOf, IsStartFound, IsSleepFound}
 use Rattle.script_parts.specs.Inside.Found.{IsRuleFound, FitsFront}
 use Rattle.script_ops.specs.Inside.Verbs.{verb_word, begun_with}
 use Rattle.script_parts.proofs.Fitting.{fit_size}
-use Rattle.script_parts.proofs.Values.{nth, atoms_at}
-use Rattle.script_lang.proofs.Coded.{line_at, priority_at, known}
+use Rattle.script_parts.proofs.Values.{nth, atoms_at, scope_at}
+use Rattle.script_lang.proofs.Coded.{line_at, priority_at, kind_at, known}
 use Rattle.script_ops.proofs.Begun.{HasVerb, with_verb, op_verb}
 
 -- ---- each line begins with a verb
@@ -37,6 +38,7 @@ line_verb (InJob (command.End rule)) = with_verb End (rule_parts rule)
 line_verb (InJob (command.Sleep name)) = with_verb Sleep (a_name name ∷ [])
 line_verb (InJob (command.Wake name)) = with_verb Wake (a_name name ∷ [])
 line_verb (InJob (command.Cancel name)) = with_verb Cancel (a_name name ∷ [])
+line_verb (InJob (command.Build kind project)) = with_verb Build (keyword (kind_word kind) ∷ scope_parts project)
 line_verb (InJob (command.Operation x)) = op_verb x
 line_verb EndJob = with_verb EndJobVerb []
 line_verb EndPhase = with_verb EndPhaseVerb []
@@ -90,6 +92,22 @@ pub named_found : (verb : Verb) (make : List ℕ → Line) (rest : List Token) (
     → line_parts (make name) ≡ keyword (verb_word verb) ∷ a_name name ∷ [] → line_read (make name) ≡ make name → FitsLine (begun_with verb rest) (make name)
 named_found verb make rest name h parts read =
     record { written = make name; read = read; fits = subst (FitsParts (begun_with verb rest)) (sym parts) ((refl, refl), h) }
+
+-- ---- a build's line
+
+pub build_found : (rest : List Token) (kind : BuildKind) (project : Option (List ℕ)) → FitsParts rest (keyword (kind_word kind) ∷ scope_parts project)
+    → FitsLine (begun_with Build rest) (InJob (command.Build kind project))
+build_found rest kind project h = record { written = InJob (command.Build kind project); read = refl; fits = ((refl, refl), h) }
+
+pub no_build : (rest : List Token) → ((kind : BuildKind) (project : Option (List ℕ)) → FitsParts rest (keyword (kind_word kind) ∷ scope_parts project) → ⊥)
+    → (line : Line) → FitsLine (begun_with Build rest) line → ⊥
+no_build rest none line h =
+    let words = map (λ (t : Token). t.word) rest in
+    let kind = kind_at (nth 0 words) in
+    let project = scope_at (drop 1 words) in
+    let fits : FitsParts (begun_with Build rest) (line_parts (InJob (command.Build kind project))) =
+    subst (λ (line : Line). FitsParts (begun_with Build rest) (line_parts line)) (known (begun_with Build rest) h.written h.fits) h.fits in
+    none kind project fits.1
 
 -- ---- a job's line
 

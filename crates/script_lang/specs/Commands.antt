@@ -1,14 +1,23 @@
 -- The lines of a script: what each says, and the words that say it.
 use Rattle.std.specs.Prelude.{◌≡◌, ℕ, Bool, true, false, List, [], ◌∷◌, ◌++◌, codes}
+use Rattle.builder_api.specs.declared.kind.BuildKind.{BuildKind}
+use Rattle.builder_api.specs.declared.kind.BuildKind.TheVariants.{Full, Auto, Incremental, Clean}
 use Rattle.script_lang.specs.declared.script.Command.{Command}
-use Rattle.script_lang.specs.declared.script.Command.TheVariants.{Operation, Batch, EndBatch, Checkpoint, Begin, TryBegin, End, Sleep, Wake, Cancel}
+use Rattle.script_lang.specs.declared.script.Command.TheVariants.{Operation, Batch, EndBatch, Checkpoint, Begin, TryBegin, End, Sleep, Wake, Cancel, Build as BuildCommand}
 use Rattle.script_lang.specs.declared.script.Priority.{Priority}
 use Rattle.script_lang.specs.declared.script.Priority.TheVariants.{Interactive, Short, Long, Build, Decorate}
 use Rattle.script_lang.specs.declared.line.Line.{Line}
 use Rattle.script_lang.specs.declared.line.Line.TheVariants.{BeginPhase, BeginJob, InJob, EndJob, EndPhase}
 use Rattle.script_words.specs.declared.words.Token.{Token}
-use Rattle.script_parts.specs.Parts.{Part, FitsParts, keyword, a_name, rule_parts, rule_read}
+use Rattle.script_parts.specs.Parts.{Part, FitsParts, keyword, a_name, rule_parts, rule_read, scope_parts}
 use Rattle.script_ops.specs.Operations.{operation_parts}
+
+-- the word of a build's kind
+abbrev pub kind_word : BuildKind → List ℕ
+kind_word Full = codes "full"
+kind_word Auto = codes "auto"
+kind_word Incremental = codes "incr"
+kind_word Clean = codes "clean"
 
 -- the parts of a command's line
 abbrev pub command_parts : Command → List Part
@@ -22,6 +31,7 @@ command_parts (End rule) = keyword (codes "end") ∷ rule_parts rule
 command_parts (Sleep name) = keyword (codes "sleep") ∷ a_name name ∷ []
 command_parts (Wake name) = keyword (codes "wake") ∷ a_name name ∷ []
 command_parts (Cancel name) = keyword (codes "cancel") ∷ a_name name ∷ []
+command_parts (BuildCommand kind project) = keyword (codes "build") ∷ keyword (kind_word kind) ∷ scope_parts project
 
 abbrev pub priority_number : Priority → ℕ
 priority_number Interactive = 10
@@ -63,6 +73,7 @@ command_read (End atoms) = End (rule_read atoms)
 command_read (Sleep name) = Sleep name
 command_read (Wake name) = Wake name
 command_read (Cancel name) = Cancel name
+command_read (BuildCommand kind project) = BuildCommand kind project
 
 -- the line that is read where this one is written, whose rule may be any atoms
 abbrev pub line_read : Line → Line

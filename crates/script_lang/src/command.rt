@@ -1,19 +1,21 @@
 //! Which line of a script the words of a line are.
-ghost use Rattle.std.specs.Prelude.{◌≡◌, ◌≢◌, [], true, IfOk, MatchOption};
+ghost use Rattle.std.specs.Prelude.{◌≡◌, ◌≢◌, [], ◌∷◌, true, IfOk, MatchOption};
 ghost use Rattle.script_lang.specs.declared.line.Line.TheVariants.{InJob};
 ghost use Rattle.script_lang.specs.declared.script.Command.TheVariants.{Operation};
 ghost use Rattle.script_lang.specs.Inside.Reading.{IsLineOf, IsStartFound, IsSleepFound};
-ghost use Rattle.script_lang.specs.Commands.{priority_word};
-ghost use Rattle.script_parts.specs.Parts.{keyword};
-ghost use Rattle.script_parts.specs.Inside.Found.{IsPartFound};
+ghost use Rattle.script_lang.specs.Commands.{kind_word, priority_word};
+ghost use Rattle.script_parts.specs.Parts.{keyword, scope_parts};
+ghost use Rattle.script_parts.specs.Inside.Found.{IsPairFound, IsPartFound};
 ghost use Rattle.script_ops.specs.Inside.Verbs.{begun_with, stands_alone, begins_operation};
 
 use crate::NoMemory;
 use crate::line::Line;
 use crate::script::{Command, Priority};
+use builder_api::BuildKind;
 use op_kind::Op;
+use res_path::Name;
 use script_ops::{Verb, operation_with, verb_of};
-use script_parts::{ScriptRule, is_key, name_alone, name_of, rule_of};
+use script_parts::{ScriptRule, is_key, name_alone, name_of, rule_of, scope_alone};
 use script_words::Token;
 use std::alloc::Global;
 
@@ -42,6 +44,7 @@ fn line_with(alloc: Global, verb: Verb, rest: &mut [Token]) -> Result<Option<Lin
         Verb::Sleep => Ok(sleep_line(rest)),
         Verb::Wake => Ok(wake_line(rest)),
         Verb::Cancel => Ok(cancel_line(rest)),
+        Verb::Build => Ok(build_line(rest)),
         Verb::Phase
         | Verb::EndPhase
         | Verb::EndJob
@@ -183,6 +186,32 @@ fn cancel_line(rest: &mut [Token]) -> Option<Line>
     }
 }
 
+fn build_line(rest: &mut [Token]) -> Option<Line>
+    ensures { IsLineOf (begun_with Verb.Build rest.old) result }
+{
+    match kind_and_scope(rest) {
+        None => None,
+        Some((kind, project)) => Some(Line::InJob(Command::Build(kind, project))),
+    }
+}
+
+/// The kind of a build, and the one project that is built, if it is one.
+#[tactic(auto, using(script_parts::proofs::Fitting::fit_size))]
+fn kind_and_scope(tokens: &mut [Token]) -> Option<(BuildKind, Option<Name>)>
+    ensures { IsPairFound (λ kind project. keyword (kind_word kind) ∷ scope_parts project) tokens.old result }
+{
+    let [kind, scope @ ..] = tokens else {
+        return None;
+    };
+    let Some(kind) = kind_of(kind) else {
+        return None;
+    };
+    match scope_alone(scope) {
+        None => None,
+        Some(project) => Some((kind, project)),
+    }
+}
+
 /// The line of an operation.
 fn doing(op: Op) -> Line
     ensures { result ≡ InJob (Operation op) }
@@ -208,6 +237,25 @@ fn priority_of(token: &Token) -> Option<Priority>
     }
     if is_key(token, b"50") {
         return Some(Priority::Decorate);
+    }
+    None
+}
+
+/// The kind of a build that the token is.
+fn kind_of(token: &Token) -> Option<BuildKind>
+    ensures { IsPartFound (λ kind. keyword (kind_word kind)) token.now result }
+{
+    if is_key(token, b"full") {
+        return Some(BuildKind::Full);
+    }
+    if is_key(token, b"auto") {
+        return Some(BuildKind::Auto);
+    }
+    if is_key(token, b"incr") {
+        return Some(BuildKind::Incremental);
+    }
+    if is_key(token, b"clean") {
+        return Some(BuildKind::Clean);
     }
     None
 }

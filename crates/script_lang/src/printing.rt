@@ -1,8 +1,9 @@
 //! The text of a script.
-ghost use Rattle.std.specs.Prelude.{◌≡◌, ◌++◌, [], ◌∷◌, IfOk, OnOk};
+ghost use Rattle.std.specs.Prelude.{◌≡◌, ◌++◌, [], ◌∷◌, true, IfOk, OnOk};
 ghost use Rattle.script_lang.specs.declared.line.Line.TheVariants.{BeginJob, InJob};
-ghost use Rattle.script_words.specs.Words.{Grows};
-ghost use Rattle.script_lang.specs.Commands.{asleep_parts, command_parts, command_read, priority_word};
+ghost use Rattle.script_lang.specs.declared.script.Command.TheVariants.{Build};
+ghost use Rattle.script_words.specs.Words.{Grows, is_bare};
+ghost use Rattle.script_lang.specs.Commands.{asleep_parts, command_parts, command_read, kind_word, priority_word};
 ghost use Rattle.script_lang.specs.Scripts.{IsScript, script_text, command_text, line_text, phase_lines, job_lines, HasOwnNames, ended};
 ghost use Rattle.script_parts.specs.Parts.{keyword, parts_text, rule_parts, rule_read};
 ghost use Rattle.script_lang.specs.Inside.Printed.{AreLines, IsLine};
@@ -10,8 +11,10 @@ ghost use Rattle.script_parts.specs.Inside.Printed.{AreParts, spaced};
 
 use crate::script::{Command, Job, Phase, Priority, Script};
 use crate::{NoMemory, ScriptRule};
+use builder_api::BuildKind;
+use res_path::Name;
 use script_ops::put_doing;
-use script_parts::{name_word, put_next, put_rule, put_three, put_two};
+use script_parts::{name_word, put_next, put_rule, put_scope, put_three, put_two};
 use script_words::{put_bytes, put_word};
 use std::alloc::Global;
 
@@ -124,6 +127,7 @@ fn put_commanding(out: &mut Vec<u8>, command: &Command) -> Result<(), NoMemory>
         Command::Sleep(name) => put_two(out, b"sleep", name_word(name)),
         Command::Wake(name) => put_two(out, b"wake", name_word(name)),
         Command::Cancel(name) => put_two(out, b"cancel", name_word(name)),
+        Command::Build(kind, project) => put_build(out, *kind, project),
     }
 }
 
@@ -137,6 +141,29 @@ fn put_ruled(out: &mut Vec<u8>, verb: &[u8], rule: &ScriptRule) -> Result<(), No
     put_word(out, verb)?;
     put_rule(out, rule)?;
     Ok(())
+}
+
+/// Appends the line of a build, without its end.
+fn put_build(out: &mut Vec<u8>, kind: BuildKind, project: &Option<Name>) -> Result<(), NoMemory>
+    ensures text { OnOk result (out.new.items ≡ out.old.items ++ command_text (Build kind project.now)) }
+    ensures kept { Grows out.old.items out.new.items }
+    ensures parts { OnOk result (AreParts (command_parts (Build kind project.now))) }
+{
+    put_two(out, b"build", kind_word(kind))?;
+    put_scope(out, project)?;
+    Ok(())
+}
+
+fn kind_word(kind: BuildKind) -> &'static [u8]
+    ensures word { result.now ≡ kind_word kind }
+    ensures bare { is_bare result.now ≡ true }
+{
+    match kind {
+        BuildKind::Full => b"full",
+        BuildKind::Auto => b"auto",
+        BuildKind::Incremental => b"incr",
+        BuildKind::Clean => b"clean",
+    }
 }
 
 fn priority_word(priority: Priority) -> &'static [u8]

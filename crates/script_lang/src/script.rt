@@ -4,6 +4,7 @@ ghost use Rattle.script_lang.specs.Commands.{priority_number};
 ghost use Rattle.script_lang.specs.Names.{HaveOwnNames};
 
 use crate::NoMemory;
+use builder_api::BuildKind;
 use op_kind::Op;
 use res_path::Name;
 use script_parts::ScriptRule;
@@ -33,6 +34,8 @@ pub enum Command {
     Wake(Name),
     /// The job of this name is cancelled (`Job.cancel`).
     Cancel(Name),
+    /// The workspace is built, or the project of this name (`IWorkspace.build`, `IProject.build`).
+    Build(BuildKind, Option<Name>),
 }
 
 /// Commands in the order in which they are run. A contract sees the list.

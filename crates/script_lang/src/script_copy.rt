@@ -20,6 +20,7 @@ impl Command {
             Command::Sleep(name) => Ok(Command::Sleep(name.copy()?)),
             Command::Wake(name) => Ok(Command::Wake(name.copy()?)),
             Command::Cancel(name) => Ok(Command::Cancel(name.copy()?)),
+            Command::Build(kind, project) => Ok(Command::Build(*kind, project.clone()?)),
         }
     }
 }

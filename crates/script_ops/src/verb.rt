@@ -23,6 +23,7 @@ pub enum Verb {
     Sleep,
     Wake,
     Cancel,
+    Build,
     Create,
     Delete,
     Write,
@@ -75,7 +76,8 @@ fn verb_named(word: &[u8]) -> Option<Verb>
     }
 }
 
-/// The verb with this name, of those that bound phases, jobs, batches and rules, and of those that steer jobs.
+/// The verb with this name, of those that bound phases, jobs, batches and rules, of those that steer jobs, and of the one
+/// that builds.
 fn bound_named(word: &[u8]) -> Option<Verb>
     ensures { IsNamed bounds word.now result }
 {
@@ -93,6 +95,7 @@ fn bound_named(word: &[u8]) -> Option<Verb>
         b"sleep" => Some(Verb::Sleep),
         b"wake" => Some(Verb::Wake),
         b"cancel" => Some(Verb::Cancel),
+        b"build" => Some(Verb::Build),
         _ => None,
     }
 }

@@ -1,5 +1,5 @@
 -- The values that some words are.
-use Rattle.std.proofs.Common.{◌≡◌, ℕ, zero, suc, ℤ, Bool, true, false, Option, Some, None, List, [], ◌∷◌, ◌++◌, map, FitsSigned, refl, ◌∙◌, ap, arith}
+use Rattle.std.proofs.Common.{◌≡◌, ℕ, zero, suc, ℤ, Bool, true, false, Option, Some, None, List, [], ◌∷◌, ◌++◌, map, drop, FitsSigned, append-nil, refl, ◌∙◌, ap, arith}
 use Rattle.std.specs.Prelude.{codes, if◌then◌else◌}
 use Rattle.std.specs.Int.{w32}
 use Rattle.std.specs.List.{flat_map, AllByRecursion}
@@ -15,7 +15,7 @@ use Rattle.ws_elem.specs.declared.depth.Depth.{Depth}
 use Rattle.ws_elem.specs.declared.depth.Depth.TheVariants.{Zero, One, Infinite}
 use Rattle.script_words.specs.declared.words.Token.{Token}
 use Rattle.script_words.specs.Words.{Word}
-use Rattle.script_parts.specs.Parts.{Part, keyword, a_number, an_integer, a_name, a_path, a_text, a_word, IsNumber, FitsPart, FitsParts, atom_parts, rule_parts, value_parts, attribute_parts, set_parts, truth_word, part_word}
+use Rattle.script_parts.specs.Parts.{Part, keyword, a_number, an_integer, a_name, a_path, a_text, a_word, IsNumber, FitsPart, FitsParts, atom_parts, rule_parts, value_parts, attribute_parts, scope_parts, set_parts, truth_word, part_word}
 use Rattle.script_parts.proofs.Numbers.{number_back, integer_back}
 use Rattle.script_parts.proofs.Paths.{path_at, path_back}
 
@@ -40,6 +40,11 @@ attributes_at [] = []
 attributes_at (name ∷ []) = []
 attributes_at (name ∷ kind ∷ []) = []
 attributes_at (name ∷ kind ∷ word ∷ words) = (name, value_at kind word) ∷ attributes_at words
+
+-- the project of which the word, where there is one, is the path
+abbrev pub scope_at : List Word → Option (List ℕ)
+scope_at [] = None
+scope_at (word ∷ words) = Some (drop 1 word)
 
 -- what an attribute is set to
 abbrev pub change_at : List Word → Option RawValue
@@ -100,6 +105,10 @@ change_back None h = refl
 change_back (Some (IntValue z)) h = ap (λ (z : ℤ). Some (IntValue z)) (integer_back z h.1.0)
 change_back (Some (BoolValue b)) h = ap (λ (b : Bool). Some (BoolValue b)) (truth_back b)
 change_back (Some (TextValue text)) h = refl
+
+pub scope_back : (project : Option (List ℕ)) → scope_at (words_of (scope_parts project)) ≡ project
+scope_back None = refl
+scope_back (Some name) = ap Some (append-nil name)
 
 pub atoms_back : (atoms : List WsAtom) → AreNamed (flat_map atom_parts atoms) → atoms_at (words_of (flat_map atom_parts atoms)) ≡ atoms
 atoms_back [] h = refl

@@ -82,6 +82,17 @@ rule_parts (atom ∷ atoms) = flat_map atom_parts (atom ∷ atoms)
 abbrev pub rule_read : List WsAtom → List WsAtom
 rule_read atoms = rule_of atom_cmp atom_contains atoms
 
+-- ---- projects
+
+-- the path of the project of this name
+abbrev pub a_project : List ℕ → Part
+a_project name = a_path (name ∷ [])
+
+-- the path of the one project that is meant, if it is one
+abbrev pub scope_parts : Option (List ℕ) → List Part
+scope_parts None = []
+scope_parts (Some name) = a_project name ∷ []
+
 -- ---- switches, depths and attributes
 
 abbrev pub switch_word : Bool → List ℕ

@@ -3,13 +3,13 @@
 
 ghost use Rattle.std.specs.Prelude.{[], ◌∷◌, IfOk};
 ghost use Rattle.std.specs.List.{flat_map};
-ghost use Rattle.script_parts.specs.Parts.{keyword, a_name, a_number, a_path, a_text, a_word, attribute_parts, depth_word, set_parts, switch_word};
+ghost use Rattle.script_parts.specs.Parts.{keyword, a_name, a_number, a_path, a_text, a_word, attribute_parts, depth_word, scope_parts, set_parts, switch_word};
 ghost use Rattle.script_parts.specs.Inside.Found.{IsFound, IsPairFound, IsTripleFound};
 
 use crate::NoMemory;
 use crate::attributes::{attributes_of, set_value_of};
 use crate::parts::{
-    depth_of, number_of, path_of, switch_of, take_name, take_path, take_word, text_of,
+    depth_of, number_of, path_of, switch_of, take_name, take_path, take_project, take_word, text_of,
 };
 use bytes::Bytes;
 use mark_set::{RawAttrs, RawText, RawValue};
@@ -34,6 +34,20 @@ pub fn name_alone(tokens: &mut [Token]) -> Option<Name>
 {
     match tokens {
         [name] => take_name(name),
+        _ => None,
+    }
+}
+
+/// The path of a project, of which the name is given, or nothing.
+pub fn scope_alone(tokens: &mut [Token]) -> Option<Option<Name>>
+    ensures { IsFound scope_parts tokens.old result }
+{
+    match tokens {
+        [] => Some(None),
+        [place] => match take_project(place) {
+            None => None,
+            Some(name) => Some(Some(name)),
+        },
         _ => None,
     }
 }

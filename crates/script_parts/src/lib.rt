@@ -17,12 +17,12 @@ mod script_rule;
 pub use arguments::{
     name_alone, path_alone, path_and_bytes, path_and_id, path_and_name, path_and_switch,
     path_id_change, path_kind_attributes, path_kind_depth, path_name_bytes, path_name_depth,
-    two_paths,
+    scope_alone, two_paths,
 };
 pub use attribute_text::{put_attributes, put_set};
 pub use part_text::{
     any_word, depth_word, name_word, path_word, put_created, put_four, put_next, put_number,
-    put_three, put_two, switch_word, text_word,
+    put_scope, put_three, put_two, switch_word, text_word,
 };
 pub use parts::{is_key, name_of};
 pub use rule_text::put_rule;

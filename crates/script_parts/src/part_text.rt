@@ -1,12 +1,12 @@
 //! How the parts of a line are printed.
-ghost use Rattle.std.specs.Prelude.{◌≡◌, ◌++◌, ◌∷◌, true, codes, decimal, OnOk, FitsSigned};
+ghost use Rattle.std.specs.Prelude.{◌≡◌, ◌++◌, [], ◌∷◌, true, codes, decimal, OnOk, FitsSigned};
 ghost use Rattle.std.specs.Fmt.{signed_decimal};
 ghost use Rattle.std.specs.Int.{w32};
 ghost use Rattle.res_path.specs.Paths.{path_text};
 ghost use Rattle.script_words.specs.Words.{Grows, is_bare, word_text};
 ghost use Rattle.script_words.specs.Inside.Bytes.{AreBytes};
-ghost use Rattle.script_parts.specs.Parts.{a_name, a_number, a_path, a_text, a_word, depth_word, switch_word, truth_word};
-ghost use Rattle.script_parts.specs.Inside.Printed.{IsPart};
+ghost use Rattle.script_parts.specs.Parts.{a_name, a_number, a_path, a_project, a_text, a_word, depth_word, scope_parts, switch_word, truth_word};
+ghost use Rattle.script_parts.specs.Inside.Printed.{AreParts, IsPart, spaced};
 
 use crate::NoMemory;
 use bytes::Bytes;
@@ -103,6 +103,31 @@ pub fn put_integer(out: &mut Vec<u8>, integer: i32) -> Result<(), NoMemory>
 {
     let mut buffer = Buffer::new();
     put_next(out, buffer.format(integer).as_bytes())
+}
+
+/// Appends the path of the one project that is meant, if it is one, with a space in front. After want of memory a part of
+/// it may have been appended, and what stood there before stays in front.
+pub fn put_scope(out: &mut Vec<u8>, project: &Option<Name>) -> Result<(), NoMemory>
+    ensures text { OnOk result (out.new.items ≡ out.old.items ++ spaced (scope_parts project.now)) }
+    ensures kept { Grows out.old.items out.new.items }
+    ensures parts { OnOk result (AreParts (scope_parts project.now)) }
+{
+    match project {
+        None => Ok(()),
+        Some(name) => put_project(out, name),
+    }
+}
+
+/// Appends a space and the path of the project of this name.
+fn put_project(out: &mut Vec<u8>, name: &Name) -> Result<(), NoMemory>
+    ensures text { OnOk result (out.new.items ≡ out.old.items ++ 32 ∷ word_text (path_text (name.now ∷ []))) }
+    ensures kept { Grows out.old.items out.new.items }
+    ensures part { OnOk result (IsPart (a_project name.now)) }
+{
+    let mut path = Vec::new(*out.allocator());
+    put_bytes(&mut path, b"/")?;
+    put_bytes(&mut path, name_word(name))?;
+    put_next(out, path.as_slice())
 }
 
 /// The word that a path is.

@@ -1,10 +1,10 @@
 //! What the words of a line stand for, one by one.
-ghost use Rattle.std.specs.Prelude.{◌≡◌, List, ℕ, ◌<◌, ◌^◌, ℤ, decimal, FitsSigned, IfOk, MatchOption, IsTrue, ◌↔◌};
+ghost use Rattle.std.specs.Prelude.{◌≡◌, ◌∷◌, List, ℕ, ◌<◌, ◌^◌, ℤ, decimal, FitsSigned, IfOk, MatchOption, IsTrue, ◌↔◌};
 ghost use Rattle.std.specs.Fmt.{signed_decimal};
 ghost use Rattle.std.specs.Int.{w32};
 ghost use Rattle.res_path.specs.Names.{IsName};
 ghost use Rattle.res_path.specs.Paths.{Names, IsPath, path_text};
-ghost use Rattle.script_parts.specs.Parts.{keyword, a_number, an_integer, a_name, a_path, a_text, FitsPart, IsNumber, switch_word, truth_word, depth_word};
+ghost use Rattle.script_parts.specs.Parts.{keyword, a_number, an_integer, a_name, a_path, a_project, a_text, FitsPart, IsNumber, switch_word, truth_word, depth_word};
 ghost use Rattle.script_parts.specs.Inside.Found.{IsPartFound};
 
 use crate::NoMemory;
@@ -77,6 +77,28 @@ fn name_in(word: Bytes) -> Option<Name>
         Ok(name) => Some(name),
         Err(_) => None,
     }
+}
+
+/// The project whose path the token spells, a path of one name, to which the token's text goes over.
+pub fn take_project(token: &mut Token) -> Option<Name>
+    ensures { IsPartFound a_project token.old result }
+{
+    project_in(take_word(token))
+}
+
+/// The name that is the rest of the word behind a slash.
+fn project_in(word: Bytes) -> Option<Name>
+    ensures { MatchOption result ((name : List ℕ) → IsName name → word ≡ 47 ∷ name → ⊥) (λ name. IsName name × (word ≡ 47 ∷ name)) }
+{
+    let [first, ..] = word.as_slice() else {
+        return None;
+    };
+    if *first != b'/' {
+        return None;
+    }
+    let mut name = word;
+    name.advance(1);
+    name_in(name)
 }
 
 /// The word that the token denotes, which the token no longer has.

@@ -3,6 +3,8 @@
 //!
 //! - `asserting`: the assertions.
 //! - `rows`: rows of tables, each of a command and what it gives.
+//! - `builders`: builders of a caller's own.
+//! - `builds`: builds of scripts drawn at random, against builds from nothing.
 //! - `copies`: copies of what was done.
 //! - `listening`: listeners of the program.
 //! - `operations`: operations over a tree, and the way back before each.
@@ -12,6 +14,10 @@
 
 #[cfg(test)]
 mod asserting;
+#[cfg(test)]
+mod builders;
+#[cfg(test)]
+mod builds;
 #[cfg(test)]
 mod copies;
 #[cfg(test)]

@@ -2,10 +2,12 @@
 ghost use Rattle.std.specs.Prelude.{None};
 
 use crate::asserting::{holds, let_go, must, reads, same};
+use builder_api::{Builders, Silent};
 use delta_kind::Delta;
 use report_text::delta_lines;
 use std::alloc::Global;
 use std::process::Abort;
+use std_builders::StandardBuilder;
 use ws_outside::{MemSink, MemSource};
 use ws_top::{Kit, Listener, Listeners, Outcome, top};
 
@@ -35,11 +37,12 @@ fn listener(rt: &impl AllocGlobal) -> Note {
 }
 
 /// What comes of the script, where two listen.
-pub fn run(rt: &(impl Abort + AllocGlobal), script: &str) -> Outcome<Note> {
+pub fn run(rt: &(impl Abort + AllocGlobal), script: &str) -> Outcome<Note, StandardBuilder> {
     let mut listeners = Vec::new(rt.alloc());
     must(rt, listeners.push(listener(rt)));
     must(rt, listeners.push(listener(rt)));
     let kit = Kit {
+        builders: Builders::<StandardBuilder>::of(Vec::new(rt.alloc())),
         listeners: Listeners::of(listeners),
     };
     let mut words = Vec::new(rt.alloc());
@@ -49,7 +52,13 @@ pub fn run(rt: &(impl Abort + AllocGlobal), script: &str) -> Outcome<Note> {
     let text = must(rt, String::from_str(rt.alloc(), script));
     let mut source = MemSource::new(rt.alloc(), text.into_bytes());
     let mut sink = MemSink::new(rt.alloc());
-    let outcome = top(rt.alloc(), words.as_slice(), &mut source, &mut sink, kit);
+    let outcome = top::<MemSource, MemSink, Note, StandardBuilder, Silent>(
+        rt.alloc(),
+        words.as_slice(),
+        &mut source,
+        &mut sink,
+        kit,
+    );
     let_go(source);
     let_go(sink);
     same(rt, "status", outcome.status, 0);

@@ -2,8 +2,10 @@
 use crate::asserting::{let_go, must, reads};
 use crate::listening::Note;
 use crate::rows::{cut, number};
+use builder_api::{Builders, Silent};
 use report_text::{put_counted, put_text};
 use std::process::Abort;
+use std_builders::StandardBuilder;
 use ws_outside::{MemSink, MemSource};
 use ws_top::{Kit, Listeners, top};
 
@@ -61,9 +63,16 @@ fn run(
 ) -> Vec<u8> {
     let words = words(rt, asked);
     let kit = Kit {
+        builders: Builders::<StandardBuilder>::of(Vec::new(rt.alloc())),
         listeners: Listeners::<Note>::of(Vec::new(rt.alloc())),
     };
-    let outcome = top(rt.alloc(), words.as_slice(), &mut source, &mut sink, kit);
+    let outcome = top::<MemSource, MemSink, Note, StandardBuilder, Silent>(
+        rt.alloc(),
+        words.as_slice(),
+        &mut source,
+        &mut sink,
+        kit,
+    );
     let mut out = Vec::new(rt.alloc());
     must(rt, put_counted(&mut out, "", u64::from(outcome.status)));
     must(rt, put_counted(&mut out, " ", outcome.history.len() as u64));

@@ -18,7 +18,8 @@ const COMMANDS: &str =
     mark /P/b t n int -1 b bool true \"\" text \"u v\" c bool false; attr /P/b 1 n int 2147483647; attr /P/b 1 n none; \
     unmark /P/b 18446744073709551615; clearmarks / t 0; clearmarks / \"\" 1; partner git; \
     sync /P/b git \"a#A\\x00\u{e9}\"; nosync /P/b git; flush / git 2; show /P; cat /P/b; tree /; digest /; batch; endbatch; \
-    checkpoint; begin path /P; trybegin null; end lines /P/b 0 4294967295";
+    checkpoint; begin path /P; trybegin null; end lines /P/b 0 4294967295; build full; \
+    build auto /P; build incr /P; build clean";
 
 /// The commands, with a line feed between.
 fn command_lines(rt: &(impl Abort + AllocGlobal), commands: &[Command]) -> Vec<u8> {

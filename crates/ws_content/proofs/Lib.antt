@@ -3,3 +3,4 @@ pub mod Holding
 pub mod Forgotten
 pub mod Steps
 pub mod Calls
+pub mod Begun

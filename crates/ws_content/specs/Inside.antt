@@ -1,4 +1,5 @@
 -- What only the crate's own code speaks of.
 pub mod Codes
 pub mod Held
+pub mod Opened
 pub mod Parts

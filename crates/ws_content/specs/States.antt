@@ -1,7 +1,11 @@
 -- What is there, and what is remembered beside it.
+use Rattle.std.specs.Prelude.{List, map}
+use Rattle.std.specs.FinMap.{from_entries}
+use Rattle.ws_elem.specs.declared.elem_map.ElemMap.{ElemMap}
 use Rattle.ws_elem.specs.Trees.{Tree}
 use Rattle.op_kind.specs.Resources.{Resources}
-use Rattle.ws_marks.specs.Places.{Records}
+use Rattle.ws_marks.specs.declared.record.Record.{Record}
+use Rattle.ws_marks.specs.Places.{Records, place_of}
 
 -- the trees that are remembered
 pub record Remembered : Type 0 where
@@ -25,3 +29,11 @@ with_told r tree = record r { told = tree }
 -- this is what was built last
 abbrev pub with_built : Remembered → Records Tree → Remembered
 with_built r built = record r { built = built }
+
+-- the record with its tree, the room aside
+abbrev pub shown_built : Record ElemMap → Record Tree
+shown_built r = record { project = r.project; index = r.index; command = r.command; references = r.references; tree = r.tree.map }
+
+-- records, each at its place
+abbrev pub at_places : List (Record Tree) → Records Tree
+at_places rs = from_entries (map (λ r. (place_of r, r)) rs)

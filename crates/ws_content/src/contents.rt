@@ -1,5 +1,5 @@
 //! What is there, and what it was.
-ghost use Rattle.std.specs.Prelude.{◌≡◌, true, IfErr, IfOk, OnErr};
+ghost use Rattle.std.specs.Prelude.{◌≡◌, true, map, IfErr, IfOk, OnErr};
 ghost use Rattle.std.specs.FinMap.{empty};
 ghost use Rattle.op_kind.specs.declared.refusal.OpError.TheVariants as op_errors;
 ghost use Rattle.output_edits.specs.declared.refusal.EditError.TheVariants as edit_errors;
@@ -9,10 +9,12 @@ ghost use Rattle.core_event.specs.declared.reply.Refusal.TheVariants.{Operation}
 ghost use Rattle.core_event.specs.Twice.{doubled, twice};
 ghost use Rattle.ws_content.specs.Deeds.{cleaned, committed, edit_refusal, operated, replied};
 ghost use Rattle.ws_content.specs.Handing.{handing};
+ghost use Rattle.ws_content.specs.States.{at_places, shown_built};
 ghost use Rattle.ws_content.specs.Inside.Parts.{TellsEdits, TellsOperation, refused_reply};
 
 use crate::handing::since_built;
-use crate::{NoMemory, building, operating};
+use crate::opening::Opened;
+use crate::{NoMemory, building, opening, operating};
 use build_due::Site;
 use builder_api::{BuildKind, Edits, Handed};
 use core_event::{Answer, Refusal, Reply, Twice, refused_twice, untold};
@@ -22,7 +24,8 @@ use output_commit::{EditError, EditRefusal};
 use std::alloc::{AllocError, Global};
 use std::marker::Model;
 use tree_memory::{Remembers, Sparing};
-use ws_marks::Marks;
+use ws_elem::ElemMap;
+use ws_marks::{Marks, Record};
 
 /// The tree, what stands beside it, and what the tree was: as the workspace was opened, as it was last told, and as each
 /// build command was built last. A contract sees the resources and the trees that are remembered.
@@ -58,14 +61,42 @@ impl<T: Remembers + Drop> Content<T> {
     pub fn of(alloc: Global, tree: T, side: Side) -> Result<Content<T>, NoMemory>
         ensures { IfOk result (λ c. c ≡ record { resources = resources (T.tree tree) side; remembered = record { start = T.tree tree; told = T.tree tree; built = empty } }) }
     {
-        let mut tree = Sparing::of(alloc, tree);
-        let start = tree.remember(alloc)?;
-        let told = tree.remember(alloc)?;
+        let opened = opening::as_it_is(alloc, tree)?;
+        let Opened { tree, start, marks } = opened;
         Ok(Content {
             tree,
             side,
             start,
-            marks: Marks::of(alloc, told),
+            marks,
+        })
+    }
+
+    /// The wanted tree with what stands beside it, as it is opened where commands were built before: what was built last is
+    /// as the records say, the first of a place counting, and the tree is remembered as it is. The tree that is given has
+    /// the elements of `at`. It is led to the tree of each record, from the last to the first, and then to the wanted one,
+    /// so that each is remembered by what differs from the one before it: `at` is best the last record's tree. What is put
+    /// shares the texts of these trees. Costs a walk of each of them.
+    pub fn opened(
+        alloc: Global,
+        tree: T,
+        at: &ElemMap,
+        built: &[Record<ElemMap>],
+        wanted: &ElemMap,
+        side: Side,
+    ) -> Result<Content<T>, NoMemory>
+        requires { T.tree tree ≡ at.now.map }
+        ensures { IfOk result (λ c. c ≡ record {
+          resources = resources wanted.now.map side;
+          remembered = record { start = wanted.now.map; told = wanted.now.map; built = at_places (map shown_built built.now) };
+        }) }
+    {
+        let opened = opening::led_through(alloc, tree, at, built, wanted)?;
+        let Opened { tree, start, marks } = opened;
+        Ok(Content {
+            tree,
+            side,
+            start,
+            marks,
         })
     }
 

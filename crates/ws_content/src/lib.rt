@@ -4,6 +4,7 @@
 //! - `remembering`: trees that are remembered under numbers, told, kept as what was built last, and given up.
 //! - `forgetting`: which operation forgets what was built last.
 //! - `handing`: what is due for a command.
+//! - `opening`: the trees that are kept, led through as a workspace is opened.
 //! - `operating`: operations, and what is told of them.
 //! - `building`: commits of a builder's edits and cleanings, and what is told of them.
 //! - `contents`: a `Content`, what is there, and what it was.
@@ -13,6 +14,7 @@ mod building;
 mod contents;
 mod forgetting;
 mod handing;
+mod opening;
 mod operating;
 mod remembering;
 

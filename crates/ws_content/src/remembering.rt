@@ -110,7 +110,7 @@ pub fn abandon<T: Remembers + Drop>(alloc: Global, tree: &mut Sparing<T>, told: 
 }
 
 /// Gives up the tree of a record, if there is one.
-fn give_up_built<T: Remembers + Drop>(
+pub fn give_up_built<T: Remembers + Drop>(
     alloc: Global,
     tree: &mut Sparing<T>,
     before: Option<Record<T::Memory>>,

@@ -3,6 +3,7 @@ pub mod Grown
 mod Told
 pub mod OpenOutput
 pub mod SoundKept
+mod OpenedSound
 mod SessionsKept
 mod Attempts
 pub mod Roomy

@@ -48,15 +48,19 @@ fresh_session builders = record {
   sound = fresh_sound builders;
 }
 
+-- a workspace in which nothing was done is one, where its state is sound
+pub begins : (m o s : Moment) (h : List Entry) → IsSession (record { opened = m; history = []; state = m }) → o ≡ s → s ≡ m → h ≡ [] → IsSession (record { opened = o; history = h; state = s })
+begins m o s h session same is empty =
+    let back : m ≡ o = sym (same ∙ is) in
+    let back2 : m ≡ s = sym is in
+    let none : [] ≡ h = sym empty in
+    let path : ◌≡◌ {A = Session} (record { opened = m; history = []; state = m }) (record { opened = o; history = h; state = s }) =
+    λ i. record { opened = back i; history = none i; state = back2 i } in
+    subst IsSession path session
+
 -- the fresh workspace is one
 pub opens : (builders : Names) (o s : Moment) (h : List Entry) → o ≡ s → s ≡ fresh_for builders → h ≡ [] → IsSession (record { opened = o; history = h; state = s })
-opens builders o s h same is empty =
-    let back : fresh_for builders ≡ o = sym (same ∙ is) in
-    let back2 : fresh_for builders ≡ s = sym is in
-    let none : [] ≡ h = sym empty in
-    let path : ◌≡◌ {A = Session} (record { opened = fresh_for builders; history = []; state = fresh_for builders }) (record { opened = o; history = h; state = s }) =
-    λ i. record { opened = back i; history = none i; state = back2 i } in
-    subst IsSession path (fresh_session builders)
+opens builders o s h = begins (fresh_for builders) o s h (fresh_session builders)
 
 -- so is what an event leaves
 goes_on : (x : Session) (k : ℕ) (e : Event) → IsSession x → has_entered k x.state ≡ true → (b : Bool) → is_attempt e (step x.state k e).1.answer ≡ b

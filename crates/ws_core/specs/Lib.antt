@@ -6,3 +6,4 @@ pub mod Steps
 pub mod Histories
 pub mod Sessions
 pub mod Inside
+pub mod Opened

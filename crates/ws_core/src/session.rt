@@ -9,6 +9,8 @@ ghost use Rattle.core_event.specs.Twice.{twice};
 ghost use Rattle.ws_core.specs.Steps.{step};
 ghost use Rattle.ws_core.specs.Histories.{entry_of, fresh, fresh_for, has_entered, Legal, notices, replay, told_of, written};
 ghost use Rattle.ws_core.specs.Sessions.{IsConsistent};
+ghost use Rattle.ws_core.specs.Opened.{IsOpenable, opened_of};
+ghost use Rattle.ws_durable.specs.Saved.{saved};
 ghost use Rattle.ws_core.specs.Ends.{ChecksIn};
 ghost use Rattle.ws_core.specs.Inside.Rooms.{Fits, HasRoom, IsKept};
 ghost use Rattle.job_manager.specs.Ends.{EndsLast};
@@ -23,6 +25,7 @@ use std::alloc::{AllocError, Global};
 use std::marker::Model;
 use std::snapshot::Snapshot;
 use tree_memory::Remembers;
+use ws_durable::Durable;
 use ws_elem::ElemMap;
 
 /// How many jobs there are.
@@ -95,6 +98,28 @@ impl Core<LayerTree> {
             LayerTree::of(alloc, tree),
             BuilderNames::empty(alloc),
         )
+    }
+
+    /// The workspace opened from what was kept, in which nothing was done, with builders of these names: its tree is told,
+    /// and what was built last is remembered with its trees, each by what differs from the next. What participants keep is
+    /// let go. Costs a walk of each tree.
+    pub fn of(
+        alloc: Global,
+        durable: Durable,
+        builders: BuilderNames,
+    ) -> Result<Core<LayerTree>, NoMemory>
+        requires { IsOpenable (saved durable) }
+        ensures opened { IfOk result (λ core. core.opened ≡ opened_of (saved durable) builders) }
+        ensures history { IfOk result (λ core. core.history ≡ []) }
+        ensures state { IfOk result (λ core. core.state ≡ opened_of (saved durable) builders) }
+    {
+        let state = State::opened(alloc, durable, builders)?;
+        let opened = Snapshot::of(&state);
+        Ok(Core {
+            state,
+            entries: Vec::new(alloc),
+            opened,
+        })
     }
 }
 

@@ -6,6 +6,9 @@ use Rattle.ws_outside.specs.Streams.{Takes, IsAtEnd}
 use Rattle.script_lang.specs.declared.script.Script.{Script}
 use Rattle.script_lang.specs.Scripts.{IsScript}
 use Rattle.core_event.specs.declared.entry.Entry.{Entry}
+use Rattle.builder_api.specs.Meanings.{Meanings}
+use Rattle.builder_api.specs.Told.{Told}
+use Rattle.ws_core.specs.States.{Moment}
 use Rattle.ws_top.specs.declared.reading.Unread.{Unread}
 use Rattle.ws_top.specs.declared.reading.Unread.TheVariants.{Fault, TooLong, Memory}
 use Rattle.ws_top.specs.declared.words.Form.{Form}
@@ -84,16 +87,16 @@ ran_of : (Made : Script → List Entry → Type 0) (l m : Option (List ℕ)) (by
 ran_of Made l m bytes h r s = record { bytes = bytes; script = s.script; read = r; spelled = s.spelled; made = s.made }
 
 -- what the bytes of the source ask for was done
-pub ends_responded : (l m : Option (List ℕ)) (x y : Option ℕ) (i j : ℕ) (a b : Option (List ℕ)) (f g n : ℕ) (h : List Entry) (bytes : List ℕ)
-    → ReadsAll l m bytes → j ≡ i → (xs : List ℕ) × Reads l m x y xs → Responds opened_state bytes a b f g n h → EndsRun opened_state l m x y i j a b f g n h
-ends_responded l m x y i j a b f g n h bytes r calm few (inl p) = record {
+pub ends_responded : (ms : Meanings) (told : List Told) (l m : Option (List ℕ)) (x y : Option ℕ) (i j : ℕ) (a b : Option (List ℕ)) (f g n : ℕ) (h : List Entry) (bytes : List ℕ)
+    → ReadsAll l m bytes → j ≡ i → (xs : List ℕ) × Reads l m x y xs → Responds ms (opened_state told) bytes a b f g n h → EndsRun ms (opened_state told) l m x y i j a b f g n h
+ends_responded ms told l m x y i j a b f g n h bytes r calm few (inl p) = record {
   ends = is_performed n p.ends;
   usage = not_2 n p.ends;
   read_fault = record { rose_at_3 = λ e. absurd (not_3 n p.ends e); calm_else = λ _. calm };
   write_fault = record {
     rose_at_4 = p.fault.rose_at_4;
     calm_at_0 = p.fault.calm_at_0;
-    calm_or_later_at_8 = λ e. right_of (right_of (ran_of StoppedShuffle l m bytes h r)) (p.fault.calm_or_later_at_8 e);
+    calm_or_later_at_8 = λ e. right_of (right_of (ran_of (StoppedShuffle ms (opened_state told)) l m bytes h r)) (p.fault.calm_or_later_at_8 e);
   };
   complete = λ _ good given script left short spelled. well_of n p.ends (λ four. good (p.fault.rose_at_4 four));
   reads = record { few = few; one_too_many_at_9 = λ e. absurd (not_9 n p.ends e); short_else = λ _. short_of l m bytes r };
@@ -110,15 +113,15 @@ ends_responded l m x y i j a b f g n h bytes r calm few (inl p) = record {
     );
     nothing_if_idle = λ w. not_idle n p.ends w;
     done = record {
-      all_at_0_and_4 = λ w. ran_of Shuffle l m bytes h r (p.done.all_at_0_and_4 w);
-      some_at_8 = λ e. right_of (ran_of CutShuffle l m bytes h r) (p.done.some_at_8 e);
+      all_at_0_and_4 = λ w. ran_of (Shuffle ms (opened_state told)) l m bytes h r (p.done.all_at_0_and_4 w);
+      some_at_8 = λ e. right_of (ran_of (CutShuffle ms (opened_state told)) l m bytes h r) (p.done.some_at_8 e);
     };
     text = p.text;
     bad_line_at_6 = λ e. absurd (not_6 n p.ends e);
   };
   line = λ w. not_unread n (not_2 n p.ends) (not_3 n p.ends) (not_9 n p.ends) w;
 }
-ends_responded l m x y i j a b f g n h bytes r calm few (inr t) = record {
+ends_responded ms told l m x y i j a b f g n h bytes r calm few (inr t) = record {
   ends = inr (inr (inr (inr (inl t.ends))));
   usage = λ e. apart n 6 2 t.ends e (λ k. omega (arith, k));
   read_fault = record { rose_at_3 = λ e. apart n 6 3 t.ends e (λ k. omega (arith, k)); calm_else = λ _. calm };
@@ -129,7 +132,7 @@ ends_responded l m x y i j a b f g n h bytes r calm few (inr t) = record {
   };
   complete = λ _ _ given script left short spelled. absurd (t.none script (subst (λ (xs : List ℕ). IsScript xs script) (sym (all_taken l m bytes given r.taken r.ended left)) spelled));
   reads = record { few = few; one_too_many_at_9 = λ e. apart n 6 9 t.ends e (λ k. omega (arith, k)); short_else = λ _. short_of l m bytes r };
-  thread = thread_none h t.nothing;
+  thread = thread_none told h t.nothing;
   runs = record {
     to_its_end = λ _. r.ended;
     judged = λ _. (bytes, r, (λ _. t.none, λ _. t.ends));
@@ -155,9 +158,9 @@ unrun n s e z f (inl k) = apart n s 0 e k z
 unrun n s e z f (inr k) = apart n s 4 e k f
 
 -- the script was not run: a status of its own is told
-runs_nothing : (l m a b : Option (List ℕ)) (f g n s : ℕ) (h : List Entry) → n ≡ s → h ≡ [] → (WasRead s → ⊥) → (s ≡ 0 → ⊥) → (s ≡ 4 → ⊥) → (s ≡ 6 → ⊥) → (s ≡ 8 → WritesCut opened_state a b h)
-    → RunsScript opened_state l m a b f g n h
-runs_nothing l m a b f g n s h e z u d4 d5 d6 w = record {
+runs_nothing : (ms : Meanings) (opened : Moment) (l m a b : Option (List ℕ)) (f g n s : ℕ) (h : List Entry) → n ≡ s → h ≡ [] → (WasRead s → ⊥) → (s ≡ 0 → ⊥) → (s ≡ 4 → ⊥) → (s ≡ 6 → ⊥) → (s ≡ 8 → WritesCut opened a b h)
+    → RunsScript ms opened l m a b f g n h
+runs_nothing ms opened l m a b f g n s h e z u d4 d5 d6 w = record {
   to_its_end = λ k. absurd (u (subst WasRead e k));
   judged = λ k. absurd (u (subst WasRead e k));
   nothing_if_idle = λ _. z;
@@ -171,10 +174,10 @@ runs_nothing l m a b f g n s h e z u d4 d5 d6 w = record {
 }
 
 -- the source was not read to its end
-pub ends_unread : (why : Unread) (l m : Option (List ℕ)) (x y : Option ℕ) (i j : ℕ) (a b : Option (List ℕ)) (f g n : ℕ) (h : List Entry)
+pub ends_unread : (ms : Meanings) (told : List Told) (why : Unread) (l m : Option (List ℕ)) (x y : Option ℕ) (i j : ℕ) (a b : Option (List ℕ)) (f g n : ℕ) (h : List Entry)
     → IsUnreadCause why i j → IsUnreadLength why l m → (xs : List ℕ) × Reads l m x y xs → n ≡ unread_status why → h ≡ [] → Writes a b f g (status_line (unread_status why))
-    → EndsRun opened_state l m x y i j a b f g n h
-ends_unread Fault l m x y i j a b f g n h cause much few e z w = record {
+    → EndsRun ms (opened_state told) l m x y i j a b f g n h
+ends_unread ms told Fault l m x y i j a b f g n h cause much few e z w = record {
   ends = inr (inr (inl e));
   usage = λ k. apart n 3 2 e k (λ q. omega (arith, q));
   read_fault = record { rose_at_3 = λ _. cause; calm_else = λ k. absurd (k e) };
@@ -185,14 +188,14 @@ ends_unread Fault l m x y i j a b f g n h cause much few e z w = record {
   };
   complete = λ good _ given script left short spelled. absurd (good cause);
   reads = record { few = few; one_too_many_at_9 = λ k. apart n 3 9 e k (λ q. omega (arith, q)); short_else = λ _. much };
-  thread = thread_none h z;
-  runs = runs_nothing l m a b f g n 3 h e z (λ k. k.fault refl) (λ q. omega (arith, q)) (λ q. omega (arith, q)) (λ q. omega (arith, q)) (λ q. absurd (three_not_8 q));
+  thread = thread_none told h z;
+  runs = runs_nothing ms (opened_state told) l m a b f g n 3 h e z (λ k. k.fault refl) (λ q. omega (arith, q)) (λ q. omega (arith, q)) (λ q. omega (arith, q)) (λ q. absurd (three_not_8 q));
   line = λ _. subst (λ (k : ℕ). Writes a b f g (status_line k)) (sym e) w;
 }
   where
     three_not_8 : ◌≡◌ {A = ℕ} 3 8 → ⊥
     three_not_8 q = omega (arith, q)
-ends_unread TooLong l m x y i j a b f g n h cause much few e z w = record {
+ends_unread ms told TooLong l m x y i j a b f g n h cause much few e z w = record {
   ends = inr (inr (inr (inr (inr (inr e)))));
   usage = λ k. apart n 9 2 e k (λ q. omega (arith, q));
   read_fault = record { rose_at_3 = λ k. apart n 9 3 e k (λ q. omega (arith, q)); calm_else = λ _. cause };
@@ -203,8 +206,8 @@ ends_unread TooLong l m x y i j a b f g n h cause much few e z w = record {
   };
   complete = λ _ _ given script left short spelled. absurd (too_much given left short);
   reads = record { few = few; one_too_many_at_9 = λ _. much; short_else = λ k. absurd (k e) };
-  thread = thread_none h z;
-  runs = runs_nothing l m a b f g n 9 h e z (λ k. k.too_long refl) (λ q. omega (arith, q)) (λ q. omega (arith, q)) (λ q. omega (arith, q)) (λ q. absurd (nine_not_8 q));
+  thread = thread_none told h z;
+  runs = runs_nothing ms (opened_state told) l m a b f g n 9 h e z (λ k. k.too_long refl) (λ q. omega (arith, q)) (λ q. omega (arith, q)) (λ q. omega (arith, q)) (λ q. absurd (nine_not_8 q));
   line = λ _. subst (λ (k : ℕ). Writes a b f g (status_line k)) (sym e) w;
 }
   where
@@ -213,7 +216,7 @@ ends_unread TooLong l m x y i j a b f g n h cause much few e z w = record {
 
     too_much : (given : List ℕ) → l ≡ Some given → length given ≤ longest → ⊥
     too_much given left short = omega (arith, short, much.1, taken_within l m much.0 given much.2 left)
-ends_unread Memory l m x y i j a b f g n h cause much few e z w = record {
+ends_unread ms told Memory l m x y i j a b f g n h cause much few e z w = record {
   ends = inr (inr (inr (inr (inr (inl e)))));
   usage = λ k. apart n 8 2 e k (λ q. omega (arith, q));
   read_fault = record { rose_at_3 = λ k. apart n 8 3 e k (λ q. omega (arith, q)); calm_else = λ _. cause };
@@ -224,8 +227,8 @@ ends_unread Memory l m x y i j a b f g n h cause much few e z w = record {
   };
   complete = λ _ _ given script left short spelled. inr e;
   reads = record { few = few; one_too_many_at_9 = λ k. apart n 8 9 e k (λ q. omega (arith, q)); short_else = λ _. much };
-  thread = thread_none h z;
-  runs = runs_nothing l m a b f g n 8 h e z (λ k. k.memory refl) (λ q. omega (arith, q)) (λ q. omega (arith, q)) (λ q. omega (arith, q))
+  thread = thread_none told h z;
+  runs = runs_nothing ms (opened_state told) l m a b f g n 8 h e z (λ k. k.memory refl) (λ q. omega (arith, q)) (λ q. omega (arith, q)) (λ q. omega (arith, q))
       (λ _. record { written = status_line 8; is_cut = inr (z, refl); front = front_of_writes a b f g (status_line 8) w });
   line = λ _. subst (λ (k : ℕ). Writes a b f g (status_line k)) (sym e) w;
 }
@@ -243,9 +246,9 @@ help_not_version : {A : Type 0} (form : Option Form) → form ≡ Some Help → 
 help_not_version form e k = let no : Some Help ≡ Some Version = sym e ∙ k in cc
 
 -- the words ask for a run
-pub program_run : (form : Option Form) (l m : Option (List ℕ)) (x y : Option ℕ) (i j : ℕ) (a b : Option (List ℕ)) (f g n : ℕ) (h : List Entry)
-    → form ≡ Some Run → EndsRun opened_state l m x y i j a b f g n h → EndsProgram form l m x y i j a b f g n h
-program_run form l m x y i j a b f g n h q r = record {
+pub program_run : (ms : Meanings) (opened : Moment) (form : Option Form) (l m : Option (List ℕ)) (x y : Option ℕ) (i j : ℕ) (a b : Option (List ℕ)) (f g n : ℕ) (h : List Entry)
+    → form ≡ Some Run → EndsRun ms opened l m x y i j a b f g n h → EndsProgram ms opened form l m x y i j a b f g n h
+program_run ms opened form l m x y i j a b f g n h q r = record {
   ends = r.ends;
   usage = (λ e. absurd (r.usage e), λ k. not_none form Run q k);
   read_fault = r.read_fault;
@@ -275,9 +278,9 @@ does_nothing : (l : Option (List ℕ)) (x : Option ℕ) (i : ℕ) (h : List Entr
 does_nothing l x i h z = record { left = refl; reads = refl; faults = refl; nothing = z }
 
 -- they are of no form
-pub program_usage : (form : Option Form) (l : Option (List ℕ)) (x : Option ℕ) (i : ℕ) (a b : Option (List ℕ)) (f g n : ℕ) (h : List Entry)
-    → form ≡ None → n ≡ 2 → h ≡ [] → Writes a b f g (status_line 2) → EndsProgram form l l x x i i a b f g n h
-program_usage form l x i a b f g n h q e z w = record {
+pub program_usage : (ms : Meanings) (told : List Told) (form : Option Form) (l : Option (List ℕ)) (x : Option ℕ) (i : ℕ) (a b : Option (List ℕ)) (f g n : ℕ) (h : List Entry)
+    → form ≡ None → n ≡ 2 → h ≡ [] → Writes a b f g (status_line 2) → EndsProgram ms (opened_state told) form l l x x i i a b f g n h
+program_usage ms told form l x i a b f g n h q e z w = record {
   ends = inr (inl e);
   usage = (λ _. q, λ _. e);
   read_fault = record { rose_at_3 = λ k. apart n 2 3 e k (λ p. omega (arith, p)); calm_else = λ _. refl };
@@ -288,7 +291,7 @@ program_usage form l x i a b f g n h q e z w = record {
   };
   complete = λ k. not_none form Run k q;
   reads = reads_nothing l x n (λ k. apart n 2 9 e k (λ p. omega (arith, p)));
-  thread = thread_none h z;
+  thread = thread_none told h z;
   runs = λ k. not_none form Run k q;
   line = λ _. subst (λ (k : ℕ). Writes a b f g (status_line k)) (sym e) w;
   help = λ k. not_none form Help k q;
@@ -313,17 +316,17 @@ is_told n (inl e) = inl e
 is_told n (inr e) = inr (inr (inr (inl e)))
 
 -- they ask for a text of the program's own
-program_text : (form : Option Form) (kind : Form) (text : List ℕ) (l : Option (List ℕ)) (x : Option ℕ) (i : ℕ) (a b : Option (List ℕ)) (f g n : ℕ) (h : List Entry)
+program_text : (ms : Meanings) (told : List Told) (form : Option Form) (kind : Form) (text : List ℕ) (l : Option (List ℕ)) (x : Option ℕ) (i : ℕ) (a b : Option (List ℕ)) (f g n : ℕ) (h : List Entry)
     → form ≡ Some kind → (form ≡ Some Run → ⊥) → (form ≡ Some Help → Tells help_text a b f g n) → (form ≡ Some Version → Tells version_text a b f g n)
-    → Tells text a b f g n → (n ≡ 0 → g ≡ f) → h ≡ [] → EndsProgram form l l x x i i a b f g n h
-program_text form kind text l x i a b f g n h q r help version t calm z = let c = told_status n (Rose f g) t.ends in record {
+    → Tells text a b f g n → (n ≡ 0 → g ≡ f) → h ≡ [] → EndsProgram ms (opened_state told) form l l x x i i a b f g n h
+program_text ms told form kind text l x i a b f g n h q r help version t calm z = let c = told_status n (Rose f g) t.ends in record {
   ends = is_told n c;
   usage = (λ e. absurd (told_other n 2 c (λ p. omega (arith, p)) (λ p. omega (arith, p)) e), λ k. not_none form kind q k);
   read_fault = record { rose_at_3 = λ e. absurd (told_other n 3 c (λ p. omega (arith, p)) (λ p. omega (arith, p)) e); calm_else = λ _. refl };
   write_fault = record { rose_at_4 = told_rose n (Rose f g) t.ends; calm_at_0 = calm; calm_or_later_at_8 = λ _. inr (inl z) };
   complete = λ k. absurd (r k);
   reads = reads_nothing l x n (told_other n 9 c (λ p. omega (arith, p)) (λ p. omega (arith, p)));
-  thread = thread_none h z;
+  thread = thread_none told h z;
   runs = λ k. absurd (r k);
   line = not_unread n (told_other n 2 c (λ p. omega (arith, p)) (λ p. omega (arith, p))) (told_other n 3 c (λ p. omega (arith, p)) (λ p. omega (arith, p))) (told_other n 9 c (λ p. omega (arith, p)) (λ p. omega (arith, p)));
   help = help;
@@ -331,10 +334,10 @@ program_text form kind text l x i a b f g n h q r help version t calm z = let c 
   unread = λ _. does_nothing l x i h z;
 }
 
-pub program_help : (form : Option Form) (l : Option (List ℕ)) (x : Option ℕ) (i : ℕ) (a b : Option (List ℕ)) (f g n : ℕ) (h : List Entry)
-    → form ≡ Some Help → Tells help_text a b f g n → (n ≡ 0 → g ≡ f) → h ≡ [] → EndsProgram form l l x x i i a b f g n h
-program_help form l x i a b f g n h q t calm z = program_text form Help help_text l x i a b f g n h q (λ k. run_not_help form k q) (λ _. t) (λ k. help_not_version form q k) t calm z
+pub program_help : (ms : Meanings) (told : List Told) (form : Option Form) (l : Option (List ℕ)) (x : Option ℕ) (i : ℕ) (a b : Option (List ℕ)) (f g n : ℕ) (h : List Entry)
+    → form ≡ Some Help → Tells help_text a b f g n → (n ≡ 0 → g ≡ f) → h ≡ [] → EndsProgram ms (opened_state told) form l l x x i i a b f g n h
+program_help ms told form l x i a b f g n h q t calm z = program_text ms told form Help help_text l x i a b f g n h q (λ k. run_not_help form k q) (λ _. t) (λ k. help_not_version form q k) t calm z
 
-pub program_version : (form : Option Form) (l : Option (List ℕ)) (x : Option ℕ) (i : ℕ) (a b : Option (List ℕ)) (f g n : ℕ) (h : List Entry)
-    → form ≡ Some Version → Tells version_text a b f g n → (n ≡ 0 → g ≡ f) → h ≡ [] → EndsProgram form l l x x i i a b f g n h
-program_version form l x i a b f g n h q t calm z = program_text form Version version_text l x i a b f g n h q (λ k. run_not_version form k q) (λ k. help_not_version form k q) (λ _. t) t calm z
+pub program_version : (ms : Meanings) (told : List Told) (form : Option Form) (l : Option (List ℕ)) (x : Option ℕ) (i : ℕ) (a b : Option (List ℕ)) (f g n : ℕ) (h : List Entry)
+    → form ≡ Some Version → Tells version_text a b f g n → (n ≡ 0 → g ≡ f) → h ≡ [] → EndsProgram ms (opened_state told) form l l x x i i a b f g n h
+program_version ms told form l x i a b f g n h q t calm z = program_text ms told form Version version_text l x i a b f g n h q (λ k. run_not_version form k q) (λ k. help_not_version form k q) (λ _. t) t calm z

@@ -1,7 +1,9 @@
 pub mod Lines
 pub mod Fronts
 pub mod Taken
+pub mod Named
 pub mod Told
 pub mod Performed
 pub mod Responded
 pub mod Answered
+pub mod Built

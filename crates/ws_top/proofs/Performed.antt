@@ -6,6 +6,7 @@ use Rattle.ws_outside.specs.Streams.{Gains, GainsFront}
 use Rattle.sched_rules.specs.Atoms.{atom_contains, atom_conflicts}
 use Rattle.rule_table.specs.Tables.{IsApart}
 use Rattle.core_event.specs.declared.entry.Entry.{Entry}
+use Rattle.builder_api.specs.Told.{Told}
 use Rattle.run_text.specs.declared.writing.Unwritten.{Unwritten}
 use Rattle.run_text.specs.declared.writing.Unwritten.TheVariants.{Fault, Memory}
 use Rattle.ws_core.specs.States.{Moment}
@@ -42,11 +43,11 @@ not_run_at_8 n e (inl z) = none_at n 8 0 e z 8≢0
 not_run_at_8 n e (inr f) = none_at n 8 4 e f 8≢4
 
 -- nothing was done from the opened state
-pub thread_none : (h : List Entry) → h ≡ [] → IsOneThread opened_state h
-thread_none h e = subst (λ (k : List Entry). IsOneThread opened_state k) (sym e) (record {
+pub thread_none : (told : List Told) (h : List Entry) → h ≡ [] → IsOneThread (opened_state told) h
+thread_none told h e = subst (λ (k : List Entry). IsOneThread (opened_state told) k) (sym e) (record {
   legal = record { replies = refl; entered = refl; events = refl };
   told = refl;
-  apart = λ n. subst (λ (l : List Entry). IsApart atom_contains atom_conflicts (replay opened_state l).manager.passes.rules) (sym (take_nil n)) tt;
+  apart = λ n. subst (λ (l : List Entry). IsApart atom_contains atom_conflicts (replay (opened_state told) l).manager.passes.rules) (sym (take_nil n)) tt;
 })
   where
     none : List Entry
@@ -75,19 +76,19 @@ done_at_8 : (All Front : List Entry → Type 0) (n : ℕ) (h : List Entry) → n
 done_at_8 All Front n h e d = record { all_at_0_and_4 = λ r. not_run_at_8 n e r; some_at_8 = λ _. d }
 
 -- memory wanted before anything was done
-pub performs_nothing : (a b : Option (List ℕ)) (f g n : ℕ) (h : List Entry) → n ≡ 8 → h ≡ [] → Writes a b f g (status_line 8) → Performs Nothing Nothing Nothing opened_state a b f g n h
-performs_nothing a b f g n h e z w = record {
+pub performs_nothing : (told : List Told) (a b : Option (List ℕ)) (f g n : ℕ) (h : List Entry) → n ≡ 8 → h ≡ [] → Writes a b f g (status_line 8) → Performs Nothing Nothing Nothing (opened_state told) a b f g n h
+performs_nothing told a b f g n h e z w = record {
   ends = inr e;
   fault = fault_at_8 f g n ((h ≡ []) ⊎ Nothing h) e (inr (inl z));
   done = done_at_8 Nothing Nothing n h e (inl z);
-  thread = thread_none h z;
-  text = text_at_8 opened_state a b n h e (record { written = status_line 8; is_cut = inr (z, refl); front = front_of_writes a b f g (status_line 8) w });
+  thread = thread_none told h z;
+  text = text_at_8 (opened_state told) a b n h e (record { written = status_line 8; is_cut = inr (z, refl); front = front_of_writes a b f g (status_line 8) w });
 }
 
 -- the whole text was written
-pub performs_all : (a b : Option (List ℕ)) (f g n : ℕ) (s : Moment) (d h : List Entry) → n ≡ 0 → s ≡ opened_state → h ≡ d → IsOneThread opened_state h
-    → Gains a (text s d 0) b × (g ≡ f) → Performs (Same d) (Same d) Nothing opened_state a b f g n h
-performs_all a b f g n s d h e o k t w = record {
+pub performs_all : (a b : Option (List ℕ)) (f g n : ℕ) (s : Moment) (d h : List Entry) → n ≡ 0 → h ≡ d → IsOneThread s h
+    → Gains a (text s d 0) b × (g ≡ f) → Performs (Same d) (Same d) Nothing s a b f g n h
+performs_all a b f g n s d h e k t w = record {
   ends = inl (inl e);
   fault = record {
     rose_at_4 = λ r. none_at n 0 4 e r 0≢4;
@@ -97,16 +98,16 @@ performs_all a b f g n s d h e o k t w = record {
   done = record { all_at_0_and_4 = λ _. k; some_at_8 = λ r. none_at n 0 8 e r 0≢8 };
   thread = t;
   text = record {
-    all_at_0 = λ _. subst (λ (x : List Entry). Gains a (text opened_state x 0) b) (sym k) (subst (λ (x : Moment). Gains a (text x d 0) b) o w.0);
+    all_at_0 = λ _. subst (λ (x : List Entry). Gains a (text s x 0) b) (sym k) w.0;
     front_at_4 = λ r. none_at n 0 4 e r 0≢4;
     front_at_8 = λ r. none_at n 0 8 e r 0≢8;
   };
 }
 
 -- a write of it failed
-pub performs_fault : (a b : Option (List ℕ)) (f g n : ℕ) (s : Moment) (d h : List Entry) → n ≡ 4 → s ≡ opened_state → h ≡ d → IsOneThread opened_state h
-    → GainsFront a (text s d 0) b × Rose f g → Performs (Same d) (Same d) Nothing opened_state a b f g n h
-performs_fault a b f g n s d h e o k t w = record {
+pub performs_fault : (a b : Option (List ℕ)) (f g n : ℕ) (s : Moment) (d h : List Entry) → n ≡ 4 → h ≡ d → IsOneThread s h
+    → GainsFront a (text s d 0) b × Rose f g → Performs (Same d) (Same d) Nothing s a b f g n h
+performs_fault a b f g n s d h e k t w = record {
   ends = inl (inr e);
   fault = record {
     rose_at_4 = λ _. w.1;
@@ -117,27 +118,27 @@ performs_fault a b f g n s d h e o k t w = record {
   thread = t;
   text = record {
     all_at_0 = λ r. none_at n 4 0 e r 4≢0;
-    front_at_4 = λ _. subst (λ (x : List Entry). GainsFront a (text opened_state x 0) b) (sym k) (subst (λ (x : Moment). GainsFront a (text x d 0) b) o w.0);
+    front_at_4 = λ _. subst (λ (x : List Entry). GainsFront a (text s x 0) b) (sym k) w.0;
     front_at_8 = λ r. none_at n 4 8 e r 4≢8;
   };
 }
 
-cut_of : (a b : Option (List ℕ)) (s : Moment) (d h : List Entry) → s ≡ opened_state → h ≡ d → GainsFront a (text s d 8) b → WritesCut opened_state a b h
-cut_of a b s d h o k w = record {
-  written = text opened_state h 8;
+cut_of : (a b : Option (List ℕ)) (s : Moment) (d h : List Entry) → h ≡ d → GainsFront a (text s d 8) b → WritesCut s a b h
+cut_of a b s d h k w = record {
+  written = text s h 8;
   is_cut = inl refl;
-  front = subst (λ (x : List Entry). GainsFront a (text opened_state x 8) b) (sym k) (subst (λ (x : Moment). GainsFront a (text x d 8) b) o w);
+  front = subst (λ (x : List Entry). GainsFront a (text s x 8) b) (sym k) w;
 }
 
 -- memory wanted while it was printed
-pub performs_want : (a b : Option (List ℕ)) (f g n : ℕ) (s : Moment) (d h : List Entry) → n ≡ 8 → s ≡ opened_state → h ≡ d → IsOneThread opened_state h
-    → GainsFront a (report_from s d) b × (g ≡ f) → Performs (Same d) (Same d) Nothing opened_state a b f g n h
-performs_want a b f g n s d h e o k t w = record {
+pub performs_want : (a b : Option (List ℕ)) (f g n : ℕ) (s : Moment) (d h : List Entry) → n ≡ 8 → h ≡ d → IsOneThread s h
+    → GainsFront a (report_from s d) b × (g ≡ f) → Performs (Same d) (Same d) Nothing s a b f g n h
+performs_want a b f g n s d h e k t w = record {
   ends = inr e;
   fault = fault_at_8 f g n ((h ≡ []) ⊎ Nothing h) e (inl w.1);
   done = done_at_8 (Same d) (Same d) n h e (inr k);
   thread = t;
-  text = text_at_8 opened_state a b n h e (cut_of a b s d h o k (front_part a b (report_from s d) (status_line 8) w.0));
+  text = text_at_8 s a b n h e (cut_of a b s d h k (front_part a b (report_from s d) (status_line 8) w.0));
 }
 
 front_of_run : {T : Type 0} (a b : Option (List ℕ)) (f g : ℕ) (s : Moment) (d : List Entry) (m : ℕ) (r : Result T Unwritten) → WritesRun a b f g s d m r → GainsFront a (text s d m) b
@@ -146,14 +147,14 @@ front_of_run a b f g s d m (Err Fault) w = w.0
 front_of_run a b f g s d m (Err Memory) w = front_part a b (report_from s d) (status_line m) w.0
 
 -- memory wanted before the script's end
-pub performs_cut : {T : Type 0} (a b : Option (List ℕ)) (f g n : ℕ) (s : Moment) (d h : List Entry) (r : Result T Unwritten) → n ≡ 8 → s ≡ opened_state → h ≡ d → IsOneThread opened_state h
-    → WritesRun a b f g s d 8 r → Performs Nothing (Same d) (Same d) opened_state a b f g n h
-performs_cut a b f g n s d h r e o k t w = record {
+pub performs_cut : {T : Type 0} (a b : Option (List ℕ)) (f g n : ℕ) (s : Moment) (d h : List Entry) (r : Result T Unwritten) → n ≡ 8 → h ≡ d → IsOneThread s h
+    → WritesRun a b f g s d 8 r → Performs Nothing (Same d) (Same d) s a b f g n h
+performs_cut a b f g n s d h r e k t w = record {
   ends = inr e;
   fault = fault_at_8 f g n ((h ≡ []) ⊎ Same d h) e (inr (inr k));
   done = done_at_8 Nothing (Same d) n h e (inr k);
   thread = t;
-  text = text_at_8 opened_state a b n h e (cut_of a b s d h o k (front_of_run a b f g s d 8 r w));
+  text = text_at_8 s a b n h e (cut_of a b s d h k (front_of_run a b f g s d 8 r w));
 }
 
 pub right_of : {A B C : Type 0} → (B → C) → A ⊎ B → A ⊎ C

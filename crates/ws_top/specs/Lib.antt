@@ -3,3 +3,4 @@ pub mod Limits
 pub mod Texts
 pub mod Outcomes
 pub mod Inside
+pub mod Builds

@@ -1,5 +1,5 @@
 -- What a run read, did and wrote, by its status.
-use Rattle.std.specs.Prelude.{◌≡◌, ◌≢◌, ◌⊎◌, ◌↔◌, ◌≤◌, ℕ, true, List, [], ◌++◌, take, length, Option, Some, None}
+use Rattle.std.specs.Prelude.{◌≡◌, ◌≢◌, ◌⊎◌, ◌↔◌, ◌≤◌, ℕ, true, List, [], ◌++◌, map, take, length, Option, Some, None}
 use Rattle.sched_rules.specs.Atoms.{atom_contains, atom_conflicts}
 use Rattle.rule_table.specs.Tables.{IsApart}
 use Rattle.delta_kind.specs.declared.node.DeltaNode.{DeltaNode}
@@ -8,8 +8,10 @@ use Rattle.ws_outside.specs.Streams.{Gains, GainsFront, IsAtEnd}
 use Rattle.script_lang.specs.declared.script.Script.{Script}
 use Rattle.script_lang.specs.Scripts.{IsScript, IsFirstBad}
 use Rattle.core_event.specs.declared.entry.Entry.{Entry}
+use Rattle.builder_api.specs.Meanings.{Meanings}
+use Rattle.builder_api.specs.Told.{Told}
 use Rattle.ws_core.specs.States.{Moment}
-use Rattle.ws_core.specs.Histories.{fresh, has_entered, replay, Legal, notices, told_of}
+use Rattle.ws_core.specs.Histories.{fresh_for, has_entered, replay, Legal, notices, told_of}
 use Rattle.run_order.specs.Orders as order
 use Rattle.save_parts.specs.Heard.{Heard, HeardMore}
 use Rattle.phase_run.specs.Plans.{Made, phases_plan}
@@ -19,9 +21,9 @@ use Rattle.ws_top.specs.Forms.{IsRun, help_text, version_text}
 use Rattle.ws_top.specs.Limits.{longest, Reads, ReadsAll, ReadsShort, ReadsLong}
 use Rattle.ws_top.specs.Texts.{text, status_line, bad_line}
 
--- the state that a run opens
-abbrev pub opened_state : Moment
-opened_state = fresh
+-- the state that a run opens: the fresh workspace, with builders of these names
+abbrev pub opened_state : List Told → Moment
+opened_state told = fresh_for (map (λ b. b.named) told)
 
 -- ---- statuses
 
@@ -68,18 +70,18 @@ pub record TellsWriteFault (before after status : ℕ) (WantedBefore : Type 0) :
 abbrev pub SpellsNone : List ℕ → Type 0
 SpellsNone bytes = (script : Script) → IsScript bytes script → ⊥
 
--- one worker ran the phases of the script, to their end
-abbrev pub Shuffle : Script → List Entry → Type 0
-Shuffle script h = order.Shuffle Made opened_state (phases_plan script.phases) 1 h
+-- one worker ran the phases of the script from a state on, to their end; the builders of its builds mean what is told
+abbrev pub Shuffle : Meanings → Moment → Script → List Entry → Type 0
+Shuffle ms opened script h = order.Shuffle (Made ms) opened (phases_plan script.phases) 1 h
 
 -- the same, as far as it came
-abbrev pub CutShuffle : Script → List Entry → Type 0
-CutShuffle script h = order.CutShuffle Made opened_state (phases_plan script.phases) 1 h
+abbrev pub CutShuffle : Meanings → Moment → Script → List Entry → Type 0
+CutShuffle ms opened script h = order.CutShuffle (Made ms) opened (phases_plan script.phases) 1 h
 
 -- the same, and the worker hasn't left: it is still there, or never entered
-pub record StoppedShuffle (script : Script) (h : List Entry) : Type 0 where
-  pub cut : CutShuffle script h
-  pub there : (h ≡ []) ⊎ (has_entered 1 (replay opened_state h) ≡ true)
+pub record StoppedShuffle (ms : Meanings) (opened : Moment) (script : Script) (h : List Entry) : Type 0 where
+  pub cut : CutShuffle ms opened script h
+  pub there : (h ≡ []) ⊎ (has_entered 1 (replay opened h) ≡ true)
 
 -- the bytes spell a script, and what was run is made of it in this way
 pub record Spelled (Made : Script → List Entry → Type 0) (bytes : List ℕ) (h : List Entry) : Type 0 where
@@ -96,16 +98,16 @@ pub record Ran (Made : Script → List Entry → Type 0) (old new : Option (List
   pub made : Made script h
 
 -- the script was run to its end
-abbrev pub RanAll : Option (List ℕ) → Option (List ℕ) → List Entry → Type 0
-RanAll = Ran Shuffle
+abbrev pub RanAll : Meanings → Moment → Option (List ℕ) → Option (List ℕ) → List Entry → Type 0
+RanAll ms opened = Ran (Shuffle ms opened)
 
 -- the same, up to a call at which it stopped
-abbrev pub RanSome : Option (List ℕ) → Option (List ℕ) → List Entry → Type 0
-RanSome = Ran CutShuffle
+abbrev pub RanSome : Meanings → Moment → Option (List ℕ) → Option (List ℕ) → List Entry → Type 0
+RanSome ms opened = Ran (CutShuffle ms opened)
 
 -- memory wanted before the run's end: nothing was done, or the worker hasn't left
-abbrev pub WasStopped : Option (List ℕ) → Option (List ℕ) → List Entry → Type 0
-WasStopped old new h = (h ≡ []) ⊎ Ran StoppedShuffle old new h
+abbrev pub WasStopped : Meanings → Moment → Option (List ℕ) → Option (List ℕ) → List Entry → Type 0
+WasStopped ms opened old new h = (h ≡ []) ⊎ Ran (StoppedShuffle ms opened) old new h
 
 -- The run's history is one thread's: from the opened state each reply is the one that the table of steps gives at its
 -- place, and each notice is the delta between two telling places. No two jobs ever hold conflicting rules: at each front
@@ -176,11 +178,11 @@ Completes left ReadFailed WriteFailed status = (ReadFailed → ⊥) → (WriteFa
     → (bytes : List ℕ) (script : Script) → left ≡ Some bytes → length bytes ≤ longest → IsScript bytes script → (status ≡ 0) ⊎ (status ≡ 8)
 
 -- The source `left` what it had to read, and the sink went from `old` to `new`.
-pub record RunsScript (opened : Moment) (left after_reading old new : Option (List ℕ)) (before after status : ℕ) (h : List Entry) : Type 0 where
+pub record RunsScript (ms : Meanings) (opened : Moment) (left after_reading old new : Option (List ℕ)) (before after status : ℕ) (h : List Entry) : Type 0 where
   pub to_its_end : WasRead status → IsAtEnd after_reading
   pub judged : WasRead status → Judges left after_reading status
   pub nothing_if_idle : WasIdle status → h ≡ []
-  pub done : DoesScript (RanAll left after_reading) (RanSome left after_reading) status h
+  pub done : DoesScript (RanAll ms opened left after_reading) (RanSome ms opened left after_reading) status h
   pub text : WritesText opened old new status h
   pub bad_line_at_6 : status ≡ 6 → (written : List ℕ) × IsTextBad left after_reading written × Writes old new before after written
 
@@ -197,16 +199,16 @@ pub record DoesNothing (old new : Option (List ℕ)) (reads_before reads_after :
   pub nothing : h ≡ []
 
 -- What the program answers to words of a form, or of none.
-pub record EndsProgram (form : Option Form) (left after_reading : Option (List ℕ)) (reads_before reads_after : Option ℕ) (reads_failed reads_fail : ℕ)
+pub record EndsProgram (ms : Meanings) (opened : Moment) (form : Option Form) (left after_reading : Option (List ℕ)) (reads_before reads_after : Option ℕ) (reads_failed reads_fail : ℕ)
     (old new : Option (List ℕ)) (before after status : ℕ) (h : List Entry) : Type 0 where
   pub ends : IsStatus status
   pub usage : (status ≡ 2) ↔ (form ≡ None)
   pub read_fault : TellsReadFault reads_failed reads_fail status
-  pub write_fault : TellsWriteFault before after status (WasStopped left after_reading h)
+  pub write_fault : TellsWriteFault before after status (WasStopped ms opened left after_reading h)
   pub complete : IsRun form → Completes left (Rose reads_failed reads_fail) (Rose before after) status
   pub reads : ReadsNoMore left after_reading reads_before reads_after status
-  pub thread : IsOneThread opened_state h
-  pub runs : IsRun form → RunsScript opened_state left after_reading old new before after status h
+  pub thread : IsOneThread opened h
+  pub runs : IsRun form → RunsScript ms opened left after_reading old new before after status h
   pub line : WasUnread status → Writes old new before after (status_line status)
   pub help : form ≡ Some Help → Tells help_text old new before after status
   pub version : form ≡ Some Version → Tells version_text old new before after status

@@ -2,6 +2,7 @@
 //!
 //! - `program`: `top`, the one call of the program, and `answer`, which makes it.
 //! - `kit`: what a caller brings.
+//! - `naming`: the names of a kit's builders.
 //! - `words`: the forms of words that the program takes.
 //! - `reading`: a source is read to its end.
 //! - `response`: a script is run, and what was done is written.
@@ -9,12 +10,14 @@
 #![tactic(auto)]
 
 mod kit;
+mod naming;
 mod program;
 mod reading;
 mod report;
 mod response;
 mod words;
 
+pub use builder_api::{Builder, Builders, Meanings, Silent};
 pub use kit::Kit;
 pub use program::{answer, top};
 pub use res_path::NoMemory;

@@ -1,15 +1,19 @@
 //! A script is run, and what was done is written.
-ghost use Rattle.std.specs.Prelude.{◌≡◌, ◌⊎◌, ◌++◌, ℕ, [], map, take, OnOk};
+ghost use Rattle.std.specs.Prelude.{◌≡◌, ◌⊎◌, ◌++◌, ℕ, [], map, take, IfOk, OnOk};
 ghost use Rattle.sched_rules.specs.Atoms.{atom_contains, atom_conflicts};
 ghost use Rattle.rule_table.specs.Tables.{IsApart};
+ghost use Rattle.builder_api.specs.Told.{HaveMeanings};
 ghost use Rattle.ws_core.specs.Histories.{replay};
 ghost use Rattle.ws_top.specs.Inside.Parts.{Nothing, Same, Performs, Responds};
+ghost use Rattle.ws_top.specs.Builds.{MakesBuilds};
 ghost use Rattle.ws_top.specs.Outcomes.{opened_state, Shuffle, CutShuffle, StoppedShuffle, IsOneThread, HearsNotices, Writes};
 ghost use Rattle.ws_top.specs.Texts.{status_line, bad_line};
 
 use crate::NoMemory;
 use crate::kit::Kit;
+use crate::naming::names_of;
 use crate::report::write_run;
+use builder_api::{Builder, Builders, Meanings};
 use bytes::Bytes;
 use elem_tree::LayerTree;
 use phase_run::run_phases;
@@ -19,63 +23,69 @@ use save_parts::Listener;
 use script_lang::{Script, ScriptError, parse_shared};
 use std::alloc::Global;
 use ws_core::{Core, History, State};
+use ws_elem::ElemMap;
 use ws_outside::Sink;
 
 /// What a run ended with.
 #[derive(Drop)]
-pub struct Outcome<L: Listener> {
+pub struct Outcome<L: Listener, B: Builder> {
     /// 0; or 2 for words of no form, 3 for a failed read, 9 for too long a script, 6 for bytes that spell no script,
     /// 8 for want of memory, 4 for a failed write; the first of these that applies.
     pub status: u8,
     /// What was done, in order.
     pub history: History,
     /// What the caller brought.
-    pub kit: Kit<L>,
+    pub kit: Kit<L, B>,
 }
 
 /// Runs the script that the bytes spell.
-pub fn respond<K: Sink, L: Listener>(
+pub fn respond<K: Sink, L: Listener, B: Builder, M: Meanings>(
     alloc: Global,
     sink: &mut K,
-    kit: Kit<L>,
+    kit: Kit<L, B>,
     bytes: Vec<u8>,
-) -> Outcome<L>
-    ensures responds { Responds opened_state bytes.items (K.written sink.old) (K.written sink.new) (K.faults sink.old) (K.faults sink.new) result.status result.history }
-    ensures heard { HearsNotices opened_state result.status result.history (map (λ l. L.heard l) kit.listeners) (map (λ l. L.heard l) result.kit.listeners) }
+) -> Outcome<L, B>
+    requires means { HaveMeanings M.meaning (map (λ b. B.tells b) kit.builders) }
+    ensures responds { Responds M.meaning (opened_state (map (λ b. B.tells b) kit.builders)) bytes.items (K.written sink.old) (K.written sink.new) (K.faults sink.old) (K.faults sink.new) result.status result.history }
+    ensures heard { HearsNotices (opened_state (map (λ b. B.tells b) kit.builders)) result.status result.history (map (λ l. L.heard l) kit.listeners) (map (λ l. L.heard l) result.kit.listeners) }
+    ensures builds { MakesBuilds M.meaning (opened_state (map (λ b. B.tells b) kit.builders)) result.history (map (λ b. B.tells b) kit.builders) (map (λ b. B.tells b) result.kit.builders) }
 {
     match Bytes::from_vec(bytes) {
-        Ok(text) => respond_to(alloc, sink, kit, text),
+        Ok(text) => respond_to::<K, L, B, M>(alloc, sink, kit, text),
         Err(_) => want(alloc, sink, kit),
     }
 }
 
 /// Runs the script that the text spells.
-fn respond_to<K: Sink, L: Listener>(
+fn respond_to<K: Sink, L: Listener, B: Builder, M: Meanings>(
     alloc: Global,
     sink: &mut K,
-    kit: Kit<L>,
+    kit: Kit<L, B>,
     text: Bytes,
-) -> Outcome<L>
-    ensures responds { Responds opened_state text (K.written sink.old) (K.written sink.new) (K.faults sink.old) (K.faults sink.new) result.status result.history }
-    ensures heard { HearsNotices opened_state result.status result.history (map (λ l. L.heard l) kit.listeners) (map (λ l. L.heard l) result.kit.listeners) }
+) -> Outcome<L, B>
+    requires means { HaveMeanings M.meaning (map (λ b. B.tells b) kit.builders) }
+    ensures responds { Responds M.meaning (opened_state (map (λ b. B.tells b) kit.builders)) text (K.written sink.old) (K.written sink.new) (K.faults sink.old) (K.faults sink.new) result.status result.history }
+    ensures heard { HearsNotices (opened_state (map (λ b. B.tells b) kit.builders)) result.status result.history (map (λ l. L.heard l) kit.listeners) (map (λ l. L.heard l) result.kit.listeners) }
+    ensures builds { MakesBuilds M.meaning (opened_state (map (λ b. B.tells b) kit.builders)) result.history (map (λ b. B.tells b) kit.builders) (map (λ b. B.tells b) result.kit.builders) }
 {
     match parse_shared(alloc, text) {
-        Ok(script) => perform(alloc, sink, kit, script),
+        Ok(script) => perform::<K, L, B, M>(alloc, sink, kit, script),
         Err(ScriptError::BadLine(line)) => say_bad_line(alloc, sink, kit, line),
         Err(ScriptError::Memory) => want(alloc, sink, kit),
     }
 }
 
 /// Tells at which line the reading stopped.
-fn say_bad_line<K: Sink, L: Listener>(
+fn say_bad_line<K: Sink, L: Listener, B: Builder>(
     alloc: Global,
     sink: &mut K,
-    kit: Kit<L>,
+    kit: Kit<L, B>,
     line: u64,
-) -> Outcome<L>
+) -> Outcome<L, B>
     ensures told { ((result.status ≡ 6) × (result.history ≡ []) × Writes (K.written sink.old) (K.written sink.new) (K.faults sink.old) (K.faults sink.new) (bad_line line))
-        ⊎ Performs Nothing Nothing Nothing opened_state (K.written sink.old) (K.written sink.new) (K.faults sink.old) (K.faults sink.new) result.status result.history }
-    ensures heard { HearsNotices opened_state result.status result.history (map (λ l. L.heard l) kit.listeners) (map (λ l. L.heard l) result.kit.listeners) }
+        ⊎ Performs Nothing Nothing Nothing (opened_state (map (λ b. B.tells b) kit.builders)) (K.written sink.old) (K.written sink.new) (K.faults sink.old) (K.faults sink.new) result.status result.history }
+    ensures nothing { result.history ≡ [] }
+    ensures kit { result.kit ≡ kit }
 {
     let mut text = Vec::new(alloc);
     match put_bad_line(&mut text, line) {
@@ -94,52 +104,78 @@ fn put_bad_line(out: &mut Vec<u8>, line: u64) -> Result<(), NoMemory>
 }
 
 /// Runs the script on a fresh workspace.
-fn perform<K: Sink, L: Listener>(
+fn perform<K: Sink, L: Listener, B: Builder, M: Meanings>(
     alloc: Global,
     sink: &mut K,
-    kit: Kit<L>,
+    kit: Kit<L, B>,
     script: Script,
-) -> Outcome<L>
-    ensures performs { Performs (Shuffle script) (CutShuffle script) (StoppedShuffle script) opened_state (K.written sink.old) (K.written sink.new) (K.faults sink.old) (K.faults sink.new) result.status result.history }
-    ensures heard { HearsNotices opened_state result.status result.history (map (λ l. L.heard l) kit.listeners) (map (λ l. L.heard l) result.kit.listeners) }
+) -> Outcome<L, B>
+    requires means { HaveMeanings M.meaning (map (λ b. B.tells b) kit.builders) }
+    ensures performs { Performs (Shuffle M.meaning (opened_state (map (λ b. B.tells b) kit.builders)) script) (CutShuffle M.meaning (opened_state (map (λ b. B.tells b) kit.builders)) script) (StoppedShuffle M.meaning (opened_state (map (λ b. B.tells b) kit.builders)) script) (opened_state (map (λ b. B.tells b) kit.builders)) (K.written sink.old) (K.written sink.new) (K.faults sink.old) (K.faults sink.new) result.status result.history }
+    ensures heard { HearsNotices (opened_state (map (λ b. B.tells b) kit.builders)) result.status result.history (map (λ l. L.heard l) kit.listeners) (map (λ l. L.heard l) result.kit.listeners) }
+    ensures builds { MakesBuilds M.meaning (opened_state (map (λ b. B.tells b) kit.builders)) result.history (map (λ b. B.tells b) kit.builders) (map (λ b. B.tells b) result.kit.builders) }
 {
-    match Core::fresh(alloc) {
-        Ok(core) => perform_on(alloc, sink, kit, core, script),
+    match opened_with(alloc, &kit.builders) {
+        Ok(core) => perform_on::<K, L, B, M>(alloc, sink, kit, core, script),
         Err(_) => want(alloc, sink, kit),
     }
 }
 
+/// A fresh workspace with these builders, in which nothing was done.
+fn opened_with<B: Builder>(
+    alloc: Global,
+    builders: &Builders<B>,
+) -> Result<Core<LayerTree>, NoMemory>
+    ensures opened { IfOk result (λ core. core.opened ≡ opened_state (map (λ b. B.tells b) builders.now)) }
+    ensures state { IfOk result (λ core. core.state ≡ core.opened) }
+    ensures history { IfOk result (λ core. core.history ≡ []) }
+{
+    let names = names_of(alloc, builders)?;
+    let tree = ElemMap::fresh(alloc)?;
+    Core::over(alloc, LayerTree::of(alloc, tree), names)
+}
+
 /// Runs the script on the workspace that was opened.
-fn perform_on<K: Sink, L: Listener>(
+fn perform_on<K: Sink, L: Listener, B: Builder, M: Meanings>(
     alloc: Global,
     sink: &mut K,
-    kit: Kit<L>,
+    kit: Kit<L, B>,
     core: Core<LayerTree>,
     script: Script,
-) -> Outcome<L>
-    requires opened { core.opened ≡ opened_state }
-    requires state { core.state ≡ opened_state }
+) -> Outcome<L, B>
+    requires opened { core.opened ≡ opened_state (map (λ b. B.tells b) kit.builders) }
+    requires state { core.state ≡ core.opened }
     requires history { core.history ≡ [] }
-    ensures performs { Performs (Shuffle script) (CutShuffle script) (StoppedShuffle script) opened_state (K.written sink.old) (K.written sink.new) (K.faults sink.old) (K.faults sink.new) result.status result.history }
-    ensures heard { HearsNotices opened_state result.status result.history (map (λ l. L.heard l) kit.listeners) (map (λ l. L.heard l) result.kit.listeners) }
+    requires means { HaveMeanings M.meaning (map (λ b. B.tells b) kit.builders) }
+    ensures performs { Performs (Shuffle M.meaning core.opened script) (CutShuffle M.meaning core.opened script) (StoppedShuffle M.meaning core.opened script) core.opened (K.written sink.old) (K.written sink.new) (K.faults sink.old) (K.faults sink.new) result.status result.history }
+    ensures heard { HearsNotices core.opened result.status result.history (map (λ l. L.heard l) kit.listeners) (map (λ l. L.heard l) result.kit.listeners) }
+    ensures builds { MakesBuilds M.meaning core.opened result.history (map (λ b. B.tells b) kit.builders) (map (λ b. B.tells b) result.kit.builders) }
 {
     let mut core = core;
-    let mut listeners = kit.listeners;
-    match run_phases(&mut core, alloc, &mut listeners, script.phases.as_slice()) {
-        Ok(()) => report(alloc, sink, Kit { listeners }, core),
-        Err(_) => report_cut(alloc, sink, Kit { listeners }, core),
+    let Kit {
+        mut builders,
+        mut listeners,
+    } = kit;
+    let phases = script.phases.as_slice();
+    let ran = run_phases::<L, B, M>(&mut core, &mut builders, alloc, &mut listeners, phases);
+    let kit = Kit {
+        builders,
+        listeners,
+    };
+    match ran {
+        Ok(()) => report(alloc, sink, kit, core),
+        Err(_) => report_cut(alloc, sink, kit, core),
     }
 }
 
 /// Writes what a whole script did.
-fn report<K: Sink, L: Listener>(
+fn report<K: Sink, L: Listener, B: Builder>(
     alloc: Global,
     sink: &mut K,
-    kit: Kit<L>,
+    kit: Kit<L, B>,
     core: Core<LayerTree>,
-) -> Outcome<L>
-    requires { core.opened ≡ opened_state }
-    ensures performs { Performs (Same core.history) (Same core.history) Nothing opened_state (K.written sink.old) (K.written sink.new) (K.faults sink.old) (K.faults sink.new) result.status result.history }
+) -> Outcome<L, B>
+    ensures performs { Performs (Same core.history) (Same core.history) Nothing core.opened (K.written sink.old) (K.written sink.new) (K.faults sink.old) (K.faults sink.new) result.status result.history }
     ensures history { result.history ≡ core.history }
     ensures kit { result.kit ≡ kit }
 {
@@ -151,14 +187,13 @@ fn report<K: Sink, L: Listener>(
 }
 
 /// Writes what was done before memory ended.
-fn report_cut<K: Sink, L: Listener>(
+fn report_cut<K: Sink, L: Listener, B: Builder>(
     alloc: Global,
     sink: &mut K,
-    kit: Kit<L>,
+    kit: Kit<L, B>,
     core: Core<LayerTree>,
-) -> Outcome<L>
-    requires { core.opened ≡ opened_state }
-    ensures performs { Performs Nothing (Same core.history) (Same core.history) opened_state (K.written sink.old) (K.written sink.new) (K.faults sink.old) (K.faults sink.new) result.status result.history }
+) -> Outcome<L, B>
+    ensures performs { Performs Nothing (Same core.history) (Same core.history) core.opened (K.written sink.old) (K.written sink.new) (K.faults sink.old) (K.faults sink.new) result.status result.history }
     ensures status { result.status ≡ 8 }
     ensures history { result.history ≡ core.history }
     ensures kit { result.kit ≡ kit }
@@ -180,11 +215,14 @@ fn let_go(state: State<LayerTree>) {
 }
 
 /// What a run ends with.
-fn ended<L: Listener>(core: Core<LayerTree>, status: u8, kit: Kit<L>) -> Outcome<L>
-    requires { core.opened ≡ opened_state }
+fn ended<L: Listener, B: Builder>(
+    core: Core<LayerTree>,
+    status: u8,
+    kit: Kit<L, B>,
+) -> Outcome<L, B>
     ensures status { result.status ≡ status }
     ensures history { result.history ≡ core.history }
-    ensures thread { IsOneThread opened_state result.history }
+    ensures thread { IsOneThread core.opened result.history }
     ensures kit { result.kit ≡ kit }
 {
     keep_apart(&core);
@@ -198,41 +236,46 @@ fn ended<L: Listener>(core: Core<LayerTree>, status: u8, kit: Kit<L>) -> Outcome
 }
 
 /// Tells that memory wanted before anything was done.
-fn want<K: Sink, L: Listener>(alloc: Global, sink: &mut K, kit: Kit<L>) -> Outcome<L>
-    ensures performs { Performs Nothing Nothing Nothing opened_state (K.written sink.old) (K.written sink.new) (K.faults sink.old) (K.faults sink.new) result.status result.history }
-    ensures heard { HearsNotices opened_state result.status result.history (map (λ l. L.heard l) kit.listeners) (map (λ l. L.heard l) result.kit.listeners) }
+fn want<K: Sink, L: Listener, B: Builder>(
+    alloc: Global,
+    sink: &mut K,
+    kit: Kit<L, B>,
+) -> Outcome<L, B>
+    ensures performs { Performs Nothing Nothing Nothing (opened_state (map (λ b. B.tells b) kit.builders)) (K.written sink.old) (K.written sink.new) (K.faults sink.old) (K.faults sink.new) result.status result.history }
+    ensures nothing { result.history ≡ [] }
+    ensures kit { result.kit ≡ kit }
 {
     stop(alloc, sink, kit, 8, b"status 8\n")
 }
 
 /// Ends with the status, whose line is given, where nothing was done. A line that isn't written whole leaves the status.
-pub fn stop<K: Sink, L: Listener>(
+pub fn stop<K: Sink, L: Listener, B: Builder>(
     alloc: Global,
     sink: &mut K,
-    kit: Kit<L>,
+    kit: Kit<L, B>,
     status: u8,
     line: &[u8],
-) -> Outcome<L>
+) -> Outcome<L, B>
     requires { line.now ≡ status_line status }
     ensures status { result.status ≡ status }
     ensures nothing { result.history ≡ [] }
-    ensures heard { HearsNotices opened_state result.status result.history (map (λ l. L.heard l) kit.listeners) (map (λ l. L.heard l) result.kit.listeners) }
+    ensures kit { result.kit ≡ kit }
     ensures line { Writes (K.written sink.old) (K.written sink.new) (K.faults sink.old) (K.faults sink.new) (status_line status) }
 {
     say(alloc, sink, kit, status, line)
 }
 
 /// Writes a text and ends with the status, where nothing was done.
-fn say<K: Sink, L: Listener>(
+fn say<K: Sink, L: Listener, B: Builder>(
     alloc: Global,
     sink: &mut K,
-    kit: Kit<L>,
+    kit: Kit<L, B>,
     status: u8,
     text: &[u8],
-) -> Outcome<L>
+) -> Outcome<L, B>
     ensures status { result.status ≡ status }
     ensures nothing { result.history ≡ [] }
-    ensures heard { HearsNotices opened_state result.status result.history (map (λ l. L.heard l) kit.listeners) (map (λ l. L.heard l) result.kit.listeners) }
+    ensures kit { result.kit ≡ kit }
     ensures written { Writes (K.written sink.old) (K.written sink.new) (K.faults sink.old) (K.faults sink.new) text.now }
 {
     let _ = write_all(sink, text);
@@ -240,10 +283,14 @@ fn say<K: Sink, L: Listener>(
 }
 
 /// What the program ends with where nothing was done.
-pub fn nothing_done<L: Listener>(alloc: Global, kit: Kit<L>, status: u8) -> Outcome<L>
+pub fn nothing_done<L: Listener, B: Builder>(
+    alloc: Global,
+    kit: Kit<L, B>,
+    status: u8,
+) -> Outcome<L, B>
     ensures status { result.status ≡ status }
     ensures nothing { result.history ≡ [] }
-    ensures heard { HearsNotices opened_state result.status result.history (map (λ l. L.heard l) kit.listeners) (map (λ l. L.heard l) result.kit.listeners) }
+    ensures kit { result.kit ≡ kit }
 {
     Outcome {
         status,

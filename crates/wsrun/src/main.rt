@@ -1,13 +1,19 @@
-//! The program: its words, standard input and standard output go to `answer`, with whose status it ends.
+//! The program: its words, standard input, standard output and the standard builders go to `answer`, with whose status it
+//! ends.
 #![tactic(auto)]
 
-ghost use Rattle.std.specs.Prelude.{◌≡◌, None};
+ghost use Rattle.std.specs.Prelude.{◌≡◌, map, None};
 ghost use Rattle.std.specs.Process.{exit_status};
+ghost use Rattle.builder_api.specs.Told.{HaveMeanings};
+ghost use Rattle.std_builders.specs.Builders.{told};
+ghost use Rattle.std_builders.specs.Standards.{standard};
 
+use builder_api::Builders;
 use delta_kind::Delta;
 use std::alloc::{AllocError, Global};
 use std::process::ExitCode;
 use std::{env, io, mem};
+use std_builders::{Standard, StandardBuilder, standard_builders};
 use ws_outside::{StdSink, StdSource};
 use ws_top::{Kit, Listener, Listeners, Outcome, answer};
 
@@ -25,15 +31,37 @@ fn main(rt: HostRuntime) -> ExitCode {
     let alloc = rt.alloc();
     let mut source = StdSource::new(rt.stdin());
     let mut sink = StdSink::new(rt.stdout());
+    let (builders, words) = brought(&rt, alloc);
     let kit = Kit {
+        builders,
         listeners: Listeners::<Nobody>::of(Vec::new(alloc)),
     };
-    ended(answer(alloc, words(&rt, alloc), &mut source, &mut sink, kit))
+    ended(answer::<StdSource, StdSink, Nobody, StandardBuilder, Standard>(
+        alloc,
+        words,
+        &mut source,
+        &mut sink,
+        kit,
+    ))
+}
+
+/// The standard builders, and the words that the program was called with. Where memory wants for the builders, there is
+/// none of them, and it wants for the words too.
+fn brought(
+    rt: &HostRuntime,
+    alloc: Global,
+) -> (Builders<StandardBuilder>, Result<Vec<String>, AllocError>)
+    ensures means { HaveMeanings standard (map told result.0) }
+{
+    match standard_builders(alloc) {
+        Ok(builders) => (builders, words(rt, alloc)),
+        Err(wanted) => (Builders::of(Vec::new(alloc)), Err(wanted)),
+    }
 }
 
 /// The status with which the program ends. What was done is not let go entry by entry: the system takes the memory back
 /// at once.
-fn ended(outcome: Outcome<Nobody>) -> ExitCode
+fn ended(outcome: Outcome<Nobody, StandardBuilder>) -> ExitCode
     ensures { exit_status result ≡ outcome.status }
 {
     let Outcome {

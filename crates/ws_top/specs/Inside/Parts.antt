@@ -4,6 +4,7 @@ use Rattle.ws_outside.specs.Faults.{Rose}
 use Rattle.ws_outside.specs.Streams.{Gains, GainsFront}
 use Rattle.script_lang.specs.Scripts.{IsFirstBad}
 use Rattle.core_event.specs.declared.entry.Entry.{Entry}
+use Rattle.builder_api.specs.Meanings.{Meanings}
 use Rattle.run_text.specs.declared.writing.Unwritten.{Unwritten}
 use Rattle.run_text.specs.declared.writing.Unwritten.TheVariants.{Fault, Memory}
 use Rattle.run_text.specs.Printing.{IsCause}
@@ -85,20 +86,20 @@ pub record TellsBadLine (bytes : List ℕ) (old new : Option (List ℕ)) (before
   pub written : Writes old new before after (bad_line line)
 
 -- what the bytes ask for was done
-abbrev pub Responds : Moment → List ℕ → Option (List ℕ) → Option (List ℕ) → ℕ → ℕ → ℕ → List Entry → Type 0
-Responds opened bytes old new before after status h =
-    Performs (Spelled Shuffle bytes) (Spelled CutShuffle bytes) (Spelled StoppedShuffle bytes) opened old new before after status h
+abbrev pub Responds : Meanings → Moment → List ℕ → Option (List ℕ) → Option (List ℕ) → ℕ → ℕ → ℕ → List Entry → Type 0
+Responds ms opened bytes old new before after status h =
+    Performs (Spelled (Shuffle ms opened) bytes) (Spelled (CutShuffle ms opened) bytes) (Spelled (StoppedShuffle ms opened) bytes) opened old new before after status h
     ⊎ TellsBadLine bytes old new before after status h
 
 -- the source was read, and what its bytes ask for was done
-pub record EndsRun (opened : Moment) (left after_reading : Option (List ℕ)) (reads_before reads_after : Option ℕ) (reads_failed reads_fail : ℕ)
+pub record EndsRun (ms : Meanings) (opened : Moment) (left after_reading : Option (List ℕ)) (reads_before reads_after : Option ℕ) (reads_failed reads_fail : ℕ)
     (old new : Option (List ℕ)) (before after status : ℕ) (h : List Entry) : Type 0 where
   pub ends : IsStatus status
   pub usage : status ≢ 2
   pub read_fault : TellsReadFault reads_failed reads_fail status
-  pub write_fault : TellsWriteFault before after status (WasStopped left after_reading h)
+  pub write_fault : TellsWriteFault before after status (WasStopped ms opened left after_reading h)
   pub complete : Completes left (Rose reads_failed reads_fail) (Rose before after) status
   pub reads : ReadsNoMore left after_reading reads_before reads_after status
   pub thread : IsOneThread opened h
-  pub runs : RunsScript opened left after_reading old new before after status h
+  pub runs : RunsScript ms opened left after_reading old new before after status h
   pub line : WasUnread status → Writes old new before after (status_line status)

@@ -1,11 +1,24 @@
-use Rattle.phase_run.proofs.Results.{both_of}
-use Rattle.phase_run.proofs.Commanded.{work_there, did_command}
+use Rattle.std.proofs.Common.{map, refl, subst, sym}
+use Rattle.std.specs.Prelude.{MatchResult}
+use Rattle.run_order.specs.Lists.{Cut}
+use Rattle.phase_run.specs.Plans.{AskedEntries, Made}
+use Rattle.phase_run.specs.Inside.Doing.{IsAskable, Stops, Works}
+use Rattle.phase_run.proofs.Commanded.{not_begun}
+use Rattle.phase_run.proofs.Commands.{askable, some_made}
+use Rattle.phase_run.proofs.Results.{on_err}
+use Rattle.build_host.specs.Laws.{serves_itself}
 use Rattle.phase_run.proofs.worker.do_command.Goals as goal
 
-pub returns : goal.returns
-returns c = both_of c.perform.result
-    (λ s h. did_command c.args.command.now c.args.core.now c.perform.new.self c.in_ok-event.event c.in_ok-event.ensures c.perform.ensures.opened s h c.requires)
-    (λ q. q) c.perform.ensures.state c.perform.ensures.history c.perform.ensures.err
+pub do_asked-requires-clause-asked : goal.do_asked-requires-clause-asked
+do_asked-requires-clause-asked g c = subst IsAskable (sym c.in_ok-asked.ensures) (askable c.args.command.now)
 
-pub perform-requires : goal.perform-requires
-perform-requires c = work_there c.args.core.now.state c.requires
+pub returns-in_err-asked-clause-done : goal.returns-in_err-asked-clause-done
+returns-in_err-asked-clause-done g c = on_err _ _ c.from_residual.result c.from_residual.ensures.0
+    (not_begun (Made g.M.Meanings.meaning 1 c.args.command.now) c.args.core.now c.args.core.now (some_made g.M.Meanings.meaning c.args.command.now) refl c.requires.work)
+
+pub returns-clause-done : goal.returns-clause-done
+returns-clause-done g c = subst (λ x. MatchResult c.do_asked.result (λ _. Works (AskedEntries g.M.Meanings.meaning 1 x) c.args.core.now c.do_asked.new.core) (λ _. Stops (Cut (AskedEntries g.M.Meanings.meaning 1 x)) c.args.core.now c.do_asked.new.core))
+    c.in_ok-asked.ensures c.do_asked.ensures.done
+
+pub returns-in_err-asked-clause-serves : goal.returns-in_err-asked-clause-serves
+returns-in_err-asked-clause-serves g c = serves_itself g.M.Meanings.meaning c.args.core.now (map (λ b. g.B.Builder.tells b) c.args.builders.now)

@@ -20,3 +20,6 @@ returns-in-Wake c = rw c.in-Wake.is c.wake_line.ensures
 
 pub returns-in-Cancel : goal.returns-in-Cancel
 returns-in-Cancel c = rw c.in-Cancel.is c.cancel_line.ensures
+
+pub returns-in-Build : goal.returns-in-Build
+returns-in-Build c = rw c.in-Build.is c.build_line.ensures

@@ -1,0 +1,11 @@
+pub mod Lists
+pub mod Calls
+pub mod Went
+pub mod Parts
+pub mod Called
+pub mod Sounds
+pub mod Names
+pub mod Settled
+pub mod Keeping
+pub mod Settling
+pub mod Dues

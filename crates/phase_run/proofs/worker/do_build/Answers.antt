@@ -1,0 +1,17 @@
+use Rattle.std.proofs.Common.{map}
+use Rattle.std.specs.Option.{option_copied}
+use Rattle.run_order.specs.Lists.{Cut}
+use Rattle.build_host.specs.Builds.{IsBuild}
+use Rattle.phase_run.proofs.Results.{on_err}
+use Rattle.phase_run.proofs.Commanded.{did_build, ready_to_build, stopped_build}
+use Rattle.phase_run.proofs.worker.do_build.Goals as goal
+
+pub build-requires : goal.build-requires
+build-requires g c = ready_to_build g.M.Meanings.meaning c.args.core.now (map (λ b. g.B.Builder.tells b) c.args.builders.now) c.requires.served c.settle.ensures.placed c.requires.work
+
+pub returns-in_err-answer-clause-done : goal.returns-in_err-answer-clause-done
+returns-in_err-answer-clause-done g c = on_err _ _ c.from_residual.result c.from_residual.ensures.0
+    (stopped_build (Cut (IsBuild g.M.Meanings.meaning 1 c.args.kind (option_copied c.args.project))) c.args.core.now c.build.new.core c.in_err-answer.ensures.cut c.in_err-answer.ensures.goes c.requires.work)
+
+pub returns-clause-done : goal.returns-clause-done
+returns-clause-done g c = did_build (IsBuild g.M.Meanings.meaning 1 c.args.kind (option_copied c.args.project)) c.args.core.now c.build.new.core c.in_ok-answer.ensures.made c.in_ok-answer.ensures.home c.in_ok-answer.ensures.goes c.requires.work

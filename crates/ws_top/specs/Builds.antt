@@ -1,0 +1,21 @@
+-- What the builds of a run did.
+use Rattle.std.specs.Prelude.{List, None}
+use Rattle.builder_api.specs.Meanings.{Meanings}
+use Rattle.builder_api.specs.Told.{Told}
+use Rattle.core_event.specs.declared.entry.Entry.{Entry}
+use Rattle.ws_core.specs.States.{Moment}
+use Rattle.build_history.specs.Calls.{calls, WereCalled}
+use Rattle.build_history.specs.Dues.{AreDue}
+use Rattle.build_history.specs.Settled.{AllSettled}
+use Rattle.build_host.specs.Hosts.{StayBuilders}
+
+-- In a history from the opened state on each command is handed exactly what is due, the delta since it was built last. The
+-- builders were called for exactly what is handed and cleaned, in order, and no other. Where a build settled each of its
+-- commands that has a builder with a meaning is fresh; and for one project or without knots, where all builders that are
+-- there have meanings, the files are those of a build from scratch.
+pub record MakesBuilds (ms : Meanings) (opened : Moment) (h : List Entry) (old new : List Told) : Type 0 where
+  pub due : AreDue opened h
+  pub called : WereCalled (calls opened h) old new
+  pub settled : AllSettled ms None opened h
+  -- the builders keep their names, and mean what they meant
+  pub stays : StayBuilders ms old new
