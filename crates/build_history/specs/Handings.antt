@@ -36,7 +36,7 @@ abbrev pub handed_by : Descs → Event → Answer → Option Handing
 handed_by descs (events.Service (services.Handed project index kind)) (answers.Handed handed) = option_map (handing_of project index handed) (command_at descs project index)
 handed_by descs event answer = None
 
--- what was handed last, after an entry of a state
+-- what was handed last, after an entry in a state
 abbrev pub handed_with : Option Handing → Moment → Entry → Option Handing
 handed_with last s x = option_or (handed_by (desc_at s.resources.tree) x.event x.reply.answer) last
 
@@ -51,7 +51,7 @@ committed_by event answer = None
 abbrev pub IsRight : Meanings → State → Edits → Handing → Type 0
 IsRight ms s edits g = Right ms (task g.item) g.handed.delta (last_tree s g.item) s.tree edits
 
--- those of each commit of a history are right for what was handed last, where this was before the history
+-- those of each commit of a history are right for what was handed last; this was it before the history
 abbrev pub AreRight : Meanings → Option Handing → Moment → List Entry → Type 0
 AreRight ms last s [] = Unit {0}
 AreRight ms last s (x ∷ h) = IfSome (committed_by x.event x.reply.answer) (λ edits. IsSomeAnd last (IsRight ms (state_of s) edits)) × AreRight ms (handed_with last s x) (after s x) h
@@ -67,7 +67,8 @@ failed_by event = None
 abbrev pub IsOf : List ℕ × ℕ → Handing → Type 0
 IsOf at g = (g.item.project ≡ at.0) × (g.item.index ≡ at.1)
 
--- each outcome of a history that tells of a builder that failed tells of the command that was handed something last
+-- each outcome of a history that tells of a builder that failed tells of the command that was handed something last; this
+-- was it before the history
 abbrev pub AreTold : Option Handing → Moment → List Entry → Type 0
 AreTold last s [] = Unit {0}
 AreTold last s (x ∷ h) = IfSome (failed_by x.event) (λ at. IsSomeAnd last (IsOf at)) × AreTold (handed_with last s x) (after s x) h
