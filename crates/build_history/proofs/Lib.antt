@@ -1,8 +1,11 @@
 pub mod Lists
 pub mod Calls
+pub mod Counts
+pub mod Handings
 pub mod Went
 pub mod Parts
 pub mod Called
+pub mod Answered
 pub mod Sounds
 pub mod Names
 pub mod Settled

@@ -12,7 +12,8 @@ use Rattle.build_run.specs.Books.{Book, Entry, Deed, Begin, Batch, Checkout, Han
 use Rattle.build_run.specs.Starts.{ChecksIn, IsStopped}
 use Rattle.build_run.specs.Commands.{CameTo, IsAnswered, IsUnanswered}
 use Rattle.build_history.proofs.Lists.{all_front, same_rest}
-use Rattle.build_history.proofs.Went.{Works, went_works}
+use Rattle.build_history.proofs.Handings.{failed_in}
+use Rattle.build_history.proofs.Went.{Works, went_works, works_as}
 
 -- an entry around the commands that answers no plan and checks nothing in
 abbrev pub IsAround : Deed → Type 0
@@ -39,7 +40,7 @@ pub record Came (ms : Meanings) (kind : BuildKind) (project : Option (List ℕ))
   pub outcome : BuildOutcome
   pub last : Book
   pub came : CameTo ms kind project b outcome last
-  pub works : Works came.first last
+  pub works : Works ms outcome came.first last
   pub found : State
   pub finds : Finds last.now found
   pub rest : List Entry
@@ -77,8 +78,14 @@ module _ (ms : Meanings) (kind : BuildKind) (project : Option (List ℕ)) (b b' 
     told = checks.told;
   })
     where
-      works : Works came.first last
-      works = went_works ms came.first kind came.plan came.went.0 last came.begins.planned.described came.went.1
+      went : Works ms came.went.0 came.first last
+      went = went_works ms came.first kind came.plan came.went.0 last came.begins.planned.described came.went.1
+
+      works : Works ms o came.first last
+      works = elim came.went.2 [
+        | inl same ↦ subst (λ p. Works ms p came.first last) (sym same) went
+        | inr same ↦ works_as ms o (ap failed_in same) came.first last came.went.0 went
+      ]
 
       begins : List Entry
       begins = beginning came.begins.first came.begins.second (at came.first.now (Checkout kind project (started.Plan came.plan)))

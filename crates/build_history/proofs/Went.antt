@@ -1,33 +1,41 @@
 -- What a build command did of its commands.
-use Rattle.std.proofs.Common.{◌≡◌, inl, inr, ℕ, Bool, ◌+◌, suc, List, [], ◌∷◌, ◌++◌, map, Option, Some, refl, sym, ap, ◌∙◌, subst, append_assoc, append-nil, arith}
-use Rattle.std.specs.Prelude.{option_and_then, slice_get}
-use Rattle.std.specs.List.{AllByRecursion, flat_map}
+use Rattle.std.proofs.Common.{◌≡◌, ◌⊎◌, inl, inr, ℕ, Bool, true, cond, ◌+◌, suc, List, [], ◌∷◌, ◌++◌, map, Option, Some, None, Err, refl, sym, ap, ◌∙◌, subst, append_assoc, append-nil, arith}
+use Rattle.std.specs.Prelude.{IfSome, option_and_then, slice_get}
+use Rattle.std.specs.List.{AllByRecursion, flat_map, list_any}
+use Rattle.std.specs.Option.{IsSomeAnd, option_map, option_or}
+use Rattle.std.specs.Str.{bytes_eq}
 use Rattle.res_path.specs.Paths.{Names}
 use Rattle.proj_desc.specs.declared.command.Command.{Command}
+use Rattle.builder_api.specs.declared.builder.BuildFault.TheVariants as fault
+use Rattle.builder_api.specs.declared.handed.Handed.{Handed}
 use Rattle.builder_api.specs.declared.kind.BuildKind.{BuildKind}
 use Rattle.builder_api.specs.declared.kind.BuildKind.TheVariants.{Full, Auto, Incremental, Clean}
 use Rattle.builder_api.specs.declared.outcome.BuildOutcome.{BuildOutcome}
 use Rattle.builder_api.specs.declared.outcome.BuildOutcome.TheVariants as outcome
 use Rattle.builder_api.specs.declared.plan.Plan.{Plan}
 use Rattle.builder_api.specs.Meanings.{Meanings}
-use Rattle.builder_api.specs.Told.{Built, Cleaned}
+use Rattle.builder_api.specs.Told.{Told, Built, Cleaned}
 use Rattle.build_laws.specs.States.{Descs, Item, State, due, item}
 use Rattle.build_laws.specs.Planned.{IsDescribed, IsPlanned}
 use Rattle.build_laws.specs.Turns.{Turn, Skip, Make, after, AreTurns, IsTurn}
 use Rattle.build_laws.specs.Builds.{Project, items_from, items_of, project_items, asked as turn_of, IsRound, later, Settles, Stirs, GroupBuilt, AllBuilt}
-use Rattle.build_run.specs.Books.{Book, Entry, Did, Deed, Begin, Batch, Checkout, Handing, Commit, CleanUp, CheckIn, EndBatch, End, turn_entries, turn_calls, Adds, Ran}
-use Rattle.build_run.specs.Ends.{Halts, RoundHalts, GroupHalts, AllCame, AllHalt}
+use Rattle.build_run.specs.Books as books
+use Rattle.build_run.specs.Books.{Book, Entry, Did, Called, WereDone, Deed, Begin, Batch, Checkout, Commit, CleanUp, CheckIn, EndBatch, End, turn_entries, turn_calls, Adds, Ran}
+use Rattle.build_run.specs.Ends.{Halts, RoundHalts, GroupHalts, AllCame, AllHalt, handing}
 use Rattle.build_run.specs.Sweeps.{Sweep, Passed, Swept, swept_item, sweep_entries, sweep_calls, AreSweeps, WereSwept, SweptTo}
 use Rattle.build_run.specs.Commands.{BuiltTo, WentTo}
 use Rattle.build_run.proofs.Done.{done_append}
 use Rattle.build_run.proofs.Runs.{ran_descs}
 use Rattle.build_history.specs.Calls.{calls_for, command_at}
 use Rattle.build_history.proofs.Lists.{all_append, all_back, all_front, flat_append, map_append}
+use Rattle.build_history.specs.Handings.{Handing, HaveRisen, IsOf, IsRight, failure, handing_of}
 use Rattle.build_history.proofs.Calls.{asked, call_of}
+use Rattle.build_history.proofs.Counts.{done_names, done_risen, failed_risen, risen_after}
+use Rattle.build_history.proofs.Handings.{AreGood, failed_in, good_append, last_append, last_of}
 
 -- an entry of one of the commands
 abbrev pub IsWork : Deed → Type 0
-IsWork (Handing project index kind x) = Unit {0}
+IsWork (books.Handing project index kind x) = Unit {0}
 IsWork (Commit e x) = Unit {0}
 IsWork (CleanUp project index x) = Unit {0}
 IsWork (Begin x) = ⊥
@@ -44,25 +52,49 @@ AreAsked es ds = flat_map asked es ≡ map call_of ds
 pub asked_more : (es fs : List Entry) (ds cs : List Did) → AreAsked es ds → AreAsked fs cs → AreAsked (es ++ fs) (ds ++ cs)
 asked_more es fs ds cs h g = flat_append asked es fs ∙ (λ i. h i ++ g i) ∙ sym (map_append call_of ds cs)
 
--- entries of commands lead from one book to another
-pub record Works (b b' : Book) : Type 0 where
+-- the builders of a book are those that it tells of
+abbrev pub AreListed : Book → Type 0
+AreListed b = b.has ≡ (λ name. list_any (bytes_eq name) (map (λ t. t.named) b.told))
+
+-- entries of commands lead from one book to another, and the build may come to an outcome there
+pub record Works (ms : Meanings) (o : BuildOutcome) (b b' : Book) : Type 0 where
   pub entries : List Entry
   pub done : List Did
   pub adds : Adds b b' entries done
   pub asked : AreAsked entries done
   pub work : AllByRecursion (λ x. IsWork x.deed) entries
+  -- what they commit is right, and an outcome that tells of a builder that failed tells of the last that was called
+  pub good : (last : Option Handing) → AreGood ms last entries
+  pub told : (last : Option Handing) → IfSome (failed_in o) (λ at. IsSomeAnd (last_of last entries) (IsOf at))
+  pub risen : AreListed b → (last : Option Handing) (name : List ℕ) → HaveRisen name (failure name (failed_in o) (last_of last entries)) b.told b'.told
 
-works_none : (b b' : Book) → b' ≡ b → Works b b'
-works_none b b' same = subst (Works b) (sym same) (record {
-  entries = [];
-  done = [];
-  adds = record { mine = sym (append-nil b.mine); since = sym (append-nil b.since); began = refl; done = refl; serving = refl; has = refl };
-  asked = refl;
-  work = tt;
-})
+-- where the outcome tells of no builder
+module _ (ms : Meanings) (o : BuildOutcome) (none : failed_in o ≡ None) (b b' : Book) where
+  works_of : (es : List Entry) (ds : List Did) → Adds b b' es ds → AreAsked es ds → AllByRecursion (λ (x : Entry). IsWork x.deed) es → ((last : Option Handing) → AreGood ms last es) → Works ms o b b'
+  works_of es ds adds asked work good = record {
+    entries = es;
+    done = ds;
+    adds = adds;
+    asked = asked;
+    work = work;
+    good = good;
+    told = λ last. subst (λ f. IfSome f (λ at. IsSomeAnd (last_of last es) (IsOf at))) (sym none) tt;
+    risen = λ listed last name. subst (λ f. HaveRisen name (failure name f (last_of last es)) b.told b'.told) (sym none) (done_risen ds b.told b'.told name adds.done);
+  }
 
-works_more : (a b c : Book) → Works a b → Works b c → Works a c
-works_more a b c p q = record {
+  pub works_as : (p : BuildOutcome) → Works ms p b b' → Works ms o b b'
+  works_as p w = works_of w.entries w.done w.adds w.asked w.work w.good
+
+  works_none : b' ≡ b → Works ms o b b'
+  works_none same = works_of [] []
+      (subst (λ x. Adds b x [] []) (sym same) (record { mine = sym (append-nil b.mine); since = sym (append-nil b.since); began = refl; done = refl; serving = refl; has = refl })) refl tt (λ last. tt)
+
+-- the builders of a book are still those that it tells of
+listed_on : (a b : Book) (es : List Entry) (ds : List Did) → Adds a b es ds → AreListed a → AreListed b
+listed_on a b es ds adds listed = adds.has ∙ listed ∙ ap (λ (names : Names). λ (name : List ℕ). list_any (bytes_eq name) names) (sym (done_names ds a.told b.told adds.done))
+
+works_more : (ms : Meanings) (o : BuildOutcome) (a b c : Book) → Works ms outcome.Settled a b → Works ms o b c → Works ms o a c
+works_more ms o a b c p q = record {
   entries = p.entries ++ q.entries;
   done = p.done ++ q.done;
   adds = record {
@@ -75,6 +107,12 @@ works_more a b c p q = record {
   };
   asked = asked_more p.entries q.entries p.done q.done p.asked q.asked;
   work = all_append (λ x. IsWork x.deed) p.entries q.entries p.work q.work;
+  good = λ last. good_append ms last p.entries q.entries (p.good last) (q.good (last_of last p.entries));
+  told = λ last. subst (λ l. IfSome (failed_in o) (λ at. IsSomeAnd l (IsOf at))) (sym (last_append last p.entries q.entries)) (q.told (last_of last p.entries));
+  risen = λ listed last name.
+      subst (λ l. HaveRisen name (failure name (failed_in o) l) a.told c.told) (sym (last_append last p.entries q.entries))
+      (risen_after name (failure name (failed_in o) (last_of (last_of last p.entries) q.entries)) a.told b.told c.told (done_names p.done a.told b.told p.adds.done)
+      (done_risen p.done a.told b.told name p.adds.done) (q.risen (listed_on a b p.entries p.done p.adds listed) (last_of last p.entries) name));
 }
 
 -- ---- commands at their places
@@ -145,6 +183,20 @@ turn_asked : (ms : Meanings) (has : List ℕ → Bool) (descs : Descs) (s : Stat
 turn_asked ms has descs s (Skip kind i found) same stands h = refl
 turn_asked ms has descs s (Make kind i w) same stands h = ap (λ (o : Option Command). (calls_for o (λ c. Built c w.handed) ++ [])) (due_asked descs w.first.descs i (h.found.descs ∙ same) stands)
 
+turn_good : (ms : Meanings) (has : List ℕ → Bool) (descs : Descs) (s : State) (x : Turn) → s.descs ≡ descs → Stands descs (turn_of x).0 → IsTurn ms has s x → (last : Option Handing) → AreGood ms last (turn_entries x)
+turn_good ms has descs s (Skip kind i found) same stands h last = (record { right = tt; told = tt }, tt)
+turn_good ms has descs s (Make kind i w) same stands h last = (
+  record { right = tt; told = tt },
+  (
+    record {
+      right = subst (λ (o : Option Command). IsSomeAnd (option_or (option_map (handing_of i.project i.index w.handed) o) last) (IsRight ms w.then w.edits))
+          (sym (due_asked descs w.first.descs i (h.found.descs ∙ same) stands)) h.right;
+      told = tt;
+    },
+    tt,
+  ),
+)
+
 turn_work : (x : Turn) → AllByRecursion (λ (e : Entry). IsWork e.deed) (turn_entries x)
 turn_work (Skip kind i found) = (tt, tt)
 turn_work (Make kind i w) = (tt, (tt, tt))
@@ -158,81 +210,92 @@ turns_asked ms has descs s [] same stands h = refl
 turns_asked ms has descs s (x ∷ xs) same stands h = asked_more (turn_entries x) (flat_map turn_entries xs) (turn_calls x) (flat_map turn_calls xs)
     (turn_asked ms has descs s x same stands.0 h.0) (turns_asked ms has descs (after x) xs (turn_descs ms has s x h.0 ∙ same) stands.1 h.1)
 
+turns_good : (ms : Meanings) (has : List ℕ → Bool) (descs : Descs) (s : State) (xs : List Turn) → s.descs ≡ descs → OfAll (Stands descs) xs → AreTurns ms has s xs → (last : Option Handing) → AreGood ms last (flat_map turn_entries xs)
+turns_good ms has descs s [] same stands h last = tt
+turns_good ms has descs s (x ∷ xs) same stands h last = good_append ms last (turn_entries x) (flat_map turn_entries xs)
+    (turn_good ms has descs s x same stands.0 h.0 last) (turns_good ms has descs (after x) xs (turn_descs ms has s x h.0 ∙ same) stands.1 h.1 (last_of last (turn_entries x)))
+
 turns_work : (xs : List Turn) → AllByRecursion (λ (e : Entry). IsWork e.deed) (flat_map turn_entries xs)
 turns_work [] = tt
 turns_work (x ∷ xs) = all_append (λ (e : Entry). IsWork e.deed) (turn_entries x) (flat_map turn_entries xs) (turn_work x) (turns_work xs)
 
-ran_works : (ms : Meanings) (descs : Descs) (b b' : Book) (xs : List Turn) → b.now.descs ≡ descs → OfAll (Stands descs) xs → Ran ms b b' xs → Works b b'
-ran_works ms descs b b' xs same stands ran = record {
-  entries = flat_map turn_entries xs;
-  done = flat_map turn_calls xs;
-  adds = ran.adds;
-  asked = turns_asked ms b.has descs b.now xs same stands ran.turns;
-  work = turns_work xs;
-}
+ran_works : (ms : Meanings) (descs : Descs) (b b' : Book) (xs : List Turn) → b.now.descs ≡ descs → OfAll (Stands descs) xs → Ran ms b b' xs → Works ms outcome.Settled b b'
+ran_works ms descs b b' xs same stands ran = works_of ms outcome.Settled refl b b' (flat_map turn_entries xs) (flat_map turn_calls xs) ran.adds (turns_asked ms b.has descs b.now xs same stands ran.turns) (turns_work xs)
+    (turns_good ms b.has descs b.now xs same stands ran.turns)
 
 -- ---- halts
 
-halt_works : (descs : Descs) (b : Book) (i : Item) (kind : BuildKind) (o : BuildOutcome) (b' : Book) → b.now.descs ≡ descs → Stands descs i → Halts b i kind o b' → Works b b'
-halt_works descs b i kind (outcome.BuilderFailed p n) b' same stands h = record {
-  entries = _;
-  done = _;
-  adds = h.5;
-  asked = ap (λ (o : Option Command). calls_for o (λ c. Built c (due h.0 i kind)) ++ []) (due_asked descs h.0.descs i (h.1.descs ∙ same) stands);
-  work = (tt, tt);
-}
-halt_works descs b i kind (outcome.Refused n) b' same stands h = record {
-  entries = _;
-  done = _;
-  adds = h.6;
-  asked = ap (λ (o : Option Command). calls_for o (λ c. Built c (due h.0 i kind)) ++ []) (due_asked descs h.0.descs i (h.3.descs ∙ same) stands);
-  work = (tt, (tt, tt));
-}
-halt_works descs b i kind outcome.NoMemory b' same stands h = record {
-  entries = h.0;
-  done = h.1;
-  adds = h.2;
-  asked = elim h.4 [
-    | inl none ↦ ap (flat_map asked) none.0 ∙ sym (ap (map call_of) none.1)
-    | inr one ↦ ap (flat_map asked) one.0
-        ∙ ap (λ (o : Option Command). calls_for o (λ c. Built c (due b'.now i kind)) ++ []) (due_asked descs b'.now.descs i (h.3.descs ∙ same) stands)
-        ∙ sym (ap (map call_of) one.1.1)
-  ];
-  work = elim h.4 [
-    | inl none ↦ subst (AllByRecursion (λ (e : Entry). IsWork e.deed)) (sym none.0) tt
-    | inr one ↦ subst (AllByRecursion (λ (e : Entry). IsWork e.deed)) (sym one.0) (tt, tt)
-  ];
-}
-halt_works descs b i kind outcome.Settled b' same stands h = absurd h
-halt_works descs b i kind (outcome.Unsettled names) b' same stands h = absurd h
-halt_works descs b i kind outcome.Cleaned b' same stands h = absurd h
+called_failed : (i : Item) (h : Handed) (a b : List Told) (name : List ℕ) → WereDone (Called i h (Err fault.Failed) ∷ []) a b → list_any (bytes_eq i.command.builder) (map (λ t. t.named) a) ≡ true
+    → HaveRisen name (cond (bytes_eq i.command.builder name) 1 0) a b
+called_failed i h a b name done there =
+    subst (HaveRisen name (cond (bytes_eq i.command.builder name) 1 0) a) (sym done.2) (failed_risen i.command.builder (Built i.command h) a done.0 name done.1.0 (done.1.1 refl) there)
 
-round_works : (ms : Meanings) (descs : Descs) (b : Book) (kind : BuildKind) (is : List Item) (o : BuildOutcome) (b' : Book) → b.now.descs ≡ descs → AllByRecursion (Stands descs) is → RoundHalts ms b kind is o b' → Works b b'
+halt_works : (ms : Meanings) (descs : Descs) (b : Book) (i : Item) (kind : BuildKind) (o : BuildOutcome) (b' : Book) → b.now.descs ≡ descs → Stands descs i → Halts b i kind o b' → Works ms o b b'
+halt_works ms descs b i kind (outcome.BuilderFailed p n) b' same stands h =
+    let place : command_at h.0.descs i.project i.index ≡ Some i.command = due_asked descs h.0.descs i (h.1.descs ∙ same) stands in record {
+      entries = handing h.0 i kind ∷ [];
+      done = Called i (due h.0 i kind) (Err fault.Failed) ∷ [];
+      adds = h.5;
+      asked = ap (λ (o : Option Command). calls_for o (λ c. Built c (due h.0 i kind)) ++ []) place;
+      work = (tt, tt);
+      good = λ last. (record { right = tt; told = tt }, tt);
+      told = λ last. subst (λ (o : Option Command). IsSomeAnd (option_or (option_map (handing_of i.project i.index (due h.0 i kind)) o) last) (IsOf (p, n))) (sym place) (sym h.3, sym h.4);
+      risen = λ listed last name.
+          subst (λ (o : Option Command). HaveRisen name (failure name (Some (p, n)) (option_or (option_map (handing_of i.project i.index (due h.0 i kind)) o) last)) b.told b'.told) (sym place)
+          (called_failed i (due h.0 i kind) b.told b'.told name h.5.done (ap (λ (f : List ℕ → Bool). f i.command.builder) (sym listed) ∙ h.2));
+    }
+halt_works ms descs b i kind (outcome.Refused n) b' same stands h = works_of ms (outcome.Refused n) refl b b' _ _ h.6
+    (ap (λ (o : Option Command). calls_for o (λ c. Built c (due h.0 i kind)) ++ []) (due_asked descs h.0.descs i (h.3.descs ∙ same) stands)) (tt, (tt, tt))
+    (λ last. (record { right = tt; told = tt }, (record { right = tt; told = tt }, tt)))
+halt_works ms descs b i kind outcome.NoMemory b' same stands h = works_of ms outcome.NoMemory refl b b' h.0 h.1 h.2
+    (elim h.4 [
+      | inl none ↦ ap (flat_map asked) none.0 ∙ sym (ap (map call_of) none.1)
+      | inr one ↦ ap (flat_map asked) one.0
+          ∙ ap (λ (o : Option Command). calls_for o (λ c. Built c (due b'.now i kind)) ++ []) (due_asked descs b'.now.descs i (h.3.descs ∙ same) stands)
+          ∙ sym (ap (map call_of) one.1.1)
+    ])
+    (elim h.4 [
+      | inl none ↦ subst (AllByRecursion (λ (e : Entry). IsWork e.deed)) (sym none.0) tt
+      | inr one ↦ subst (AllByRecursion (λ (e : Entry). IsWork e.deed)) (sym one.0) (tt, tt)
+    ])
+    (λ last. elim h.4 [
+      | inl none ↦ subst (AreGood ms last) (sym none.0) tt
+      | inr one ↦ subst (AreGood ms last) (sym one.0) (record { right = tt; told = tt }, tt)
+    ])
+halt_works ms descs b i kind outcome.Settled b' same stands h = absurd h
+halt_works ms descs b i kind (outcome.Unsettled names) b' same stands h = absurd h
+halt_works ms descs b i kind outcome.Cleaned b' same stands h = absurd h
+
+round_works : (ms : Meanings) (descs : Descs) (b : Book) (kind : BuildKind) (is : List Item) (o : BuildOutcome) (b' : Book) → b.now.descs ≡ descs → AllByRecursion (Stands descs) is → RoundHalts ms b kind is o b' → Works ms o b b'
 round_works ms descs b kind is o b' same stands h =
     let all : AllByRecursion (Stands descs) (h.next.front ++ h.at ∷ h.next.rest) = subst (AllByRecursion (Stands descs)) h.next.are stands in
-    works_more b h.book b'
+    works_more ms o b h.book b'
     (ran_works ms descs b h.book h.front same (of_round (Stands descs) kind h.next.front h.front h.next.round (all_front (Stands descs) h.next.front (h.at ∷ h.next.rest) all)) h.ran)
-    (halt_works descs h.book h.at kind o b' (ran_descs ms b h.book h.front h.ran ∙ same) (all_back (Stands descs) h.next.front (h.at ∷ h.next.rest) all).0 h.halts)
+    (halt_works ms descs h.book h.at kind o b' (ran_descs ms b h.book h.front h.ran ∙ same) (all_back (Stands descs) h.next.front (h.at ∷ h.next.rest) all).0 h.halts)
 
-group_works : (ms : Meanings) (descs : Descs) (b : Book) (kind : BuildKind) (g : List Project) (o : BuildOutcome) (b' : Book) → b.now.descs ≡ descs → AllByRecursion (Stands descs) (items_of g) → GroupHalts ms b kind g o b' → Works b b'
+no_failure : (o : BuildOutcome) (names : Names) → (o ≡ outcome.Unsettled names) ⊎ (o ≡ outcome.NoMemory) → failed_in o ≡ None
+no_failure o names (inl is) = ap failed_in is
+no_failure o names (inr is) = ap failed_in is
+
+group_works : (ms : Meanings) (descs : Descs) (b : Book) (kind : BuildKind) (g : List Project) (o : BuildOutcome) (b' : Book) → b.now.descs ≡ descs → AllByRecursion (Stands descs) (items_of g) → GroupHalts ms b kind g o b' → Works ms o b b'
 group_works ms descs b kind [] o b' same stands h = absurd h
 group_works ms descs b kind (p ∷ []) o b' same stands h = round_works ms descs b kind (items_of (p ∷ [])) o b' same stands h
 group_works ms descs b kind (p ∷ q ∷ ps) o b' same stands h =
-    let mid : Works b h.book = ran_works ms descs b h.book (flat_map (λ r. r) h.rounds) same (of_stirred (Stands descs) kind (items_of (p ∷ q ∷ ps)) h.rounds h.stirs stands) h.ran in
+    let mid : Works ms outcome.Settled b h.book = ran_works ms descs b h.book (flat_map (λ r. r) h.rounds) same (of_stirred (Stands descs) kind (items_of (p ∷ q ∷ ps)) h.rounds h.stirs stands) h.ran in
     elim h.ends [
-      | inl part ↦ works_more b h.book b' mid (round_works ms descs h.book _ (items_of (p ∷ q ∷ ps)) o b' (ran_descs ms b h.book (flat_map (λ r. r) h.rounds) h.ran ∙ same) stands part.1)
-      | inr part ↦ works_more b h.book b' mid (works_none h.book b' part.1)
+      | inl part ↦ works_more ms o b h.book b' mid (round_works ms descs h.book _ (items_of (p ∷ q ∷ ps)) o b' (ran_descs ms b h.book (flat_map (λ r. r) h.rounds) h.ran ∙ same) stands part.1)
+      | inr part ↦ works_more ms o b h.book b' mid (works_none ms o (no_failure o (map (λ x. x.0) (p ∷ q ∷ ps)) part.2) h.book b' part.1)
     ]
 
 planned_groups : (descs : Descs) (order : List Project) (knots : List Names) (gs : List (List Project)) → IsPlanned descs order knots gs → AllByRecursion (IsDescribed descs) (flat_map (λ g. g) gs)
 planned_groups descs order knots gs plan = subst (AllByRecursion (IsDescribed descs)) plan.ordered plan.described
 
-came_works : (ms : Meanings) (b : Book) (kind : BuildKind) (order : List Project) (knots : List Names) (b' : Book) → AllCame ms b kind order knots b' → Works b b'
+came_works : (ms : Meanings) (b : Book) (kind : BuildKind) (order : List Project) (knots : List Names) (b' : Book) → AllCame ms b kind order knots b' → Works ms outcome.Settled b b'
 came_works ms b kind order knots b' h = ran_works ms b.now.descs b b' h.turns refl (of_built b.now.descs kind h.groups h.turns h.built (planned_groups b.now.descs order knots h.groups h.planned)) h.ran
 
-all_works : (ms : Meanings) (b : Book) (kind : BuildKind) (order : List Project) (knots : List Names) (o : BuildOutcome) (b' : Book) → AllHalt ms b kind order knots o b' → Works b b'
+all_works : (ms : Meanings) (b : Book) (kind : BuildKind) (order : List Project) (knots : List Names) (o : BuildOutcome) (b' : Book) → AllHalt ms b kind order knots o b' → Works ms o b b'
 all_works ms b kind order knots o b' h =
-    works_more b h.book b'
+    works_more ms o b h.book b'
     (ran_works ms b.now.descs b h.book h.turns refl (of_built b.now.descs kind h.front h.turns h.built (all_front (IsDescribed b.now.descs) (flat_map (λ g. g) h.front) (flat_map (λ g. g) (h.group ∷ h.rest)) described)) h.ran)
     (group_works ms b.now.descs h.book kind h.group o b' (ran_descs ms b h.book h.turns h.ran)
     (items_stand b.now.descs h.group (all_front (IsDescribed b.now.descs) h.group (flat_map (λ g. g) h.rest) (all_back (IsDescribed b.now.descs) (flat_map (λ g. g) h.front) (flat_map (λ g. g) (h.group ∷ h.rest)) described))) h.halts)
@@ -240,7 +303,7 @@ all_works ms b kind order knots o b' h =
     described : AllByRecursion (IsDescribed b.now.descs) (flat_map (λ g. g) h.front ++ flat_map (λ g. g) (h.group ∷ h.rest))
     described = subst (AllByRecursion (IsDescribed b.now.descs)) (flat_append (λ g. g) h.front (h.group ∷ h.rest)) (planned_groups b.now.descs order knots (h.front ++ h.group ∷ h.rest) h.planned)
 
-built_works : (ms : Meanings) (b : Book) (kind : BuildKind) (plan : Plan) (o : BuildOutcome) (b' : Book) → BuiltTo ms b kind plan o b' → Works b b'
+built_works : (ms : Meanings) (b : Book) (kind : BuildKind) (plan : Plan) (o : BuildOutcome) (b' : Book) → BuiltTo ms b kind plan o b' → Works ms o b b'
 built_works ms b kind plan outcome.Settled b' h = came_works ms b kind plan.order plan.knots b' h
 built_works ms b kind plan (outcome.Unsettled names) b' h = all_works ms b kind plan.order plan.knots _ b' h
 built_works ms b kind plan (outcome.BuilderFailed p n) b' h = all_works ms b kind plan.order plan.knots _ b' h
@@ -264,26 +327,26 @@ sweep_work [] = tt
 sweep_work (Passed i found ∷ xs) = (tt, sweep_work xs)
 sweep_work (Swept i found next ∷ xs) = (tt, sweep_work xs)
 
-swept_works : (descs : Descs) (b b' : Book) (is : List Item) → b.now.descs ≡ descs → AllByRecursion (Stands descs) is → WereSwept b is b' → Works b b'
-swept_works descs b b' is same stands h = record {
-  entries = flat_map sweep_entries h.sweeps;
-  done = flat_map sweep_calls h.sweeps;
-  adds = h.adds;
-  asked = sweep_asked b.has descs b.now h.sweeps same (subst (AllByRecursion (Stands descs)) (sym h.items) stands) h.are;
-  work = sweep_work h.sweeps;
-}
+sweep_good : (ms : Meanings) (xs : List Sweep) (last : Option Handing) → AreGood ms last (flat_map sweep_entries xs)
+sweep_good ms [] last = tt
+sweep_good ms (Passed i found ∷ xs) last = (record { right = tt; told = tt }, sweep_good ms xs last)
+sweep_good ms (Swept i found next ∷ xs) last = (record { right = tt; told = tt }, sweep_good ms xs last)
 
-swept_to_works : (b : Book) (order : List Project) (o : BuildOutcome) (b' : Book) → AllByRecursion (IsDescribed b.now.descs) order → SweptTo b order o b' → Works b b'
-swept_to_works b order outcome.Cleaned b' described h = swept_works b.now.descs b b' (items_of order) refl (items_stand b.now.descs order described) h
-swept_to_works b order outcome.NoMemory b' described h =
-    swept_works b.now.descs b b' h.front refl (all_front (Stands b.now.descs) h.front h.rest (subst (AllByRecursion (Stands b.now.descs)) h.all (items_stand b.now.descs order described))) h.swept
-swept_to_works b order outcome.Settled b' described h = absurd h
-swept_to_works b order (outcome.Unsettled names) b' described h = absurd h
-swept_to_works b order (outcome.BuilderFailed p n) b' described h = absurd h
-swept_to_works b order (outcome.Refused n) b' described h = absurd h
+swept_works : (ms : Meanings) (o : BuildOutcome) → failed_in o ≡ None → (descs : Descs) (b b' : Book) (is : List Item) → b.now.descs ≡ descs → AllByRecursion (Stands descs) is → WereSwept b is b' → Works ms o b b'
+swept_works ms o none descs b b' is same stands h = works_of ms o none b b' (flat_map sweep_entries h.sweeps) (flat_map sweep_calls h.sweeps) h.adds
+    (sweep_asked b.has descs b.now h.sweeps same (subst (AllByRecursion (Stands descs)) (sym h.items) stands) h.are) (sweep_work h.sweeps) (sweep_good ms h.sweeps)
 
-pub went_works : (ms : Meanings) (b : Book) (kind : BuildKind) (plan : Plan) (o : BuildOutcome) (b' : Book) → AllByRecursion (IsDescribed b.now.descs) plan.order → WentTo ms b kind plan o b' → Works b b'
+swept_to_works : (ms : Meanings) (b : Book) (order : List Project) (o : BuildOutcome) (b' : Book) → AllByRecursion (IsDescribed b.now.descs) order → SweptTo b order o b' → Works ms o b b'
+swept_to_works ms b order outcome.Cleaned b' described h = swept_works ms outcome.Cleaned refl b.now.descs b b' (items_of order) refl (items_stand b.now.descs order described) h
+swept_to_works ms b order outcome.NoMemory b' described h =
+    swept_works ms outcome.NoMemory refl b.now.descs b b' h.front refl (all_front (Stands b.now.descs) h.front h.rest (subst (AllByRecursion (Stands b.now.descs)) h.all (items_stand b.now.descs order described))) h.swept
+swept_to_works ms b order outcome.Settled b' described h = absurd h
+swept_to_works ms b order (outcome.Unsettled names) b' described h = absurd h
+swept_to_works ms b order (outcome.BuilderFailed p n) b' described h = absurd h
+swept_to_works ms b order (outcome.Refused n) b' described h = absurd h
+
+pub went_works : (ms : Meanings) (b : Book) (kind : BuildKind) (plan : Plan) (o : BuildOutcome) (b' : Book) → AllByRecursion (IsDescribed b.now.descs) plan.order → WentTo ms b kind plan o b' → Works ms o b b'
 went_works ms b Full plan o b' described h = built_works ms b Full plan o b' h
 went_works ms b Auto plan o b' described h = built_works ms b Auto plan o b' h
 went_works ms b Incremental plan o b' described h = built_works ms b Incremental plan o b' h
-went_works ms b Clean plan o b' described h = swept_to_works b plan.order o b' described h
+went_works ms b Clean plan o b' described h = swept_to_works ms b plan.order o b' described h

@@ -2,3 +2,4 @@ pub mod Events
 pub mod Calls
 pub mod Settled
 pub mod Dues
+pub mod Handings

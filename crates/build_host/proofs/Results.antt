@@ -1,13 +1,10 @@
 -- What calls of the host leave, by what they answered.
-use Rattle.std.proofs.Common.{◌≡◌, ◌⊎◌, inl, inr, ℕ, ◌+◌, ◌≤◌, zero, suc, Bool, true, false, ◌||◌, cond, List, [], ◌∷◌, map, length, Option, Some, None, Result, Ok, Err, refl, sym, ap, ◌∙◌, subst, arith, length-append}
-use Rattle.std.specs.Prelude.{is_some, IfOk, IfSome, OnOk, OnErr, MatchOption}
-use Rattle.std.specs.List.{list_any, position_from}
-use Rattle.std.specs.Str.{bytes_eq}
+use Rattle.std.proofs.Common.{◌≡◌, ◌⊎◌, inl, inr, ℕ, ◌≤◌, Bool, true, false, List, length, Option, Some, None, Result, Ok, Err, refl, sym, ap, ◌∙◌, subst, arith, length-append}
+use Rattle.std.specs.Prelude.{is_some, IfOk, IfSome, OnOk, OnErr}
 use Rattle.builder_api.specs.declared.edits.Edits.{Edits}
 use Rattle.builder_api.specs.declared.kind.BuildKind.{BuildKind}
 use Rattle.builder_api.specs.declared.outcome.BuildOutcome.{BuildOutcome}
-use Rattle.builder_api.specs.Told.{Call, Told, WasCalledAt, WasFirstCalled, place_named}
-use Rattle.builder_api.proofs.Places.{itself, same_name}
+use Rattle.builder_api.specs.Told.{Told}
 use Rattle.build_laws.specs.States.{Item, IsItem}
 use Rattle.build_plan.specs.Descriptions.{desc_at}
 use Rattle.build_run.specs.declared.answers.Started.{Started}
@@ -99,37 +96,6 @@ handed_answered s k i kind may it h = by (has_builder s.desk.builders i) refl
     by : (b : Bool) → has_builder s.desk.builders i ≡ b → ⊥
     by true there = let got = sym (ap given_of (handed_present s k i kind it (it_serves s.manager k may) (is_rooted s.manager k may) there).answer) ∙ h in cc
     by false away = let got = sym (ap given_of (handed_missing s k i kind it (it_serves s.manager k may) (is_rooted s.manager k may) away).answer) ∙ h in cc
-
--- ---- builders
-
-none_placed : (n : List ℕ) (k : ℕ) (told : List Told) → position_from (λ b. bytes_eq b.named n) k told ≡ None → list_any (bytes_eq n) (map (λ b. b.named) told) ≡ true → ⊥
-none_placed n k [] h any = cc
-none_placed n k (b ∷ told) h any = by (bytes_eq b.named n) (bytes_eq n b.named) (none_placed n (k + 1) told) refl refl h any
-  where
-    by : (p q : Bool) → (position_from (λ x. bytes_eq x.named n) (k + 1) told ≡ None → list_any (bytes_eq n) (map (λ x. x.named) told) ≡ true → ⊥) → bytes_eq b.named n ≡ p → bytes_eq n b.named ≡ q → cond p (Some k) (position_from (λ x. bytes_eq x.named n) (k + 1) told) ≡ None
-        → (q || list_any (bytes_eq n) (map (λ x. x.named) told)) ≡ true → ⊥
-    by true q later is other g a = cc
-    by false true later is other g a = let same : n ≡ b.named = same_name n b.named other in let no = sym is ∙ ap (λ z. bytes_eq z n) (sym same) ∙ itself n in cc
-    by false false later is other g a = later g a
-
--- one of the builders has the name
-pub builder_placed : (n : List ℕ) (names : List (List ℕ)) (told : List Told) → names ≡ map (λ b. b.named) told → list_any (bytes_eq n) names ≡ true → place_named n told ≡ None → ⊥
-builder_placed n names told named there none = none_placed n 0 told none (ap (list_any (bytes_eq n)) (sym named) ∙ there)
-
-names_at : (at : ℕ) (call : Call) (old new : List Told) → WasCalledAt at call old new → map (λ b. b.named) new ≡ map (λ b. b.named) old
-names_at at call [] [] h = refl
-names_at at call [] (y ∷ ys) h = absurd h
-names_at at call (x ∷ xs) [] h = absurd h
-names_at zero call (x ∷ xs) (y ∷ ys) h = λ i. h.0.named i ∷ map (λ b. b.named) (h.1 i)
-names_at (suc at) call (x ∷ xs) (y ∷ ys) h = λ i. (h.0 i).named ∷ names_at at call xs ys h.1 i
-
--- a call leaves the names
-pub called_names : (n : List ℕ) (call : Call) (old new : List Told) → WasFirstCalled n call old new → map (λ b. b.named) new ≡ map (λ b. b.named) old
-called_names n call old new h = by (place_named n old) h
-  where
-    by : (o : Option ℕ) → MatchOption o (new ≡ old) (λ at. WasCalledAt at call old new) → map (λ b. b.named) new ≡ map (λ b. b.named) old
-    by None g = ap (map (λ b. b.named)) g
-    by (Some at) g = names_at at call old new g
 
 -- ---- histories that grow
 

@@ -18,6 +18,7 @@ use Rattle.build_run.specs.declared.answers.Started.{Started}
 use Rattle.build_core.specs.Histories.{started_of, Steps}
 use Rattle.build_history.specs.Events.{IsOwn}
 use Rattle.build_history.specs.Calls.{calls, WereCalled}
+use Rattle.build_history.specs.Handings.{AnswersHandings, Handing}
 use Rattle.build_history.specs.Settled.{AreSound, KeepsBuilt}
 use Rattle.run_order.specs.Alone.{IsSingle}
 use Rattle.run_order.specs.Counts.{left}
@@ -71,6 +72,8 @@ pub record Serves (ms : Meanings) (x y : Session) (old new : List Told) : Type 0
   -- the builders are the same ones, and were called for what the entries hand and clean
   pub stays : StayBuilders ms old new
   pub called : WereCalled (calls (reached x) entries) old new
+  -- what they commit is right for what was handed last, and what they tell of failures is so, whatever was handed before
+  pub answers : (last : Option Handing) → AnswersHandings ms last (reached x) entries old new
   -- from sound records on each build that settled left what it must, and records are sound again
   pub keeps : AreSound ms (reached x) → KeepsBuilt ms (reached x) (reached y) entries
 

@@ -10,6 +10,7 @@ use Rattle.ws_core.specs.Histories.{replay}
 use Rattle.build_history.specs.Calls.{calls, WereCalled}
 use Rattle.build_history.specs.Events.{IsOwn, NoServices}
 use Rattle.build_history.proofs.Calls.{called_append, called_none, calls_append, no_calls}
+use Rattle.build_history.proofs.Handings.{answers_on, plain_answers}
 use Rattle.build_history.proofs.Names.{replay_append}
 use Rattle.build_history.proofs.Settling as settling
 use Rattle.build_history.proofs.Settling.{plain_keeps}
@@ -76,10 +77,11 @@ serves_on ms x y z a b c p q =
       called = subst (λ cs. WereCalled cs a c)
           (sym (calls_append (reached x) p.entries q.entries ∙ ap (λ s. calls (reached x) p.entries ++ calls s q.entries) (sym on)))
           (called_append (calls (reached x) p.entries) (calls (reached y) q.entries) a b c p.called q.called);
+      answers = λ last. answers_on ms last (reached x) (reached y) p.entries q.entries a b c on p.stays.names (p.answers last) q.answers;
       keeps = λ sound. settling.keeps_on ms (reached x) (reached y) (reached z) p.entries q.entries on (p.keeps sound) (q.keeps (p.keeps sound).sound);
     }
 
--- without an event of the services no builder is called, and no build settles
+-- without an event of the services no builder is called or fails, nothing is committed, and no build settles
 pub serves_quietly : (ms : Meanings) (x y : Session) (told : List Told) (l : List Entry) → y.opened ≡ x.opened → y.history ≡ x.history ++ l → NoServices l → Serves ms x y told told
 serves_quietly ms x y told l o h quiet = record {
   opened = o;
@@ -87,6 +89,7 @@ serves_quietly ms x y told l o h quiet = record {
   history = h;
   stays = builders_stay ms told;
   called = called_none (calls (reached x) l) told (no_calls (reached x) l quiet);
+  answers = λ last. plain_answers ms last (reached x) l told quiet;
   keeps = plain_keeps ms (reached x) (reached y) l (went_on x y l o h) quiet;
 }
 

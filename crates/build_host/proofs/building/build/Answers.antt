@@ -18,4 +18,4 @@ returns-clause-home g c = home_of c.hosted-answer.result g.M.Meanings.meaning c.
 
 pub returns-clause-serves : goal.returns-clause-serves
 returns-clause-serves g c = serves_built g.M.Meanings.meaning c.args.core.now c.hosted-answer.new.core (map (λ b. g.B.Builder.tells b) c.args.builders.now) (map (λ b. g.B.Builder.tells b) c.hosted-answer.new.builders)
-    c.hosted-answer.ensures.goes c.hosted-answer.ensures.builders c.settle.ensures.placed c.settle-2.ensures.placed c.hosted-answer.result c.args.kind (option_copied c.args.project) c.settle-2.ensures.legal c.hosted-answer.ensures.answered c.hosted-answer.ensures.unanswered
+    c.hosted-answer.ensures.goes c.hosted-answer.ensures.builders c.settle.ensures.placed c.settle-2.ensures.placed c.hosted-answer.result c.args.kind (option_copied c.args.project) c.requires.named c.settle-2.ensures.legal c.hosted-answer.ensures.answered c.hosted-answer.ensures.unanswered

@@ -4,7 +4,8 @@ use Rattle.builder_api.specs.Told.{WasFirstCalled}
 use Rattle.builder_api.specs.Told as calls
 use Rattle.build_laws.specs.States.{item}
 use Rattle.build_host.proofs.Clearing.{clears}
-use Rattle.build_host.proofs.Results.{called_names, longer, none_some}
+use Rattle.build_history.proofs.Counts.{called_names}
+use Rattle.build_host.proofs.Results.{longer, none_some}
 use Rattle.build_host.proofs.host.WorkerHostHost.clean.Goals as goal
 
 pub returns-then-is_none-clause-stays : goal.returns-then-is_none-clause-stays

@@ -1,6 +1,6 @@
 use Rattle.std.proofs.Common.{map, refl}
+use Rattle.build_history.proofs.Counts.{builder_placed, called_names}
 use Rattle.build_host.specs.Laws.{goes_itself}
-use Rattle.build_host.proofs.Results.{builder_placed, called_names}
 use Rattle.build_host.proofs.host.WorkerHostHost.run.Goals as goal
 
 pub unreachable-requires : goal.unreachable-requires
