@@ -139,15 +139,20 @@ fn drawn_pass(rt: &(impl Abort + AllocGlobal), both: &mut Both, drawn: &mut Draw
     let Ok(place) = usize::try_from(draw(drawn, 4)) else {
         return 0;
     };
-    let Some(pass) = drawn.passes.get_mut(place) else {
-        return 0;
+    let pass = match drawn.passes.get(place) {
+        Some(pass) => *pass,
+        None => 0,
     };
-    if !both.layered.has_entered(*pass) {
-        drawn.entered = drawn.entered.wrapping_add(1);
-        *pass = drawn.entered;
-        drop(told_by_both(rt, both, 0, "enter"));
+    if both.layered.has_entered(pass) {
+        return pass;
     }
-    *pass
+    drop(told_by_both(rt, both, 0, "enter"));
+    let entered = drawn.entered.wrapping_add(1);
+    drawn.entered = entered;
+    if let Some(pass) = drawn.passes.get_mut(place) {
+        *pass = entered;
+    }
+    entered
 }
 
 fn play_one(rt: &(impl Abort + AllocGlobal), both: &mut Both, drawn: &mut Drawn) {

@@ -1,4 +1,7 @@
 //! Events done on two cores: one over a tree with layers, and one over a tree that is copied.
+ghost use Rattle.std.specs.Prelude.{◌≡◌, true};
+ghost use Rattle.ws_core.specs.Histories.{has_entered};
+
 use crate::asserting::{holds, must};
 use crate::events::event;
 use core_event::Entry;
@@ -41,25 +44,38 @@ fn lines(rt: &(impl Abort + AllocGlobal), entry: &Entry) -> Vec<u8> {
     out
 }
 
-/// Does the event of a pass, and gives the lines of what is answered and told, with one more where no entry is left. None
-/// are given of a pass that isn't there.
+/// Does the event of a pass that is there, and gives the lines of what is answered and told, with one more where no entry is
+/// left.
+fn step<T: Remembers + Drop>(
+    rt: &(impl Abort + AllocGlobal),
+    core: &mut Core<T>,
+    pass: u64,
+    text: &str,
+) -> Vec<u8>
+    requires { has_entered pass core.old.state ≡ true }
+{
+    let entries = core.history().len();
+    let reply = must(rt, core.step(rt.alloc(), pass, event(rt, text)));
+    let is_left = core.history().len() > entries;
+    let event = event(rt, text);
+    let mut out = lines(rt, &Entry { pass, event, reply });
+    if !is_left {
+        must(rt, put_text(&mut out, "no entry\n"));
+    }
+    out
+}
+
+/// The same of any pass: none where it isn't there.
 fn done<T: Remembers + Drop>(
     rt: &(impl Abort + AllocGlobal),
     core: &mut Core<T>,
     pass: u64,
     text: &str,
 ) -> Vec<u8> {
-    if !core.has_entered(pass) {
-        return Vec::new(rt.alloc());
+    if core.has_entered(pass) {
+        return step(rt, core, pass, text);
     }
-    let entries = core.history().len();
-    let reply = must(rt, core.step(rt.alloc(), pass, event(rt, text)));
-    let event = event(rt, text);
-    let mut out = lines(rt, &Entry { pass, event, reply });
-    if core.history().len() == entries {
-        must(rt, put_text(&mut out, "no entry\n"));
-    }
-    out
+    Vec::new(rt.alloc())
 }
 
 /// What both answer and tell alike.
