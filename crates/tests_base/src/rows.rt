@@ -14,7 +14,6 @@ pub struct Row<'a> {
     pub one: &'a str,
     pub two: &'a str,
     pub three: &'a str,
-    pub four: &'a str,
 }
 
 /// What stands before and behind the first mark; all and nothing where there is none.
@@ -29,15 +28,13 @@ fn row_of(line: &str) -> Row<'_> {
     let (word, rest) = cut(line, '|');
     let (gives, rest) = cut(rest, '|');
     let (one, rest) = cut(rest, '|');
-    let (two, rest) = cut(rest, '|');
-    let (three, four) = cut(rest, '|');
+    let (two, three) = cut(rest, '|');
     Row {
         word,
         gives,
         one,
         two,
         three,
-        four,
     }
 }
 

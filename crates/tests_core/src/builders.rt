@@ -1,28 +1,28 @@
-//! Builders of a caller's own: one that fails once, and one whose edits are refused.
+//! Builders of a caller's own: those that give no edits once, and one whose edits are refused.
 ghost use Rattle.std.specs.Prelude.{None};
 
 use crate::asserting::{let_go, must, reads, same};
-use crate::listening::Note;
-use builder_api::{BuildFault, Builder, Builders, Edits, FileEdits, Handed, Problems, Silent};
+use crate::running::{run, source};
+use builder_api::{BuildFault, Builder, Edits, FileEdits, Handed, Problems};
 use bytes::Bytes;
 use proj_desc::Command;
 use res_path::{Name, NoMemory, Path};
 use std::alloc::{AllocError, Global};
 use std::process::Abort;
-use ws_outside::{MemSink, MemSource};
-use ws_top::{Kit, Listeners, top};
+use ws_outside::MemSink;
 
-/// A builder that puts a file, and one below it where it nests them, but at its third call, at which it fails.
+/// A builder that puts files at these paths, but at its third call, at which it answers the fault.
 #[derive(Drop)]
-struct Thrice {
+pub struct Asked {
     alloc: Global,
     name: Name,
-    nests: bool,
+    paths: &'static str,
+    fault: BuildFault,
     calls: u64,
     faults: u64,
 }
 
-impl Builder for Thrice {
+impl Builder for Asked {
     ghost tells = { λ b. record { named = b.name; means = None; calls = None; faults = b.faults } };
 
     fn name(&self) -> &str {
@@ -33,9 +33,9 @@ impl Builder for Thrice {
         self.calls = self.calls.saturating_add(1);
         if self.calls == 3 {
             self.faults = self.faults.saturating_add(1);
-            return Err(BuildFault::Failed);
+            return Err(self.fault);
         }
-        Ok(edits(self.alloc, if self.nests { "/a /a/b" } else { "/a" })?)
+        Ok(edits(self.alloc, self.paths)?)
     }
 
     fn clean(&mut self) {}
@@ -56,16 +56,30 @@ fn edits(alloc: Global, paths: &str) -> Result<Edits, NoMemory> {
     })
 }
 
-fn builder(rt: &(impl Abort + AllocGlobal), name: &str, nests: bool) -> Thrice {
-    Thrice {
-        alloc: rt.alloc(),
-        name: must(rt, Name::parse(rt.alloc(), name)),
-        nests,
-        calls: 0,
-        faults: 0,
+/// Their names, the paths of their files, and how they fail.
+const BUILDERS: [(&str, &str, BuildFault); 3] = [
+    ("failing", "/a", BuildFault::Failed),
+    ("wanting", "/a", BuildFault::Memory),
+    ("nested", "/a /a/b", BuildFault::Failed),
+];
+
+fn builders(rt: &(impl Abort + AllocGlobal)) -> Vec<Asked> {
+    let mut builders = Vec::new(rt.alloc());
+    for (name, paths, fault) in BUILDERS {
+        let builder = Asked {
+            alloc: rt.alloc(),
+            name: must(rt, Name::parse(rt.alloc(), name)),
+            paths,
+            fault,
+            calls: 0,
+            faults: 0,
+        };
+        must(rt, builders.push(builder));
     }
+    builders
 }
 
+/// `@` stands for a builder's name.
 const SCRIPT: &str = "phase
 job j 30 path /
 create project /P
@@ -73,7 +87,7 @@ create folder /P/src
 create file /P/src/a 1
 create folder /P/out
 create file /P/out/k kept
-describe /P \"{\\\"commands\\\":[{\\\"builder\\\":\\\"thrice\\\",\\\"inputs\\\":[\\\"src\\\"],\\\"output\\\":\\\"out\\\"}]}\"
+describe /P \"{\\\"commands\\\":[{\\\"builder\\\":\\\"@\\\",\\\"inputs\\\":[\\\"src\\\"],\\\"output\\\":\\\"out\\\"}]}\"
 build incr
 write /P/src/a 2
 build incr
@@ -88,8 +102,8 @@ endjob
 endphase
 ";
 
-/// The builds, with what is handed. The third call fails, and the fourth is handed what that was. What the other builder
-/// answers puts a file above another, and nothing of it is done.
+/// The builds, with what is handed. The third call gives no edits, for which `@` stands, and the fourth is handed what that
+/// was. What the other builder answers puts a file above another, and nothing of it is done.
 const BUILDS: &str = "p1 handed /P 0 10 -> none
 p1 commit /P 0 -> touched 1 problems 0
 p1 checkin settled -> ok
@@ -103,7 +117,7 @@ p1 handed /P 0 10 -> delta
   /P *
   /P/src *
   /P/src/a * CONTENT
-p1 checkin failed /P 0 -> ok
+p1 checkin @ -> ok
 p1 handed /P 0 10 -> delta
   /P *
   /P/src *
@@ -119,27 +133,11 @@ p1 cat /P/out/k -> kept
 
 /// What the program writes of the script.
 fn written(rt: &(impl Abort + AllocGlobal), script: &str) -> Vec<u8> {
-    let mut words = Vec::new(rt.alloc());
-    for word in ["run", "a", "b"] {
-        must(rt, words.push(must(rt, String::from_str(rt.alloc(), word))));
-    }
-    let mut builders = Vec::new(rt.alloc());
-    must(rt, builders.push(builder(rt, "thrice", false)));
-    must(rt, builders.push(builder(rt, "nested", true)));
-    let kit = Kit {
-        builders: Builders::of(builders),
-        listeners: Listeners::<Note>::of(Vec::new(rt.alloc())),
-    };
-    let text = must(rt, String::from_str(rt.alloc(), script));
-    let mut source = MemSource::new(rt.alloc(), text.into_bytes());
+    let mut source = source(rt, script);
     let mut sink = MemSink::new(rt.alloc());
-    let outcome = top::<MemSource, MemSink, Note, Thrice, Silent>(
-        rt.alloc(),
-        words.as_slice(),
-        &mut source,
-        &mut sink,
-        kit,
-    );
+    let listeners = Vec::new(rt.alloc());
+    let builders = builders(rt);
+    let outcome = run(rt, "run a b", &mut source, &mut sink, builders, listeners);
     same(rt, "status", outcome.status, 0);
     let_go(outcome);
     let mut out = Vec::new(rt.alloc());
@@ -164,9 +162,14 @@ fn builds(rt: &(impl Abort + AllocGlobal), text: &[u8]) -> String {
     out
 }
 
+/// The status is 0 also where the builder answers that memory wants: the build alone has ended.
 #[test]
-fn a_builder_that_fails_and_one_that_is_refused(rt: HostRuntime) {
-    let text = written(&rt, SCRIPT);
-    let found = builds(&rt, text.as_slice());
-    reads(&rt, "builds", found.as_str().as_bytes(), BUILDS);
+fn builders_that_give_no_edits_and_one_that_is_refused(rt: HostRuntime) {
+    for (name, outcome) in [("failing", "failed /P 0"), ("wanting", "no-memory")] {
+        let script = must(&rt, SCRIPT.replace(rt.alloc(), "@", name));
+        let text = written(&rt, script.as_str());
+        let found = builds(&rt, text.as_slice());
+        let wanted = must(&rt, BUILDS.replace(rt.alloc(), "@", outcome));
+        reads(&rt, name, found.as_str().as_bytes(), wanted.as_str());
+    }
 }

@@ -1,10 +1,10 @@
-//! Tests of the operations, scripts, texts and the program, over what these crates offer. What their rows give
+//! Tests of the operations, scripts, texts and the program, of what no script can show. What their rows give
 //! was worked by hand.
 //!
 //! - `asserting`: the assertions.
 //! - `rows`: rows of tables, each of a command and what it gives.
+//! - `running`: runs of the program in memory.
 //! - `builders`: builders of a caller's own.
-//! - `builds`: builds of scripts drawn at random, against builds from nothing.
 //! - `copies`: copies of what was done.
 //! - `listening`: listeners of the program.
 //! - `operations`: operations over a tree, and the way back before each.
@@ -17,8 +17,6 @@ mod asserting;
 #[cfg(test)]
 mod builders;
 #[cfg(test)]
-mod builds;
-#[cfg(test)]
 mod copies;
 #[cfg(test)]
 mod listening;
@@ -26,6 +24,8 @@ mod listening;
 mod operations;
 #[cfg(test)]
 mod rows;
+#[cfg(test)]
+mod running;
 #[cfg(test)]
 mod runs;
 #[cfg(test)]

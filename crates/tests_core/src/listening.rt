@@ -2,14 +2,14 @@
 ghost use Rattle.std.specs.Prelude.{None};
 
 use crate::asserting::{holds, let_go, must, reads, same};
-use builder_api::{Builders, Silent};
+use crate::builders::Asked;
+use crate::running::{run, source};
 use delta_kind::Delta;
 use report_text::delta_lines;
 use std::alloc::Global;
 use std::process::Abort;
-use std_builders::StandardBuilder;
-use ws_outside::{MemSink, MemSource};
-use ws_top::{Kit, Listener, Listeners, Outcome, top};
+use ws_outside::MemSink;
+use ws_top::{Listener, Outcome};
 
 /// A listener that writes down what it is told, as far as memory suffices.
 #[derive(Drop)]
@@ -29,38 +29,20 @@ impl Listener for Note {
     }
 }
 
-fn listener(rt: &impl AllocGlobal) -> Note {
-    Note {
-        text: Vec::new(rt.alloc()),
-        alloc: rt.alloc(),
-    }
-}
-
 /// What comes of the script, where two listen.
-pub fn run(rt: &(impl Abort + AllocGlobal), script: &str) -> Outcome<Note, StandardBuilder> {
+pub fn heard(rt: &(impl Abort + AllocGlobal), script: &str) -> Outcome<Note, Asked> {
     let mut listeners = Vec::new(rt.alloc());
-    must(rt, listeners.push(listener(rt)));
-    must(rt, listeners.push(listener(rt)));
-    let kit = Kit {
-        builders: Builders::<StandardBuilder>::of(Vec::new(rt.alloc())),
-        listeners: Listeners::of(listeners),
-    };
-    let mut words = Vec::new(rt.alloc());
-    for word in ["run", "a", "b"] {
-        must(rt, words.push(must(rt, String::from_str(rt.alloc(), word))));
+    for _ in 0..2_u64 {
+        let note = Note {
+            text: Vec::new(rt.alloc()),
+            alloc: rt.alloc(),
+        };
+        must(rt, listeners.push(note));
     }
-    let text = must(rt, String::from_str(rt.alloc(), script));
-    let mut source = MemSource::new(rt.alloc(), text.into_bytes());
+    let mut source = source(rt, script);
     let mut sink = MemSink::new(rt.alloc());
-    let outcome = top::<MemSource, MemSink, Note, StandardBuilder, Silent>(
-        rt.alloc(),
-        words.as_slice(),
-        &mut source,
-        &mut sink,
-        kit,
-    );
-    let_go(source);
-    let_go(sink);
+    let builders = Vec::new(rt.alloc());
+    let outcome = run(rt, "run a b", &mut source, &mut sink, builders, listeners);
     same(rt, "status", outcome.status, 0);
     outcome
 }
@@ -102,7 +84,7 @@ const TOLD: &str = "  / *
 
 #[test]
 fn each_listener_is_told_what_each_phase_changed(rt: HostRuntime) {
-    let outcome = run(&rt, SCRIPT);
+    let outcome = heard(&rt, SCRIPT);
     let Outcome { history, kit, .. } = outcome;
     let_go(history);
     let listeners = kit.listeners.into_vec();
@@ -111,7 +93,7 @@ fn each_listener_is_told_what_each_phase_changed(rt: HostRuntime) {
         reads(&rt, "told", listener.text.as_slice(), TOLD);
     }
     let_go(listeners);
-    let none = run(&rt, "");
+    let none = heard(&rt, "");
     holds(&rt, "nothing was done", none.history.is_empty());
     let_go(none);
 }

@@ -1,13 +1,10 @@
 //! The program over sources and sinks in memory.
 use crate::asserting::{let_go, must, reads};
-use crate::listening::Note;
 use crate::rows::{cut, number};
-use builder_api::{Builders, Silent};
+use crate::running;
 use report_text::{put_counted, put_text};
 use std::process::Abort;
-use std_builders::StandardBuilder;
 use ws_outside::{MemSink, MemSource};
-use ws_top::{Kit, Listeners, top};
 
 /// Words, a script, the read and the write that fail; and then the status, how many entries, reads and writes there were,
 /// and what was written. `/` ends a line. A read gives at most seven bytes, a write takes at most 14. The first script has 36
@@ -46,33 +43,16 @@ fn call(rt: &(impl Abort + AllocGlobal), number_text: &str) -> Vec<u64> {
     must(rt, vec![in rt.alloc(); number(number_text)])
 }
 
-fn words(rt: &(impl Abort + AllocGlobal), text: &str) -> Vec<String> {
-    let mut words = Vec::new(rt.alloc());
-    for word in text.split(' ') {
-        must(rt, words.push(must(rt, String::from_str(rt.alloc(), word))));
-    }
-    words
-}
-
-/// What comes of a run.
+/// What comes of a run: the status, how many entries, reads and writes there were, and what was written.
 fn run(
     rt: &(impl Abort + AllocGlobal),
     asked: &str,
     mut source: MemSource,
     mut sink: MemSink,
 ) -> Vec<u8> {
-    let words = words(rt, asked);
-    let kit = Kit {
-        builders: Builders::<StandardBuilder>::of(Vec::new(rt.alloc())),
-        listeners: Listeners::<Note>::of(Vec::new(rt.alloc())),
-    };
-    let outcome = top::<MemSource, MemSink, Note, StandardBuilder, Silent>(
-        rt.alloc(),
-        words.as_slice(),
-        &mut source,
-        &mut sink,
-        kit,
-    );
+    let builders = Vec::new(rt.alloc());
+    let listeners = Vec::new(rt.alloc());
+    let outcome = running::run(rt, asked, &mut source, &mut sink, builders, listeners);
     let mut out = Vec::new(rt.alloc());
     must(rt, put_counted(&mut out, "", u64::from(outcome.status)));
     must(rt, put_counted(&mut out, " ", outcome.history.len() as u64));

@@ -1,9 +1,7 @@
 //! Scripts are read, copied and printed.
-use crate::asserting::{holds, let_go, must, reads};
-use crate::rows::{job, job_text, script};
-use res_path::Path;
-use sched_rules::{Rule, WsAtom};
-use script_lang::{Command, ScriptRule, print, put_command};
+use crate::asserting::{let_go, must, reads};
+use crate::rows::{job_text, script};
+use script_lang::print;
 use std::process::Abort;
 
 /// Each kind of atom, as a rule is printed.
@@ -21,25 +19,6 @@ const COMMANDS: &str =
     checkpoint; begin path /P; trybegin null; end lines /P/b 0 4294967295; build full; \
     build auto /P; build incr /P; build clean";
 
-/// The commands, with a line feed between.
-fn command_lines(rt: &(impl Abort + AllocGlobal), commands: &[Command]) -> Vec<u8> {
-    let mut out = Vec::new(rt.alloc());
-    for command in commands {
-        if !out.is_empty() {
-            must(rt, out.push(b'\n'));
-        }
-        must(rt, put_command(&mut out, command));
-    }
-    out
-}
-
-/// Whether a script can name the rule of this range of lines.
-fn is_named(rt: &(impl Abort + AllocGlobal), from: u32, to: u32) -> bool {
-    let file = must(rt, Path::parse(rt.alloc(), "/P/a"));
-    let rule = must(rt, Rule::of(rt.alloc(), WsAtom::Lines { file, from, to }));
-    ScriptRule::of(rule).is_some()
-}
-
 #[test]
 fn what_is_printed_is_what_was_read(rt: HostRuntime) {
     let lines = must(&rt, COMMANDS.replace(rt.alloc(), "; ", "\n"));
@@ -48,10 +27,6 @@ fn what_is_printed_is_what_was_read(rt: HostRuntime) {
     let copy = must(&rt, read.copy());
     let_go(read);
     let printed = must(&rt, print(rt.alloc(), &copy));
-    reads(&rt, "printed", printed.as_slice(), text.as_str());
-    let commands = command_lines(&rt, job(&rt, &copy).commands.as_slice());
     let_go(copy);
-    reads(&rt, "commands", commands.as_slice(), lines.as_str());
-    holds(&rt, "a line", is_named(&rt, 9, 9));
-    holds(&rt, "no line", !is_named(&rt, 9, 3));
+    reads(&rt, "printed", printed.as_slice(), text.as_str());
 }

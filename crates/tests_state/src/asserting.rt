@@ -1,5 +1,4 @@
-//! The assertions, and what tests make names and paths of. None has a clause, so that a test carries nothing of them.
-use res_path::{Name, Path};
+//! The assertions, and what is cut from rows. None has a clause, so that a test carries nothing of them.
 use std::process::Abort;
 
 pub fn holds(rt: &impl Abort, is: bool) {
@@ -9,20 +8,20 @@ pub fn holds(rt: &impl Abort, is: bool) {
 pub fn must<T: Drop, E: Drop>(rt: &impl Abort, it: Result<T, E>) -> T {
     match it {
         Ok(value) => value,
-        Err(_) => panic!(rt; "memory"),
+        Err(_) => panic!(rt; "an error"),
     }
 }
 
-pub fn name_of(rt: &(impl Abort + AllocGlobal), text: &str) -> Name {
-    must(rt, Name::parse(rt.alloc(), text))
-}
-
-pub fn path_of(rt: &(impl Abort + AllocGlobal), text: &str) -> Path {
-    must(rt, Path::parse(rt.alloc(), text))
+/// What is there.
+pub fn some<T: Drop>(rt: &impl Abort, it: Option<T>) -> T {
+    match it {
+        Some(value) => value,
+        None => panic!(rt; "nothing is there"),
+    }
 }
 
 /// What is before the mark, and what is after it.
-pub fn cut(text: &str, mark: char) -> (&str, &str) {
+pub fn cut<'a>(text: &'a str, mark: &str) -> (&'a str, &'a str) {
     match text.split_once(mark) {
         Some(parts) => parts,
         None => (text, ""),
@@ -31,12 +30,8 @@ pub fn cut(text: &str, mark: char) -> (&str, &str) {
 
 /// The number that the text is, 0 where it is none.
 pub fn number(text: &str) -> u64 {
-    match text.parse() {
+    match text.parse::<u64>() {
         Ok(number) => number,
         Err(_) => 0,
     }
-}
-
-pub fn put(rt: &impl Abort, out: &mut String, text: &str) {
-    must(rt, out.push_str(text));
 }

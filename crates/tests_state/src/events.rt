@@ -1,86 +1,61 @@
-//! Events as they are written in rows: a word, and what it takes, with blanks between.
-use crate::asserting::{cut, must, name_of, number, path_of};
-use bytes::Bytes;
-use op_kind::{Op, Want};
-use sched_rules::{Rule, WsAtom};
+//! Events as texts of runs have them.
+use crate::asserting::{cut, must, number, some};
+use script_lang::{Command, Script, parse};
 use std::process::Abort;
-use ws_core::{Event, WsRule};
+use ws_core::Event;
 
-/// A rule is a word for each of its atoms, a path or a mutex; without words it is the null rule.
-fn rule(rt: &(impl Abort + AllocGlobal), text: &str) -> WsRule {
-    let mut rule = Rule::null(rt.alloc());
-    for word in text.split_whitespace() {
-        rule = must(rt, Rule::combine(rt.alloc(), &rule, &one_rule(rt, word)));
+/// The script of a job with this head and this line.
+fn script(rt: &(impl Abort + AllocGlobal), head: &str, line: &str) -> Script {
+    let mut text = Vec::new(rt.alloc());
+    for part in ["phase\njob ", head, "\n", line, "\nendjob\nendphase\n"] {
+        must(rt, text.extend_from_slice(part.as_bytes()));
     }
-    rule
+    must(rt, parse(rt.alloc(), text.as_slice()))
 }
 
-fn one_rule(rt: &(impl Abort + AllocGlobal), word: &str) -> WsRule {
-    let atom = if word.starts_with('/') {
-        WsAtom::Path(path_of(rt, word))
-    } else {
-        WsAtom::Mutex(name_of(rt, word))
-    };
-    must(rt, Rule::of(rt.alloc(), atom))
+/// The event that schedules the job of this head.
+fn scheduled(rt: &(impl Abort + AllocGlobal), head: &str) -> Event {
+    let script = script(rt, head, "");
+    let phase = some(rt, script.phases.as_slice().first());
+    let job = some(rt, phase.jobs.as_slice().first());
+    let name = must(rt, job.name.copy());
+    let rule = must(rt, job.rule.as_rule().copy());
+    Event::Schedule(name, job.priority.number(), rule, job.asleep)
 }
 
-fn schedule(rt: &(impl Abort + AllocGlobal), text: &str, asleep: bool) -> Event {
-    let (name, rest) = cut(text, ' ');
-    let (priority, rest) = cut(rest, ' ');
-    let priority = (number(priority) % 256) as u8;
-    Event::Schedule(name_of(rt, name), priority, rule(rt, rest), asleep)
-}
-
-fn bytes(rt: &(impl Abort + AllocGlobal), text: &str) -> Bytes {
-    must(rt, Bytes::copy_from_slice(rt.alloc(), text.as_bytes()))
-}
-
-/// A word that is none of an operation's reads.
-fn operation(rt: &(impl Abort + AllocGlobal), word: &str, rest: &str) -> Op {
-    let (first, second) = cut(rest, ' ');
-    let path = path_of(rt, first);
-    match word {
-        "file" => Op::CreateFile(path, bytes(rt, second)),
-        "folder" => Op::CreateFolder(path),
-        "project" => Op::CreateProject(path),
-        "delete" => Op::Delete(path),
-        "write" => Op::Write(path, bytes(rt, second)),
-        "touch" => Op::Touch(path),
-        "derived" => Op::Derived(path, second == "on"),
-        "move" => Op::Move(path, path_of(rt, second)),
-        "copy" => Op::Copy(path, path_of(rt, second)),
-        "open" => Op::Open(path),
-        "close" => Op::Close(path),
-        _ => Op::Read(path, Want::Show),
+/// The event that a command asks.
+fn of_command(rt: &impl Abort, command: &Command) -> Event {
+    match command {
+        Command::Operation(op) => Event::Operation(must(rt, op.copy())),
+        Command::Batch => Event::Batch,
+        Command::EndBatch => Event::EndBatch,
+        Command::Checkpoint => Event::Checkpoint,
+        Command::Begin(rule) => Event::Begin(must(rt, rule.as_rule().copy())),
+        Command::TryBegin(rule) => Event::TryBegin(must(rt, rule.as_rule().copy())),
+        Command::End(rule) => Event::End(must(rt, rule.as_rule().copy())),
+        Command::Sleep(name) => Event::Sleep(must(rt, name.copy())),
+        Command::Wake(name) => Event::Wake(must(rt, name.copy())),
+        Command::Cancel(name) => Event::Cancel(must(rt, name.copy())),
+        Command::Build(_, _) => panic!(rt; "no event"),
     }
 }
 
-/// An event of jobs, or an operation.
-fn other_event(rt: &(impl Abort + AllocGlobal), word: &str, rest: &str) -> Event {
-    match word {
-        "schedule" => schedule(rt, rest, false),
-        "asleep" => schedule(rt, rest, true),
-        "sleep" => Event::Sleep(name_of(rt, rest)),
-        "wake" => Event::Wake(name_of(rt, rest)),
-        "cancel" => Event::Cancel(name_of(rt, rest)),
-        _ => Event::Operation(operation(rt, word, rest)),
-    }
+fn asked(rt: &(impl Abort + AllocGlobal), line: &str) -> Event {
+    let script = script(rt, "j 30 null", line);
+    let phase = some(rt, script.phases.as_slice().first());
+    let job = some(rt, phase.jobs.as_slice().first());
+    of_command(rt, some(rt, job.commands.as_slice().first()))
 }
 
 pub fn event(rt: &(impl Abort + AllocGlobal), text: &str) -> Event {
-    let (word, rest) = cut(text, ' ');
+    let (word, rest) = cut(text, " ");
     match word {
         "enter" => Event::Enter,
         "leave" => Event::Leave,
         "take" => Event::Take,
         "finish" => Event::Finish,
-        "begin" => Event::Begin(rule(rt, rest)),
-        "try" => Event::TryBegin(rule(rt, rest)),
-        "end" => Event::End(rule(rt, rest)),
         "transfer" => Event::Transfer(number(rest)),
-        "batch" => Event::Batch,
-        "endbatch" => Event::EndBatch,
-        "checkpoint" => Event::Checkpoint,
-        _ => other_event(rt, word, rest),
+        "schedule" => scheduled(rt, rest),
+        _ => asked(rt, text),
     }
 }

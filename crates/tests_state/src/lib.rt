@@ -1,12 +1,10 @@
-//! Tests of the core over every interleaving: each list of events over a tree with layers, and over one that is copied.
+//! Tests of the core with several passes: each list of events over a tree with layers, and over one that is copied.
 //!
-//! - `asserting`: the assertions, and what tests make names and paths of.
-//! - `events`: events as they are written in rows.
-//! - `replies`: replies as they are written in rows.
-//! - `playing`: events played on a core, and on both.
-//! - `rows`: lists of events, whose replies were worked by hand.
-//! - `lists`: lists drawn at random, over both trees.
-//! - `many`: 100,000 files, and 10,000 lone writes.
+//! - `asserting`: the assertions, and what is cut from rows.
+//! - `events`: events as texts of runs have them.
+//! - `playing`: events done on both cores.
+//! - `rows`: lists of events, whose answers were worked by hand.
+//! - `lists`: lists drawn at random.
 #![tactic(auto)]
 
 #[cfg(test)]
@@ -16,10 +14,6 @@ mod events;
 #[cfg(test)]
 mod lists;
 #[cfg(test)]
-mod many;
-#[cfg(test)]
 mod playing;
-#[cfg(test)]
-mod replies;
 #[cfg(test)]
 mod rows;

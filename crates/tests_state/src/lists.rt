@@ -1,18 +1,18 @@
 //! Lists of events drawn at random, of four passes, over both trees.
-use crate::asserting::{cut, holds, must, number, put};
-use crate::playing::{Both, outer, since_start, start, told_by_both};
+use crate::asserting::{holds, must};
+use crate::playing::{Both, are_alike, end_outer, start, told_by_both};
 use std::process::Abort;
 
 /// What is drawn from, a line as often as it stands there. `end outer` is of the pass's topmost rule that
-/// isn't null, and `end` of the null rule.
+/// isn't null, and `end null` of the null rule.
 const EVENTS: &str = "leave
-begin /P
-begin /P/d
-begin
-begin m
-try /P/d/a
-try /Q
-try m
+begin path /P
+begin path /P/d
+begin null
+begin mutex m
+trybegin path /P/d/a
+trybegin path /Q
+trybegin mutex m
 end outer
 end outer
 end outer
@@ -21,11 +21,11 @@ end outer
 end outer
 end outer
 end outer
-end
-end
-end
-end
-end /P
+end null
+end null
+end null
+end null
+end path /P
 transfer 0
 transfer 1
 transfer 2
@@ -38,10 +38,10 @@ endbatch
 endbatch
 checkpoint
 checkpoint
-schedule j 30 /P
-schedule k 10 /Q
-schedule l 30 m
-asleep j 20
+schedule j 30 path /P
+schedule k 10 path /Q
+schedule l 30 mutex m
+schedule j 20 asleep null
 sleep j
 sleep k
 wake j
@@ -56,16 +56,16 @@ finish
 finish
 finish
 finish
-project /P
-project /P
-project /Q
-folder /P/d
-folder /Q/d
-file /P/a x
-file /P/a x
-file /P/d/a x
-file /Q/a x
-file /Q/d/a y
+create project /P
+create project /P
+create project /Q
+create folder /P/d
+create folder /Q/d
+create file /P/a x
+create file /P/a x
+create file /P/d/a x
+create file /Q/a x
+create file /Q/d/a y
 write /P/a y
 write /P/a y
 write /P/a y
@@ -102,13 +102,11 @@ show /Q/d/a";
 
 const COUNT: u64 = 1_000;
 
-/// The numbers that are drawn, and what has come of them.
+/// The numbers that are drawn, and the passes, of which the first never leaves.
 #[derive(Drop)]
 struct Drawn {
     state: u64,
-    entries: u64,
-    notices: u64,
-    // The passes, of which the first never leaves.
+    entered: u64,
     passes: Vec<u64>,
 }
 
@@ -124,7 +122,8 @@ fn draw(drawn: &mut Drawn, bound: u64) -> u64 {
     }
 }
 
-fn line_at(place: u64) -> &'static str {
+fn drawn_line(drawn: &mut Drawn) -> &'static str {
+    let place = draw(drawn, EVENTS.lines().count() as u64);
     let mut at = 0_u64;
     for line in EVENTS.lines() {
         if at == place {
@@ -135,35 +134,9 @@ fn line_at(place: u64) -> &'static str {
     "checkpoint"
 }
 
-fn count_lines() -> u64 {
-    let mut count = 0_u64;
-    for _ in EVENTS.lines() {
-        count = count.wrapping_add(1);
-    }
-    count
-}
-
-/// Does the event over both, and counts what it leaves and tells.
-fn play(
-    rt: &(impl Abort + AllocGlobal),
-    both: &mut Both,
-    drawn: &mut Drawn,
-    pass: u64,
-    text: &str,
-) -> String {
-    let found = told_by_both(rt, both, pass, text);
-    if !found.as_str().ends_with(", no entry") {
-        drawn.entries = drawn.entries.wrapping_add(1);
-    }
-    if found.as_str().contains('|') {
-        drawn.notices = drawn.notices.wrapping_add(1);
-    }
-    found
-}
-
-/// The number of the pass at this place; one that has left is followed by a new one.
-fn pass_at(rt: &(impl Abort + AllocGlobal), both: &mut Both, drawn: &mut Drawn, place: u64) -> u64 {
-    let Ok(place) = usize::try_from(place) else {
+/// One of the passes; one that has left is followed by a new one.
+fn drawn_pass(rt: &(impl Abort + AllocGlobal), both: &mut Both, drawn: &mut Drawn) -> u64 {
+    let Ok(place) = usize::try_from(draw(drawn, 4)) else {
         return 0;
     };
     let pass = match drawn.passes.get(place) {
@@ -173,47 +146,36 @@ fn pass_at(rt: &(impl Abort + AllocGlobal), both: &mut Both, drawn: &mut Drawn, 
     if both.layered.has_entered(pass) {
         return pass;
     }
-    let found = play(rt, both, drawn, 0, "enter");
-    let (_, entered) = cut(found.as_str(), ' ');
-    let entered = number(entered);
+    drop(told_by_both(rt, both, 0, "enter"));
+    let entered = drawn.entered.wrapping_add(1);
+    drawn.entered = entered;
     if let Some(pass) = drawn.passes.get_mut(place) {
         *pass = entered;
     }
     entered
 }
 
-/// The event that is drawn for the pass. The first pass stays.
-fn chosen(rt: &(impl Abort + AllocGlobal), both: &Both, drawn: &mut Drawn, pass: u64) -> String {
-    let line = line_at(draw(drawn, count_lines()));
-    let mut out = String::new(rt.alloc());
-    match line {
-        "end outer" => {
-            put(rt, &mut out, "end");
-            put(rt, &mut out, outer(rt, &both.layered, pass).as_str());
-        }
-        "leave" if pass == 0 => put(rt, &mut out, "take"),
-        _ => put(rt, &mut out, line),
-    }
-    out
-}
-
 fn play_one(rt: &(impl Abort + AllocGlobal), both: &mut Both, drawn: &mut Drawn) {
-    let place = draw(drawn, 4);
-    let pass = pass_at(rt, both, drawn, place);
-    let text = chosen(rt, both, drawn, pass);
-    play(rt, both, drawn, pass, text.as_str());
-    let one = since_start(rt, &both.layered);
-    holds(rt, one.as_str() == since_start(rt, &both.copied).as_str());
+    let pass = drawn_pass(rt, both, drawn);
+    match drawn_line(drawn) {
+        "end outer" => end_outer(rt, both, pass),
+        "leave" if pass == 0 => {}
+        line => drop(told_by_both(rt, both, pass, line)),
+    }
+    are_alike(rt, both);
 }
 
-/// Both histories have an entry for each event that leaves one.
-fn are_counted(rt: &impl Abort, both: &Both, drawn: &Drawn) {
-    let layered = both.layered.history().len();
-    holds(rt, u64::try_from(layered) == Ok(drawn.entries));
-    holds(rt, both.copied.history().len() == layered);
-    // A list that does little shows little.
-    holds(rt, 500 < drawn.entries && drawn.entries < COUNT);
-    holds(rt, 5 < drawn.notices);
+/// Both histories have as many entries, and enough; a list that does little shows little.
+fn are_long(rt: &impl Abort, both: &Both) {
+    let mut notices = 0_u64;
+    for entry in both.layered.history() {
+        if entry.reply.notice.delta().is_some() {
+            notices = notices.wrapping_add(1);
+        }
+    }
+    let entries = both.layered.history().len();
+    holds(rt, both.copied.history().len() == entries);
+    holds(rt, 500 < entries && 5 < notices);
 }
 
 fn play_list(rt: &(impl Abort + AllocGlobal), seed: u64) {
@@ -224,14 +186,13 @@ fn play_list(rt: &(impl Abort + AllocGlobal), seed: u64) {
     }
     let mut drawn = Drawn {
         state: seed,
-        entries: 0,
-        notices: 0,
+        entered: 0,
         passes,
     };
     for _ in 0..COUNT {
         play_one(rt, &mut both, &mut drawn);
     }
-    are_counted(rt, &both, &drawn);
+    are_long(rt, &both);
 }
 
 #[test]

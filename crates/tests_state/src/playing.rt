@@ -1,15 +1,17 @@
-//! Events played on a core, and on two of them: one over a tree with layers, and one over a tree that is copied.
+//! Events done on two cores: one over a tree with layers, and one over a tree that is copied.
 ghost use Rattle.std.specs.Prelude.{◌≡◌, true};
 ghost use Rattle.ws_core.specs.Histories.{has_entered};
 
-use crate::asserting::{holds, must, put};
+use crate::asserting::{holds, must};
 use crate::events::event;
-use crate::replies::{put_delta, put_number, put_reply, put_rule};
+use core_event::Entry;
 use elem_tree::LayerTree;
+use report_text::{delta_lines, put_rule, put_text};
+use run_text::{Current, put_line};
 use std::alloc::Global;
 use std::process::Abort;
 use tree_memory::{CopyTree, Remembers};
-use ws_core::{Answer, BuilderNames, Core, NoMemory};
+use ws_core::{BuilderNames, Core, NoMemory};
 use ws_elem::ElemMap;
 
 /// Two cores in which the same was done.
@@ -31,129 +33,84 @@ pub fn start(rt: &(impl Abort + AllocGlobal)) -> Both {
     must(rt, fresh(rt.alloc()))
 }
 
-/// What changed since the workspace was opened.
-pub fn since_start<T: Remembers + Drop>(rt: &(impl Abort + AllocGlobal), core: &Core<T>) -> String {
-    let mut out = String::new(rt.alloc());
-    put_delta(rt, &mut out, &must(rt, core.since_start(rt.alloc())));
-    out
-}
-
-/// The reply of the last entry.
-fn last_reply<T: Remembers + Drop>(rt: &(impl Abort + AllocGlobal), core: &Core<T>) -> String {
-    let mut out = String::new(rt.alloc());
-    if let Some(entry) = core.last() {
-        put_reply(rt, &mut out, &entry.reply);
+/// The line of an entry, and what it tells.
+fn lines(rt: &(impl Abort + AllocGlobal), entry: &Entry) -> Vec<u8> {
+    let mut out = Vec::new(rt.alloc());
+    must(rt, put_line(&mut out, &Current::none(), entry));
+    if let Some(delta) = entry.reply.notice.delta() {
+        let told = must(rt, delta_lines(rt.alloc(), delta));
+        must(rt, out.extend_from_slice(told.as_slice()));
     }
     out
 }
 
-/// What changed since the workspace was opened, how many jobs there are, and the pass's rule.
-fn standing<T: Remembers + Drop>(
-    rt: &(impl Abort + AllocGlobal),
-    core: &Core<T>,
-    pass: u64,
-) -> String {
-    let mut out = since_start(rt, core);
-    put(rt, &mut out, jobs(rt, core).as_str());
-    put(rt, &mut out, outer(rt, core, pass).as_str());
-    out
-}
-
-fn is_done(answer: &Answer) -> bool {
-    !matches!(answer, Answer::None | Answer::Refused(_))
-}
-
-/// Does the event of the pass that is there, and gives the reply, which is that of the last entry where the event leaves
-/// one. What isn't done changes nothing.
+/// Does the event of a pass that is there, and gives the lines of what is answered and told, with one more where no entry is
+/// left.
 fn step<T: Remembers + Drop>(
     rt: &(impl Abort + AllocGlobal),
     core: &mut Core<T>,
     pass: u64,
     text: &str,
-) -> String
+) -> Vec<u8>
     requires { has_entered pass core.old.state ≡ true }
 {
-    let before = standing(rt, core, pass);
     let entries = core.history().len();
     let reply = must(rt, core.step(rt.alloc(), pass, event(rt, text)));
-    let mut out = String::new(rt.alloc());
-    put_reply(rt, &mut out, &reply);
-    holds(
-        rt,
-        is_done(&reply.answer) || standing(rt, core, pass).as_str() == before.as_str(),
-    );
-    if core.history().len() == entries {
-        put(rt, &mut out, ", no entry");
-    } else {
-        holds(rt, last_reply(rt, core).as_str() == out.as_str());
+    let is_left = core.history().len() > entries;
+    let event = event(rt, text);
+    let mut out = lines(rt, &Entry { pass, event, reply });
+    if !is_left {
+        must(rt, put_text(&mut out, "no entry\n"));
     }
     out
 }
 
-/// The same of any pass.
+/// The same of any pass: none where it isn't there.
 fn done<T: Remembers + Drop>(
     rt: &(impl Abort + AllocGlobal),
     core: &mut Core<T>,
     pass: u64,
     text: &str,
-) -> String {
+) -> Vec<u8> {
     if core.has_entered(pass) {
         return step(rt, core, pass, text);
     }
-    let mut out = String::new(rt.alloc());
-    put(rt, &mut out, "gone");
-    out
+    Vec::new(rt.alloc())
 }
 
-/// How many jobs wait or are run, and how many were finished.
-fn jobs<T: Remembers + Drop>(rt: &(impl Abort + AllocGlobal), core: &Core<T>) -> String {
-    let mut out = String::new(rt.alloc());
-    let jobs = core.jobs();
-    put_number(rt, &mut out, "", jobs.live);
-    put_number(rt, &mut out, " ", jobs.finished);
-    out
-}
-
-/// The pass's topmost rule that isn't null, after a blank.
-pub fn outer<T: Remembers + Drop>(
-    rt: &(impl Abort + AllocGlobal),
-    core: &Core<T>,
-    pass: u64,
-) -> String {
-    let mut out = String::new(rt.alloc());
-    if let Some(rule) = core.outer(pass) {
-        put_rule(rt, &mut out, rule);
-    }
-    out
-}
-
-/// What a row's word tells of the core, or what the event is answered.
-fn told<T: Remembers + Drop>(
-    rt: &(impl Abort + AllocGlobal),
-    core: &mut Core<T>,
-    pass: u64,
-    text: &str,
-) -> String {
-    match text {
-        "jobs" => jobs(rt, core),
-        "outer" => outer(rt, core, pass),
-        "since" => since_start(rt, core),
-        _ => done(rt, core, pass, text),
-    }
-}
-
-/// What both tell alike.
+/// What both answer and tell alike.
 pub fn told_by_both(
     rt: &(impl Abort + AllocGlobal),
     both: &mut Both,
     pass: u64,
     text: &str,
-) -> String {
-    let one = told(rt, &mut both.layered, pass, text);
-    let other = told(rt, &mut both.copied, pass, text);
-    assert!(rt;
-        one.as_str() == other.as_str(),
-        "{text} gives {one} and {other}"
-    );
+) -> Vec<u8> {
+    let one = done(rt, &mut both.layered, pass, text);
+    holds(rt, one == done(rt, &mut both.copied, pass, text));
     one
+}
+
+/// What changed since the workspace was opened.
+fn since_start<T: Remembers + Drop>(rt: &(impl Abort + AllocGlobal), core: &Core<T>) -> Vec<u8> {
+    let since = must(rt, core.since_start(rt.alloc()));
+    must(rt, delta_lines(rt.alloc(), &since))
+}
+
+/// The same has changed in both since they were opened.
+pub fn are_alike(rt: &(impl Abort + AllocGlobal), both: &Both) {
+    holds(
+        rt,
+        since_start(rt, &both.layered) == since_start(rt, &both.copied),
+    );
+}
+
+/// Ends the topmost rule of the pass that isn't null, or the null rule where it has none.
+pub fn end_outer(rt: &(impl Abort + AllocGlobal), both: &mut Both, pass: u64) {
+    let mut text = Vec::new(rt.alloc());
+    must(rt, put_text(&mut text, "end "));
+    match both.layered.outer(pass) {
+        Some(rule) => must(rt, put_rule(&mut text, rule)),
+        None => must(rt, put_text(&mut text, "null")),
+    }
+    drop(told_by_both(rt, both, pass, must(rt, str::from_utf8(text.as_slice()))));
 }
