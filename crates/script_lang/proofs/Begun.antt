@@ -5,6 +5,7 @@ use Rattle.std.specs.Str.{bytes_eq}
 use Rattle.std.proofs.Math.Seq.{take-length}
 use Rattle.sched_rules.specs.declared.ws_atom.WsAtom.{WsAtom}
 use Rattle.sched_rules.specs.declared.ws_atom.WsAtom.TheVariants.{Path, Mutex, Lines}
+use Rattle.op_kind.specs.declared.op.Op.{Op}
 use Rattle.builder_api.specs.declared.kind.BuildKind.{BuildKind}
 use Rattle.script_lang.specs.declared.script.Command.TheVariants as command
 use Rattle.script_lang.specs.declared.script.Priority.{Priority}
@@ -18,11 +19,13 @@ use Rattle.script_parts.specs.Parts.{Part, keyword, a_name, FitsPart, FitsParts,
 use Rattle.script_lang.specs.Commands.{FitsLine, asleep_parts, kind_word, priority_word, line_parts, line_read}
 use Rattle.script_lang.specs.Inside.Reading.{IsLineOf, IsStartFound, IsSleepFound}
 use Rattle.script_parts.specs.Inside.Found.{IsRuleFound, FitsFront}
-use Rattle.script_ops.specs.Inside.Verbs.{verb_word, begun_with}
+use Rattle.script_ops.specs.Operations.{operation_parts}
+use Rattle.script_ops.specs.Inside.Verbs.{verb_word, begins_operation, begun_with}
 use Rattle.script_parts.proofs.Fitting.{fit_size}
 use Rattle.script_parts.proofs.Values.{nth, atoms_at, scope_at}
 use Rattle.script_lang.proofs.Coded.{line_at, priority_at, kind_at, known}
 use Rattle.script_ops.proofs.Begun.{HasVerb, with_verb, op_verb}
+use Rattle.script_ops.proofs.Coded.{op_at}
 
 -- ---- each line begins with a verb
 
@@ -52,6 +55,44 @@ pub no_verb : (tokens : List Token) (first : Token) → first ≡ get_or tokens 
 no_verb tokens first e l n line h =
     let begins = line_verb h.written in
     n begins.verb (first_fits tokens first (keyword (verb_word begins.verb)) begins.more e l (subst (FitsParts tokens) begins.parts_are h.fits))
+
+-- no line is without words
+pub no_words : (tokens : List Token) → length tokens < 1 → (line : Line) → FitsLine tokens line → ⊥
+no_words [] l line h = subst (FitsParts []) (line_verb h.written).parts_are h.fits
+no_words (token ∷ tokens) l line h = omega (arith, l)
+
+-- ---- lines of operations
+
+-- words that begin with such a verb are no other line
+operates : (verb : Verb) (words : List Word) → begins_operation verb ≡ true → line_at (verb_word verb ∷ words) ≡ InJob (command.Operation (op_at (verb_word verb ∷ words)))
+operates Phase words h = absurd (let no : false ≡ true = h in cc)
+operates EndPhaseVerb words h = absurd (let no : false ≡ true = h in cc)
+operates Job words h = absurd (let no : false ≡ true = h in cc)
+operates EndJobVerb words h = absurd (let no : false ≡ true = h in cc)
+operates Batch words h = absurd (let no : false ≡ true = h in cc)
+operates EndBatch words h = absurd (let no : false ≡ true = h in cc)
+operates Checkpoint words h = absurd (let no : false ≡ true = h in cc)
+operates Begin words h = absurd (let no : false ≡ true = h in cc)
+operates TryBegin words h = absurd (let no : false ≡ true = h in cc)
+operates End words h = absurd (let no : false ≡ true = h in cc)
+operates Sleep words h = absurd (let no : false ≡ true = h in cc)
+operates Wake words h = absurd (let no : false ≡ true = h in cc)
+operates Cancel words h = absurd (let no : false ≡ true = h in cc)
+operates Build words h = absurd (let no : false ≡ true = h in cc)
+operates verb words h = refl
+
+pub op_found : (verb : Verb) (rest : List Token) (x : Op) (line : Line) → line ≡ InJob (command.Operation x) → FitsParts (begun_with verb rest) (operation_parts x)
+    → FitsLine (begun_with verb rest) line
+op_found verb rest x line e h = subst (FitsLine (begun_with verb rest)) (sym e) (record { written = InJob (command.Operation x); read = refl; fits = h })
+
+pub no_operation : (verb : Verb) (rest : List Token) → begins_operation verb ≡ true → ((x : Op) → FitsParts (begun_with verb rest) (operation_parts x) → ⊥)
+    → (line : Line) → FitsLine (begun_with verb rest) line → ⊥
+no_operation verb rest b none line h =
+    let words = map (λ (t : Token). t.word) rest in
+    let op = op_at (verb_word verb ∷ words) in
+    let fits : FitsParts (begun_with verb rest) (line_parts (InJob (command.Operation op))) =
+    subst (λ (line : Line). FitsParts (begun_with verb rest) (line_parts line)) (known (begun_with verb rest) h.written h.fits ∙ operates verb words b) h.fits in
+    none op fits
 
 -- ---- lines of one word
 
@@ -85,6 +126,15 @@ tries_rule rest rule r = record { written = InJob (command.TryBegin r.0); read =
 pub ends_rule : (rest : List Token) (rule : List WsAtom) → IsRuleFound rest (Some rule) → FitsLine (begun_with End rest) (InJob (command.End rule))
 ends_rule rest rule r = record { written = InJob (command.End r.0); read = ap (λ (rule : List WsAtom). InJob (command.End rule)) r.1; fits = ((refl, refl), r.2) }
 
+-- the line of a verb that has one line alone, which goes on with a rule
+pub no_ruled : (verb : Verb) (make : List WsAtom → Line) (rest : List Token) → ((words : List Word) → line_at (verb_word verb ∷ words) ≡ make (atoms_at words))
+    → ((rule : List WsAtom) → line_parts (make rule) ≡ keyword (verb_word verb) ∷ rule_parts rule) → IsRuleFound rest None → (line : Line) → FitsLine (begun_with verb rest) line → ⊥
+no_ruled verb make rest at parts none line h =
+    let rule = atoms_at (map (λ (t : Token). t.word) rest) in
+    let same : h.written ≡ make rule = known (begun_with verb rest) h.written h.fits ∙ at (map (λ (t : Token). t.word) rest) in
+    let fits : FitsParts (begun_with verb rest) (keyword (verb_word verb) ∷ rule_parts rule) = subst (FitsParts (begun_with verb rest)) (ap line_parts same ∙ parts rule) h.fits in
+    none rule fits.1
+
 -- ---- lines with a name
 
 -- the line of a verb that has one line alone, which goes on with a name
@@ -92,6 +142,15 @@ pub named_found : (verb : Verb) (make : List ℕ → Line) (rest : List Token) (
     → line_parts (make name) ≡ keyword (verb_word verb) ∷ a_name name ∷ [] → line_read (make name) ≡ make name → FitsLine (begun_with verb rest) (make name)
 named_found verb make rest name h parts read =
     record { written = make name; read = read; fits = subst (FitsParts (begun_with verb rest)) (sym parts) ((refl, refl), h) }
+
+pub no_named : (verb : Verb) (make : List ℕ → Line) (rest : List Token) → ((words : List Word) → line_at (verb_word verb ∷ words) ≡ make (nth 0 words))
+    → ((name : List ℕ) → line_parts (make name) ≡ keyword (verb_word verb) ∷ a_name name ∷ []) → ((name : List ℕ) → FitsParts rest (a_name name ∷ []) → ⊥)
+    → (line : Line) → FitsLine (begun_with verb rest) line → ⊥
+no_named verb make rest at parts none line h =
+    let name = nth 0 (map (λ (t : Token). t.word) rest) in
+    let same : h.written ≡ make name = known (begun_with verb rest) h.written h.fits ∙ at (map (λ (t : Token). t.word) rest) in
+    let fits : FitsParts (begun_with verb rest) (keyword (verb_word verb) ∷ a_name name ∷ []) = subst (FitsParts (begun_with verb rest)) (ap line_parts same ∙ parts name) h.fits in
+    none name fits.1
 
 -- ---- a build's line
 
@@ -151,6 +210,35 @@ job_long rest line h l =
     let job = job_line_of rest line h in
     let size = fit_size rest (a_name job.name ∷ keyword (priority_word job.priority) ∷ (asleep_parts job.asleep ++ rule_parts job.atoms)) job.fits in
     omega (arith, l, size)
+
+-- they stand for the name
+pub job_name : (rest : List Token) (name : Token) → name ≡ get_or rest 0 name → 2 ≤ length rest → ((text : List ℕ) → FitsPart name (a_name text) → ⊥)
+    → (line : Line) → FitsLine (begun_with Job rest) line → ⊥
+job_name rest name e l none line h = by rest e l (job_line_of rest line h)
+  where
+    by : (rest : List Token) → name ≡ get_or rest 0 name → 2 ≤ length rest → IsJobLine rest → ⊥
+    by [] e l job = omega (arith, l)
+    by (t ∷ rest) e l job = none job.name (subst (λ (token : Token). FitsPart token (a_name job.name)) (sym e) job.fits.0)
+
+-- for the priority
+pub job_priority : (rest : List Token) (number : Token) → number ≡ get_or rest 1 number → 2 ≤ length rest → ((priority : Priority) → FitsPart number (keyword (priority_word priority)) → ⊥)
+    → (line : Line) → FitsLine (begun_with Job rest) line → ⊥
+job_priority rest number e l none line h = by rest e l (job_line_of rest line h)
+  where
+    by : (rest : List Token) → number ≡ get_or rest 1 number → 2 ≤ length rest → IsJobLine rest → ⊥
+    by [] e l job = omega (arith, l)
+    by (t ∷ []) e l job = omega (arith, l)
+    by (t ∷ u ∷ rest) e l job = none job.priority (subst (λ (token : Token). FitsPart token (keyword (priority_word job.priority))) (sym e) job.fits.1.0)
+
+-- and for the start
+pub job_start : (rest : List Token) → 2 ≤ length rest → IsStartFound (take (length rest - 2) (drop 2 rest)) None → (line : Line) → FitsLine (begun_with Job rest) line → ⊥
+job_start rest l none line h = by rest l none (job_line_of rest line h)
+  where
+    by : (rest : List Token) → 2 ≤ length rest → IsStartFound (take (length rest - 2) (drop 2 rest)) None → IsJobLine rest → ⊥
+    by [] l none job = omega (arith, l)
+    by (t ∷ []) l none job = omega (arith, l)
+    by (t ∷ u ∷ rest) l none job =
+        none job.asleep job.atoms (subst (λ (tokens : List Token). FitsParts tokens (asleep_parts job.asleep ++ rule_parts job.atoms)) (sym (all_behind t u rest)) job.fits.1.1)
 
 pub job_found : (rest : List Token) (name number : Token) (text : List ℕ) (priority : Priority) (asleep : Bool) (rule : List WsAtom)
     → name ≡ get_or rest 0 name → number ≡ get_or rest 1 number → 2 ≤ length rest

@@ -81,71 +81,128 @@ fn verb_named(word: &[u8]) -> Option<Verb>
 fn bound_named(word: &[u8]) -> Option<Verb>
     ensures { IsNamed bounds word.now result }
 {
-    match word {
-        b"phase" => Some(Verb::Phase),
-        b"endphase" => Some(Verb::EndPhase),
-        b"job" => Some(Verb::Job),
-        b"endjob" => Some(Verb::EndJob),
-        b"batch" => Some(Verb::Batch),
-        b"endbatch" => Some(Verb::EndBatch),
-        b"checkpoint" => Some(Verb::Checkpoint),
-        b"begin" => Some(Verb::Begin),
-        b"trybegin" => Some(Verb::TryBegin),
-        b"end" => Some(Verb::End),
-        b"sleep" => Some(Verb::Sleep),
-        b"wake" => Some(Verb::Wake),
-        b"cancel" => Some(Verb::Cancel),
-        b"build" => Some(Verb::Build),
-        _ => None,
-    }
+    named_of(
+        &[
+            Verb::Phase,
+            Verb::EndPhase,
+            Verb::Job,
+            Verb::EndJob,
+            Verb::Batch,
+            Verb::EndBatch,
+            Verb::Checkpoint,
+            Verb::Begin,
+            Verb::TryBegin,
+            Verb::End,
+            Verb::Sleep,
+            Verb::Wake,
+            Verb::Cancel,
+            Verb::Build,
+        ],
+        word,
+    )
 }
 
 /// The verb with this name, of those that change resources.
 fn change_named(word: &[u8]) -> Option<Verb>
     ensures { IsNamed changes word.now result }
 {
-    match word {
-        b"create" => Some(Verb::Create),
-        b"delete" => Some(Verb::Delete),
-        b"write" => Some(Verb::Write),
-        b"touch" => Some(Verb::Touch),
-        b"derived" => Some(Verb::Derived),
-        b"move" => Some(Verb::Move),
-        b"copy" => Some(Verb::Copy),
-        b"open" => Some(Verb::Open),
-        b"close" => Some(Verb::Close),
-        b"describe" => Some(Verb::Describe),
-        b"forget" => Some(Verb::Forget),
-        _ => None,
-    }
+    named_of(
+        &[
+            Verb::Create,
+            Verb::Delete,
+            Verb::Write,
+            Verb::Touch,
+            Verb::Derived,
+            Verb::Move,
+            Verb::Copy,
+            Verb::Open,
+            Verb::Close,
+            Verb::Describe,
+            Verb::Forget,
+        ],
+        word,
+    )
 }
 
 /// The verb with this name, of those that change markers and synchronisation bytes.
 fn note_named(word: &[u8]) -> Option<Verb>
     ensures { IsNamed notes word.now result }
 {
-    match word {
-        b"mark" => Some(Verb::Mark),
-        b"attr" => Some(Verb::Attr),
-        b"unmark" => Some(Verb::Unmark),
-        b"clearmarks" => Some(Verb::ClearMarks),
-        b"partner" => Some(Verb::Partner),
-        b"sync" => Some(Verb::Sync),
-        b"nosync" => Some(Verb::NoSync),
-        b"flush" => Some(Verb::Flush),
-        _ => None,
-    }
+    named_of(
+        &[
+            Verb::Mark,
+            Verb::Attr,
+            Verb::Unmark,
+            Verb::ClearMarks,
+            Verb::Partner,
+            Verb::Sync,
+            Verb::NoSync,
+            Verb::Flush,
+        ],
+        word,
+    )
 }
 
 /// The verb with this name, of those that read.
 fn read_named(word: &[u8]) -> Option<Verb>
     ensures { IsNamed reads word.now result }
 {
-    match word {
-        b"show" => Some(Verb::Show),
-        b"cat" => Some(Verb::Cat),
-        b"tree" => Some(Verb::Tree),
-        b"digest" => Some(Verb::Digest),
-        _ => None,
+    named_of(&[Verb::Show, Verb::Cat, Verb::Tree, Verb::Digest], word)
+}
+
+/// The first of these verbs that has this name.
+fn named_of(verbs: &[Verb], word: &[u8]) -> Option<Verb>
+    ensures { IsNamed verbs.now word.now result }
+{
+    for verb in verbs {
+        if verb_word(*verb) == word {
+            return Some(*verb);
+        }
+    }
+    None
+}
+
+/// The word that the verb is.
+fn verb_word(verb: Verb) -> &'static [u8]
+    ensures { result.now ≡ verb_word verb }
+{
+    match verb {
+        Verb::Phase => b"phase",
+        Verb::EndPhase => b"endphase",
+        Verb::Job => b"job",
+        Verb::EndJob => b"endjob",
+        Verb::Batch => b"batch",
+        Verb::EndBatch => b"endbatch",
+        Verb::Checkpoint => b"checkpoint",
+        Verb::Begin => b"begin",
+        Verb::TryBegin => b"trybegin",
+        Verb::End => b"end",
+        Verb::Sleep => b"sleep",
+        Verb::Wake => b"wake",
+        Verb::Cancel => b"cancel",
+        Verb::Build => b"build",
+        Verb::Create => b"create",
+        Verb::Delete => b"delete",
+        Verb::Write => b"write",
+        Verb::Touch => b"touch",
+        Verb::Derived => b"derived",
+        Verb::Move => b"move",
+        Verb::Copy => b"copy",
+        Verb::Open => b"open",
+        Verb::Close => b"close",
+        Verb::Describe => b"describe",
+        Verb::Forget => b"forget",
+        Verb::Mark => b"mark",
+        Verb::Attr => b"attr",
+        Verb::Unmark => b"unmark",
+        Verb::ClearMarks => b"clearmarks",
+        Verb::Partner => b"partner",
+        Verb::Sync => b"sync",
+        Verb::NoSync => b"nosync",
+        Verb::Flush => b"flush",
+        Verb::Show => b"show",
+        Verb::Cat => b"cat",
+        Verb::Tree => b"tree",
+        Verb::Digest => b"digest",
     }
 }

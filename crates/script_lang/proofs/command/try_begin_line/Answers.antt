@@ -1,5 +1,12 @@
-use Rattle.script_lang.proofs.Begun.{tries_rule}
+use Rattle.std.proofs.Common.{refl}
+use Rattle.script_lang.specs.declared.line.Line.TheVariants.{InJob}
+use Rattle.script_lang.specs.declared.script.Command.TheVariants.{TryBegin}
+use Rattle.script_ops.specs.declared.verb.Verb.TheVariants as verb
+use Rattle.script_lang.proofs.Begun.{tries_rule, no_ruled}
 use Rattle.script_lang.proofs.command.try_begin_line.Goals as goal
+
+pub returns-in-None : goal.returns-in-None
+returns-in-None c = no_ruled verb.TryBegin (λ rule. InJob (TryBegin rule)) c.args.rest.now (λ words. refl) (λ rule. refl) (rw c.in-None.is at c.in_ok-rule_of.ensures)
 
 pub returns-in-Some : goal.returns-in-Some
 returns-in-Some c = tries_rule c.args.rest.now c.in-Some.rule (rw c.in-Some.is at c.in_ok-rule_of.ensures)
