@@ -1,5 +1,6 @@
 -- The worker's commands, and the end of its job.
 use Rattle.std.proofs.Common.{◌≡◌, ◌≤◌, ◌<◌, ◌+◌, ℕ, true, List, [], ◌∷◌, ◌++◌, length, take, get_or, is_some, None, refl, ap, sym, ◌∙◌, subst, arith, append_assoc, append-nil}
+use Rattle.std.specs.Prelude.{Result, Ok, Err, MatchResult}
 use Rattle.std.proofs.lemmas.List.{take_all}
 use Rattle.core_event.specs.declared.entry.Entry.{Entry}
 use Rattle.core_event.specs.declared.event.Event.{Event}
@@ -74,6 +75,12 @@ did_build P a b grew home goes w = record {
 -- it was cut
 pub stopped_build : (P : List Entry → Type 0) (a b : Session) → Grew P a.history b.history → Goes a b → IsAtWork a.state → Stops P a b
 stopped_build P a b grew goes w = record { opened = goes.opened; grew = grew; there = goes.keeps.worker (work_there a.state w) }
+
+-- it was made, and the run goes on or is to stop after it
+pub ended_build : {X E : Type 0} (P : List Entry → Type 0) (r : Result X E) (a b : Session) → Grew P a.history b.history
+    → (a.state.manager.passes.services ≡ None → b.state.manager.passes.services ≡ None) → Goes a b → IsAtWork a.state → MatchResult r (λ _. Works P a b) (λ _. Stops (Cut P) a b)
+ended_build P (Ok x) a b grew home goes w = did_build P a b grew home goes w
+ended_build P (Err e) a b grew home goes w = stopped_build (Cut P) a b (grew.0, grew.1, ([], subst P (sym (append-nil grew.0)) grew.2)) goes w
 
 -- the worker that runs a job and is served is ready to build
 pub ready_to_build : (ms : Meanings) (a : Session) (told : List Told) → IsServed ms a.opened told → a.state ≡ replay a.opened a.history → IsAtWork a.state → host.IsReady ms a told

@@ -1,5 +1,7 @@
 //! The worker takes jobs, does their commands and finishes them.
-ghost use Rattle.std.specs.Prelude.{◌≡◌, map, MatchResult, option_copied};
+ghost use Rattle.std.specs.Prelude.{◌≡◌, ◌≢◌, map, MatchResult, OnErr, OnOk, option_copied};
+ghost use Rattle.builder_api.specs.declared.outcome.BuildOutcome.TheVariants as outcomes;
+ghost use Rattle.build_run.specs.declared.answers.BuildAnswer.TheVariants.{Ended};
 ghost use Rattle.build_host.specs.Builds.{IsBuild};
 ghost use Rattle.build_host.specs.Hosts.{IsServed, Serves};
 ghost use Rattle.run_order.specs.Lists.{Cut, InTurn};
@@ -11,12 +13,13 @@ use crate::NoMemory;
 use crate::book::JobBook;
 use crate::plan::{Asked, asked_of};
 use build_host::{build, settle};
-use builder_api::{BuildKind, Builder, Builders, Meanings};
+use build_run::BuildAnswer;
+use builder_api::{BuildKind, BuildOutcome, Builder, Builders, Meanings};
 use core_event::{Answer, Apart, Event};
 use elem_tree::LayerTree;
 use res_path::Name;
 use script_lang::{Command, Job};
-use std::alloc::Global;
+use std::alloc::{AllocError, Global};
 use ws_core::Core;
 
 /// The worker does an event that a command asks.
@@ -28,7 +31,7 @@ fn do_event(core: &mut Core<LayerTree>, alloc: Global, event: Event) -> Result<(
     core.perform(alloc, 1, event)
 }
 
-/// The worker makes a build.
+/// The worker makes a build. Where that ends for want of memory, the run is to stop there.
 fn do_build<B: Builder, M: Meanings>(
     core: &mut Core<LayerTree>,
     builders: &mut Builders<B>,
@@ -44,8 +47,21 @@ fn do_build<B: Builder, M: Meanings>(
 {
     settle(core);
     let answer = build::<B, M>(core, builders, alloc, kind, project)?;
-    drop(answer);
-    Ok(())
+    ended(answer)
+}
+
+/// Memory wanted where a build that was answered so ended for that.
+fn ended(answer: BuildAnswer) -> Result<(), NoMemory>
+    ensures wanting { OnErr result (answer ≡ Ended outcomes.NoMemory) }
+    ensures other { OnOk result (answer ≢ Ended outcomes.NoMemory) }
+{
+    match answer {
+        BuildAnswer::Ended(BuildOutcome::NoMemory) => Err(AllocError),
+        other => {
+            drop(other);
+            Ok(())
+        }
+    }
 }
 
 /// The worker does what is asked.

@@ -102,8 +102,7 @@ endjob
 endphase
 ";
 
-/// The builds, with what is handed. The third call gives no edits, for which `@` stands, and the fourth is handed what that
-/// was. What the other builder answers puts a file above another, and nothing of it is done.
+/// The first builds, with what is handed. The third call gives no edits, for which `@` stands.
 const BUILDS: &str = "p1 handed /P 0 10 -> none
 p1 commit /P 0 -> touched 1 problems 0
 p1 checkin settled -> ok
@@ -118,7 +117,11 @@ p1 handed /P 0 10 -> delta
   /P/src *
   /P/src/a * CONTENT
 p1 checkin @ -> ok
-p1 handed /P 0 10 -> delta
+";
+
+/// Those after it. The fourth call is handed what the third one was. What the other builder answers puts a file above another,
+/// and nothing of it is done.
+const LATER: &str = "p1 handed /P 0 10 -> delta
   /P *
   /P/src *
   /P/src/a * CONTENT
@@ -131,14 +134,14 @@ p1 cat /P/out/a -> x
 p1 cat /P/out/k -> kept
 ";
 
-/// What the program writes of the script.
-fn written(rt: &(impl Abort + AllocGlobal), script: &str) -> Vec<u8> {
+/// What the program writes of the script, whose run ends so.
+fn written(rt: &(impl Abort + AllocGlobal), script: &str, status: u8) -> Vec<u8> {
     let mut source = source(rt, script);
     let mut sink = MemSink::new(rt.alloc());
     let listeners = Vec::new(rt.alloc());
     let builders = builders(rt);
     let outcome = run(rt, "run a b", &mut source, &mut sink, builders, listeners);
-    same(rt, "status", outcome.status, 0);
+    same(rt, "status", outcome.status, status);
     let_go(outcome);
     let mut out = Vec::new(rt.alloc());
     must(rt, out.extend_from_slice(sink.written()));
@@ -162,14 +165,18 @@ fn builds(rt: &(impl Abort + AllocGlobal), text: &[u8]) -> String {
     out
 }
 
-/// The status is 0 also where the builder answers that memory wants: the build alone has ended.
+/// Where the builder answers that memory wants, the run stops behind its build.
 #[test]
 fn builders_that_give_no_edits_and_one_that_is_refused(rt: HostRuntime) {
-    for (name, outcome) in [("failing", "failed /P 0"), ("wanting", "no-memory")] {
+    for (name, outcome, later, status) in [
+        ("failing", "failed /P 0", LATER, 0),
+        ("wanting", "no-memory", "", 8),
+    ] {
         let script = must(&rt, SCRIPT.replace(rt.alloc(), "@", name));
-        let text = written(&rt, script.as_str());
+        let text = written(&rt, script.as_str(), status);
         let found = builds(&rt, text.as_slice());
-        let wanted = must(&rt, BUILDS.replace(rt.alloc(), "@", outcome));
+        let mut wanted = must(&rt, BUILDS.replace(rt.alloc(), "@", outcome));
+        must(&rt, wanted.push_str(later));
         reads(&rt, name, found.as_str().as_bytes(), wanted.as_str());
     }
 }

@@ -3,7 +3,7 @@ use Rattle.std.specs.Option.{option_copied}
 use Rattle.run_order.specs.Lists.{Cut}
 use Rattle.build_host.specs.Builds.{IsBuild}
 use Rattle.phase_run.proofs.Results.{on_err}
-use Rattle.phase_run.proofs.Commanded.{did_build, ready_to_build, stopped_build}
+use Rattle.phase_run.proofs.Commanded.{ended_build, ready_to_build, stopped_build}
 use Rattle.phase_run.proofs.worker.do_build.Goals as goal
 
 pub build-requires : goal.build-requires
@@ -14,4 +14,4 @@ returns-in_err-answer-clause-done g c = on_err _ _ c.from_residual.result c.from
     (stopped_build (Cut (IsBuild g.M.Meanings.meaning 1 c.args.kind (option_copied c.args.project))) c.args.core.now c.build.new.core c.in_err-answer.ensures.cut c.in_err-answer.ensures.goes c.requires.work)
 
 pub returns-clause-done : goal.returns-clause-done
-returns-clause-done g c = did_build (IsBuild g.M.Meanings.meaning 1 c.args.kind (option_copied c.args.project)) c.args.core.now c.build.new.core c.in_ok-answer.ensures.made c.in_ok-answer.ensures.home c.in_ok-answer.ensures.goes c.requires.work
+returns-clause-done g c = ended_build (IsBuild g.M.Meanings.meaning 1 c.args.kind (option_copied c.args.project)) c.ended.result c.args.core.now c.build.new.core c.in_ok-answer.ensures.made c.in_ok-answer.ensures.home c.in_ok-answer.ensures.goes c.requires.work
