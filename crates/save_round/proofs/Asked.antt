@@ -1,11 +1,12 @@
 -- Participants that are asked for their states, one after another.
-use Rattle.std.proofs.Common.{◌≡◌, ℕ, zero, suc, ◌+◌, ◌<◌, ◌≤◌, ◌⊎◌, inl, inr, Bool, true, false, cond, List, [], ◌∷◌, ◌++◌, length, slice_get, IsSomeAnd, Option, Some, None, Ok, refl, sym, ap, ap₂, ◌∙◌, subst, append_assoc, append-nil, arith}
+use Rattle.std.proofs.Common.{◌≡◌, ℕ, zero, suc, ◌+◌, ◌<◌, ◌≤◌, ◌⊎◌, inl, inr, Bool, true, false, cond, List, [], ◌∷◌, ◌++◌, length, slice_get, IsSomeAnd, Option, Some, None, IsSome, Result, Ok, Err, IsErr, IfOk, is_err, refl, sym, ap, ap₂, ◌∙◌, subst, append_assoc, append-nil, arith}
 use Rattle.save_round.specs.declared.kind.SaveKind.{SaveKind}
 use Rattle.save_round.specs.declared.state.PartState.{PartState}
+use Rattle.save_round.specs.declared.participant.PartFault.{PartFault}
 use Rattle.save_round.specs.Told.{Call, Told, Saving}
 use Rattle.save_round.specs.Firsts.{FirstsHad, firsts, by_place}
 use Rattle.save_round.specs.Rounds.{named_state, states_where, HaveAnswered}
-use Rattle.save_round.proofs.Called.{as_well, none_had, named_before}
+use Rattle.save_round.proofs.Called.{as_well, none_had, named_before, same_firsts}
 use Rattle.save_round.proofs.Places.{before_it, own_up_to}
 
 -- so many were asked, and these are the states that they answered
@@ -15,7 +16,7 @@ pub record AskedSoFar (kind : SaveKind) (n : ℕ) (kept : List (List ℕ × Part
   pub states : kept ≡ states_where (firsts old) (λ k. by_place n (answers k) None None k) old
 
 -- an answer more, for the one at the place
-longer : ℕ → (ℕ → Option PartState) → Option PartState → ℕ → Option PartState
+abbrev longer : ℕ → (ℕ → Option PartState) → Option PartState → ℕ → Option PartState
 longer n answers answer k = by_place n (answers k) answer None k
 
 no_state : (bs : List Bool) (answers : ℕ → Option PartState) (xs : List Told) → ((k : ℕ) → answers k ≡ None) → states_where bs answers xs ≡ []
@@ -32,17 +33,17 @@ one_state : (bs : List Bool) (answers : ℕ → Option PartState) (answer : Opti
     → (answer ≡ None) ⊎ (slice_get bs n ≡ Some true) → IsSomeAnd (slice_get xs n) (λ x. x.named ≡ name)
     → states_where bs (λ k. by_place n (answers k) None None k) xs ++ named_state name answer ≡ states_where bs (λ k. by_place (suc n) (longer n answers answer k) None None k) xs
 one_state [] answers answer xs n name (inl none) is = ap (named_state name) none
-one_state [] answers answer xs n name (inr yes) is = cc
+one_state [] answers answer xs n name (inr there) is = cc
 one_state (b ∷ bs) answers answer [] n name first is = absurd is
 one_state (b ∷ bs) answers answer (x ∷ xs) zero name first is =
-    ap₂ (λ ls ms. (named_state x.named (cond b None None) ++ ls) ++ named_state name answer) (no_state bs (λ k. None) xs (λ k. refl)) refl
+    ap (λ ls. (named_state x.named (cond b None None) ++ ls) ++ named_state name answer) (no_state bs (λ k. None) xs (λ k. refl))
     ∙ by b first
     ∙ ap (λ ls. named_state x.named (cond b answer None) ++ ls) (sym (no_state bs (λ k. by_place 0 (by_place 0 (answers (suc k)) answer None (suc k)) None None k) xs (λ k. nowhere 0 k None)))
   where
     by : (b : Bool) → (answer ≡ None) ⊎ (Some b ≡ Some true) → (named_state x.named (cond b None None) ++ []) ++ named_state name answer ≡ named_state x.named (cond b answer None) ++ []
     by true first = ap (λ m. named_state m answer) (sym is) ∙ sym (append-nil (named_state x.named answer))
     by false (inl none) = ap (named_state name) none
-    by false (inr yes) = cc
+    by false (inr there) = cc
 one_state (true ∷ bs) answers answer (x ∷ xs) (suc n) name first is =
     append_assoc (named_state x.named (answers 0)) (states_where bs (λ k. by_place n (answers (suc k)) None None k) xs) (named_state name answer)
     ∙ ap (λ ls. named_state x.named (answers 0) ++ ls) (one_state bs (λ k. answers (suc k)) answer xs n name first is)
@@ -72,25 +73,52 @@ asked_none kind xs = record {
     by zero = refl
     by (suc k) = refl
 
+-- whether a call went well
+pub went_well : {A E : Type 0} (r : Result A E) (P : Type 0) → is_err r ≡ false → IfOk r (λ done. P) → P
+went_well (Ok a) P e p = p
+went_well (Err x) P e p = cc
+
+pub went_wrong : {A E : Type 0} (r : Result A E) → is_err r ≡ true → IsErr r
+went_wrong (Ok a) e = cc
+went_wrong (Err x) e = refl
+
+none_or : (answer : Option PartState) (P : Type 0) → (◌≡◌ {A = Result (Option PartState) PartFault} (Ok answer) (Ok None)) ⊎ P → (answer ≡ None) ⊎ P
+none_or None P h = inl refl
+none_or (Some a) P (inl e) = cc
+none_or (Some a) P (inr p) = inr p
+
+-- who answered a state is marked
+pub marked_if_some : (answer : Option PartState) (P : Type 0) → (◌≡◌ {A = Result (Option PartState) PartFault} (Ok answer) (Ok None)) ⊎ P → IsSome answer → P
+marked_if_some None P h s = cc
+marked_if_some (Some a) P (inl e) s = cc
+marked_if_some (Some a) P (inr p) s = p
+
+-- so is who answered a fault
+pub marked_if_failed : (fault : PartFault) (P : Type 0) → (◌≡◌ {A = Result (Option PartState) PartFault} (Err fault) (Ok None)) ⊎ P → P
+marked_if_failed fault P (inl e) = cc
+marked_if_failed fault P (inr p) = p
+
 -- one more was asked
-pub asked_next : (kind : SaveKind) (n : ℕ) (kept more : List (List ℕ × PartState)) (answer : Option PartState) (xs ys zs : List Told) → AskedSoFar kind n kept xs ys
-    → FirstsHad (by_place n [] (Saving kind (Ok answer) ∷ []) []) ys zs → (answer ≡ None) ⊎ (slice_get (firsts xs) n ≡ Some true)
-    → IsSomeAnd (slice_get xs n) (λ x. more ≡ kept ++ named_state x.named answer) → AskedSoFar kind (n + 1) more xs zs
-asked_next kind n kept more answer xs ys zs so_far called first is =
+pub asked_next : (kind : SaveKind) (n : ℕ) (kept more : List (List ℕ × PartState)) (answer : Option PartState) (name : List ℕ) (xs ys zs : List Told) → AskedSoFar kind n kept xs ys
+    → FirstsHad (by_place n [] (Saving kind (Ok answer) ∷ []) []) ys zs → (◌≡◌ {A = Result (Option PartState) PartFault} (Ok answer) (Ok None)) ⊎ (slice_get (firsts ys) n ≡ Some true)
+    → IsSomeAnd (slice_get zs n) (λ z. z.named ≡ name) → more ≡ kept ++ named_state name answer → AskedSoFar kind (n + 1) more xs zs
+asked_next kind n kept more answer name xs ys zs so_far called first is longer_by =
     let on : suc n ≡ n + 1 = omega arith in
-    subst (λ m. AskedSoFar kind m more xs zs) on (record {
+    let before : AskedSoFar kind (suc n) more xs zs = record {
       answers = longer n so_far.answers answer;
-      calls = as_well (λ k. by_place n (Saving kind (Ok (so_far.answers k)) ∷ []) (Saving kind (Ok answer) ∷ []) [] k) (λ k. by_place (suc n) (Saving kind (Ok (longer n so_far.answers answer k)) ∷ []) [] [] k) xs zs
-          (λ k lt. own_next kind n so_far.answers answer k) (own_up_to n (λ k. Saving kind (Ok (so_far.answers k))) (Saving kind (Ok answer)) xs ys zs so_far.calls called);
-      states = by (slice_get xs n) is (λ name named. one_state (firsts xs) so_far.answers answer xs n name first named);
-    })
+      calls = calls;
+      states = longer_by ∙ ap (λ ls. ls ++ named_state name answer) so_far.states
+          ∙ one_state (firsts xs) so_far.answers answer xs n name mark (named_before n name (λ k. by_place (suc n) (Saving kind (Ok (longer n so_far.answers answer k)) ∷ []) [] [] k) xs zs calls is);
+    } in
+    subst (λ m. AskedSoFar kind m more xs zs) on before
   where
-    by : (o : Option Told) → IsSomeAnd o (λ x. more ≡ kept ++ named_state x.named answer)
-        → ((name : List ℕ) → IsSomeAnd o (λ x. x.named ≡ name) → states_where (firsts xs) (λ k. by_place n (so_far.answers k) None None k) xs ++ named_state name answer
-            ≡ states_where (firsts xs) (λ k. by_place (suc n) (longer n so_far.answers answer k) None None k) xs)
-        → more ≡ states_where (firsts xs) (λ k. by_place (suc n) (longer n so_far.answers answer k) None None k) xs
-    by None is one = absurd is
-    by (Some x) is one = is ∙ ap (λ ls. ls ++ named_state x.named answer) so_far.states ∙ one x.named refl
+    calls : FirstsHad (λ k. by_place (suc n) (Saving kind (Ok (longer n so_far.answers answer k)) ∷ []) [] [] k) xs zs
+    calls = as_well (λ k. by_place n (Saving kind (Ok (so_far.answers k)) ∷ []) (Saving kind (Ok answer) ∷ []) [] k) (λ k. by_place (suc n) (Saving kind (Ok (longer n so_far.answers answer k)) ∷ []) [] [] k) xs zs
+        (λ k lt. own_next kind n so_far.answers answer k) (own_up_to n (λ k. Saving kind (Ok (so_far.answers k))) (Saving kind (Ok answer)) xs ys zs so_far.calls called)
+
+    mark : (answer ≡ None) ⊎ (slice_get (firsts xs) n ≡ Some true)
+    mark = subst (λ bs. (answer ≡ None) ⊎ (slice_get bs n ≡ Some true)) (same_firsts (λ k. by_place n (Saving kind (Ok (so_far.answers k)) ∷ []) [] [] k) xs ys so_far.calls)
+        (none_or answer (slice_get (firsts ys) n ≡ Some true) first)
 
 states_alike : (bs : List Bool) (answers others : ℕ → Option PartState) (xs : List Told) → ((k : ℕ) → k < length xs → answers k ≡ others k) → states_where bs answers xs ≡ states_where bs others xs
 states_alike [] answers others xs e = refl

@@ -1,5 +1,5 @@
 -- Calls of participants, one after another.
-use Rattle.std.proofs.Common.{◌≡◌, ℕ, zero, suc, ◌+◌, ◌<◌, ◌≤◌, ◌^◌, ◌-◌, ◌⊎◌, inl, inr, Bool, true, false, not, ◌||◌, if◌then◌else◌, List, [], ◌∷◌, ◌++◌, length, map, take, get_or, slice_get, slice_set, Option, Some, None, IfSome, IsSomeAnd, refl, sym, ap, ap₂, ◌∙◌, subst, le_trans, le_of_eq, arith}
+use Rattle.std.proofs.Common.{◌≡◌, ℕ, zero, suc, ◌+◌, ◌<◌, ◌≤◌, ◌^◌, ◌-◌, ◌⊎◌, inl, inr, Bool, true, false, not, ◌||◌, if◌then◌else◌, List, [], ◌∷◌, ◌++◌, length, map, take, get_or, slice_get, slice_set, Option, Some, None, IfSome, IsSomeAnd, refl, sym, ap, ap₂, ◌∙◌, subst, le_trans, le_of_eq, eq-or-lt_of_le, arith}
 use Rattle.std.specs.List.{list_any}
 use Rattle.std.specs.Str.{bytes_eq}
 use Rattle.std.proofs.lemmas.List.{length-map}
@@ -29,7 +29,7 @@ firsts_kept before (b ∷ bs) f (x ∷ xs) [] h = absurd h
 firsts_kept before (b ∷ bs) f (x ∷ xs) (y ∷ ys) h =
     let same = named_kept (if b then f 0 else []) x y h.0 in
     ap₂ ◌∷◌ (ap (λ n. not (list_any (λ name. bytes_eq name n) before)) same)
-        (ap (λ n. firsts_after (n ∷ before) ys) same ∙ firsts_kept (x.named ∷ before) bs (λ k. f (suc k)) xs ys h.1)
+    (ap (λ n. firsts_after (n ∷ before) ys) same ∙ firsts_kept (x.named ∷ before) bs (λ k. f (suc k)) xs ys h.1)
 
 pub same_firsts : (f : ℕ → List Call) (xs ys : List Told) → FirstsHad f xs ys → firsts ys ≡ firsts xs
 same_firsts f xs ys h = firsts_kept [] (firsts xs) f xs ys h
@@ -74,7 +74,7 @@ untouched before (x ∷ xs) = (quiet (not (list_any (λ name. bytes_eq name x.na
 pub none_had : (xs : List Told) → FirstsHad (λ k. []) xs xs
 none_had xs = untouched [] xs
 
-got : Option Bool → Bool
+abbrev got : Option Bool → Bool
 got None = false
 got (Some b) = b
 
@@ -118,11 +118,12 @@ module _ {A : Type 0} (tells : A → Told) where
   turned : (a b c : Bool) → (a || (b || c)) ≡ ((b || a) || c)
   turned true true c = refl
   turned true false c = refl
-  turned false b c = refl
+  turned false true c = refl
+  turned false false c = refl
 
   mark_is : (before : List (List ℕ)) (xs : List A) (at : ℕ) (d : A) → at < length xs
       → slice_get (firsts_after before (map tells xs)) at
-        ≡ Some (not (list_any (λ p. bytes_eq (tells p).named (tells (get_or xs at d)).named) (take at xs) || list_any (λ name. bytes_eq name (tells (get_or xs at d)).named) before))
+      ≡ Some (not (list_any (λ p. bytes_eq (tells p).named (tells (get_or xs at d)).named) (take at xs) || list_any (λ name. bytes_eq name (tells (get_or xs at d)).named) before))
   mark_is before [] at d lt = absurd (omega (arith, lt))
   mark_is before (x ∷ xs) zero d lt = refl
   mark_is before (x ∷ xs) (suc at) d lt =
@@ -141,6 +142,21 @@ module _ {A : Type 0} (tells : A → Told) where
   -- what the test found, of the list itself
   pub mark_of : (xs ys : List A) (at : ℕ) (b c : Bool) → ys ≡ xs → slice_get (firsts (map tells ys)) at ≡ Some b → b ≡ c → slice_get (firsts (map tells xs)) at ≡ Some c
   mark_of xs ys at b c same is e = subst (λ zs. slice_get (firsts (map tells zs)) at ≡ Some c) same (is ∙ ap Some e)
+
+  -- who stands at a place has its name
+  pub named_at : (xs : List A) (at : ℕ) (d : A) (name : List ℕ) → at < length xs → d ≡ get_or xs at d → name ≡ (tells d).named → IsSomeAnd (slice_get (map tells xs) at) (λ x. x.named ≡ name)
+  named_at [] at d name lt is same = absurd (omega (arith, lt))
+  named_at (x ∷ xs) zero d name lt is same = sym (same ∙ ap (λ p. (tells p).named) is)
+  named_at (x ∷ xs) (suc at) d name lt is same = named_at xs at d name (omega (arith, lt)) is same
+
+  counted : (before : List (List ℕ)) (xs : List A) (at : ℕ) (b : Bool) → slice_get (firsts_after before (map tells xs)) at ≡ Some b → at < length xs
+  counted before [] at b is = cc
+  counted before (x ∷ xs) zero b is = omega arith
+  counted before (x ∷ xs) (suc at) b is = let lt = counted ((tells x).named ∷ before) xs at b is in omega (arith, lt)
+
+  -- a place that is marked is one of the list
+  pub is_within : (xs : List A) (at : ℕ) (b : Bool) → slice_get (firsts (map tells xs)) at ≡ Some b → at < length xs
+  is_within xs at b is = counted [] xs at b is
 
 -- what stands at a place before and after
 later : (k : ℕ) (bs : List Bool) (f : ℕ → List Call) (xs ys : List Told) → HadWhere bs f xs ys
@@ -163,20 +179,25 @@ earlier k (b ∷ bs) f (x ∷ xs) [] h = absurd h
 earlier zero (b ∷ bs) f (x ∷ xs) (y ∷ ys) h = (named_kept (if b then f 0 else []) x y h.0, never_fewer (if b then f 0 else []) x y h.0)
 earlier (suc k) (b ∷ bs) f (x ∷ xs) (y ∷ ys) h = earlier k bs (λ n. f (suc n)) xs ys h.1
 
+risen_between : (a b c d : ℕ) → a ≤ b → HasRisen b c → c ≤ d → HasRisen a d
+risen_between a b c d ab (inl lt) cd = inl (omega (arith, ab, lt, cd))
+risen_between a b c d ab (inr e) cd = last (eq-or-lt_of_le (omega (arith, ab, e.1, cd)))
+  where
+    last : (a ≡ d) ⊎ (a < d) → HasRisen a d
+    last (inl same) = inr (omega (arith, same, ab, e.0, e.1, cd), sym same)
+    last (inr lt) = inl lt
+
 -- a count that rose has risen for who looks from earlier to later
 pub rose_between : (at : ℕ) (f g : ℕ → List Call) (xs ys zs ws : List Told) → FirstsHad f xs ys → HasRisenAt at ys zs → FirstsHad g zs ws → HasRisenAt at xs ws
 rose_between at f g xs ys zs ws h rose k = by (slice_get xs at) (slice_get ys at) (slice_get zs at) (slice_get ws at) (earlier at (firsts xs) f xs ys h) rose (later at (firsts zs) g zs ws k)
   where
-    within : (a b c d : ℕ) → a ≤ b → HasRisen b c → c ≤ d → HasRisen a d
-    within a b c d ab bc cd = omega arith
-
     by : (ox oy oz ow : Option Told) → IfSome oy (λ y. IsSomeAnd ox (λ x. (y.named ≡ x.named) × (x.faults ≤ y.faults))) → IsSomeAnd oy (λ y. IsSomeAnd oz (λ z. HasRisen y.faults z.faults))
         → IfSome oz (λ z. IsSomeAnd ow (λ w. (w.named ≡ z.named) × (z.faults ≤ w.faults))) → IsSomeAnd ox (λ x. IsSomeAnd ow (λ w. HasRisen x.faults w.faults))
     by ox None oz ow a b c = absurd b
     by ox (Some y) None ow a b c = absurd b
     by None (Some y) (Some z) ow a b c = absurd a
     by (Some x) (Some y) (Some z) None a b c = absurd c
-    by (Some x) (Some y) (Some z) (Some w) a b c = within x.faults y.faults z.faults w.faults a.1 b c.1
+    by (Some x) (Some y) (Some z) (Some w) a b c = risen_between x.faults y.faults z.faults w.faults a.1 b c.1
 
 -- who has a name at a place afterwards had it before
 pub named_before : (at : ℕ) (name : List ℕ) (f : ℕ → List Call) (xs ys : List Told) → FirstsHad f xs ys

@@ -1,5 +1,5 @@
 -- Rounds that stop.
-use Rattle.std.proofs.Common.{◌≡◌, ℕ, ◌≤◌, ◌<◌, Bool, true, List, [], ◌∷◌, length, Option, Some, None, Result, Ok, Err, IsSomeAnd, slice_get, refl, ap, ◌∙◌, subst, sym, arith}
+use Rattle.std.proofs.Common.{◌≡◌, ℕ, ◌≤◌, ◌<◌, Bool, true, List, [], ◌∷◌, length, map, Option, Some, None, Result, Ok, Err, IsSomeAnd, slice_get, refl, ap, ◌∙◌, subst, sym, arith}
 use Rattle.save_round.specs.declared.kind.SaveKind.{SaveKind}
 use Rattle.save_round.specs.declared.state.PartState.{PartState}
 use Rattle.save_round.specs.declared.participant.PartFault.{PartFault}
@@ -40,8 +40,11 @@ preparing_stopped kind stop fault xs ys zs were h named = record {
   calls = calls;
   cause = if_failed fault (λ name. (stop.fault ≡ answer.Failed) × IsNamedAt stop.place name zs)
       (λ name. (Err stop.fault ≡ Err answer.Failed) × IsNamedAt stop.place name xs × HasRisenAt stop.place xs zs)
-      (λ name p. (ap Err p.0, named_before stop.place name (by_place stop.place (Prepared kind (Ok tt) ∷ RolledBack ∷ []) (Prepared kind (Err stop.fault) ∷ []) []) xs zs calls p.1,
-          rose_between stop.place (λ n. []) (by_place stop.place (RolledBack ∷ []) [] []) xs xs ys zs (none_had xs) (were.failed p.0) h)) named;
+      (λ name p. (
+        ap Err p.0,
+        named_before stop.place name (by_place stop.place (Prepared kind (Ok tt) ∷ RolledBack ∷ []) (Prepared kind (Err stop.fault) ∷ []) []) xs zs calls p.1,
+        rose_between stop.place (λ n. []) (by_place stop.place (RolledBack ∷ []) [] []) xs xs ys zs (none_had xs) (were.failed p.0) h,
+      )) named;
 }
   where
     calls : FirstsHad (by_place stop.place (Prepared kind (Ok tt) ∷ RolledBack ∷ []) (Prepared kind (Err stop.fault) ∷ []) []) xs zs
@@ -70,10 +73,17 @@ saving_stopped kind stop fault xs ys zs were h named = record {
   calls = calls;
   cause = if_failed fault (λ name. (stop.fault ≡ answer.Failed) × IsNamedAt stop.place name zs)
       (λ name. (were.last ≡ Err answer.Failed) × IsNamedAt stop.place name xs × HasRisenAt stop.place xs zs)
-      (λ name p. ((were.failed p.0).0,
-          named_before stop.place name (λ n. by_place stop.place (Saving kind (Ok (were.answers n)) ∷ RolledBack ∷ []) (Saving kind were.last ∷ RolledBack ∷ []) (RolledBack ∷ []) n) xs zs calls p.1,
-          rose_between stop.place (λ n. []) (λ n. RolledBack ∷ []) xs xs ys zs (none_had xs) (were.failed p.0).1 h)) named;
+      (λ name p. (
+        (were.failed p.0).0,
+        named_before stop.place name (λ n. by_place stop.place (Saving kind (Ok (were.answers n)) ∷ RolledBack ∷ []) (Saving kind were.last ∷ RolledBack ∷ []) (RolledBack ∷ []) n) xs zs calls p.1,
+        rose_between stop.place (λ n. []) (λ n. RolledBack ∷ []) xs xs ys zs (none_had xs) (were.failed p.0).1 h,
+      )) named;
 }
   where
     calls : FirstsHad (λ n. by_place stop.place (Saving kind (Ok (were.answers n)) ∷ RolledBack ∷ []) (Saving kind were.last ∷ RolledBack ∷ []) (RolledBack ∷ []) n) xs zs
     calls = all_rolled stop.place (λ n. Saving kind (Ok (were.answers n))) (Saving kind were.last) RolledBack xs ys zs were.calls h
+
+-- the name that was found in a slice of the list is the list's
+pub named_in : {A : Type 0} (tells : A → Told) (stop : Stop) (fault : RoundFault) (xs ys : List A) → ys ≡ xs
+    → IfFailed fault (λ name. (stop.fault ≡ answer.Failed) × IsNamedAt stop.place name (map tells ys)) → IfFailed fault (λ name. (stop.fault ≡ answer.Failed) × IsNamedAt stop.place name (map tells xs))
+named_in tells stop fault xs ys same h = subst (λ zs. IfFailed fault (λ name. (stop.fault ≡ answer.Failed) × IsNamedAt stop.place name (map tells zs))) same h

@@ -1,5 +1,5 @@
 //! One call of each participant, one after another.
-ghost use Rattle.std.specs.Prelude.{◌≡◌, ◌∷◌, [], ◌++◌, ◌<◌, ◌≤◌, ◌⊎◌, true, length, map, Ok, Err, Some, None, IfOk, IfErr, IsErr, IsSome, IsSomeAnd, slice_get};
+ghost use Rattle.std.specs.Prelude.{◌≡◌, ◌∷◌, [], ◌++◌, ◌<◌, ◌≤◌, ◌⊎◌, true, length, map, Ok, Err, Some, None, IfOk, IfErr, IsErr, IsSome, slice_get};
 ghost use Rattle.std.specs.List.{list_any};
 ghost use Rattle.std.specs.Str.{bytes_eq};
 ghost use Rattle.save_round.specs.Told.{Prepared, Saving, WasCalled, HasRisen, HasRisenAt};
@@ -31,8 +31,9 @@ pub(crate) fn prepare_each<P: Participant>(all: &mut Vec<P>, kind: SaveKind) -> 
     ensures stopped { IfErr result (λ stop. WerePrepared kind stop (map (λ p. P.tells p) all.old.items) (map (λ p. P.tells p) all.new.items)) }
 {
     for at in 0..all.len() {
-        if let Err(fault) = prepare_at(all, at, kind) {
-            return Err(Stop { place: at, fault });
+        match prepare_at(all, at, kind) {
+            Ok(()) => {}
+            Err(fault) => return Err(Stop { place: at, fault }),
         }
     }
     Ok(())
@@ -52,8 +53,11 @@ pub(crate) fn ask_each<P: Participant>(
     for at in 0..all.len() {
         match ask_at(all, at, kind) {
             Ok(answered) => {
-                if keep(alloc, all.as_slice(), at, answered, &mut states).is_err() {
-                    return Err(Stop { place: at, fault: PartFault::Memory });
+                if keep(alloc, &all[at], answered, &mut states).is_err() {
+                    return Err(Stop {
+                        place: at,
+                        fault: PartFault::Memory,
+                    });
                 }
             }
             Err(fault) => return Err(Stop { place: at, fault }),
@@ -73,11 +77,7 @@ pub(crate) fn end_before<P: Participant>(all: &mut Vec<P>, to: usize, ending: En
 }
 
 /// The participant at the place is prepared, where it is the first of its name.
-fn prepare_at<P: Participant>(
-    all: &mut Vec<P>,
-    at: usize,
-    kind: SaveKind,
-) -> Result<(), PartFault>
+fn prepare_at<P: Participant>(all: &mut Vec<P>, at: usize, kind: SaveKind) -> Result<(), PartFault>
     requires { at < length all.old.items }
     ensures called { FirstsHad (by_place at [] (Prepared kind result ∷ []) []) (map (λ p. P.tells p) all.old.items) (map (λ p. P.tells p) all.new.items) }
     ensures first { IsErr result → slice_get (firsts (map (λ p. P.tells p) all.old.items)) at ≡ Some true }
@@ -98,7 +98,7 @@ fn ask_at<P: Participant>(
 ) -> Result<Option<PartState>, PartFault>
     requires { at < length all.old.items }
     ensures called { FirstsHad (by_place at [] (Saving kind result ∷ []) []) (map (λ p. P.tells p) all.old.items) (map (λ p. P.tells p) all.new.items) }
-    ensures first { result ≡ Ok None ⊎ (slice_get (firsts (map (λ p. P.tells p) all.old.items)) at ≡ Some true) }
+    ensures first { (result ≡ Ok None) ⊎ (slice_get (firsts (map (λ p. P.tells p) all.old.items)) at ≡ Some true) }
     ensures failed { result ≡ Err PartFault.Failed → HasRisenAt at (map (λ p. P.tells p) all.old.items) (map (λ p. P.tells p) all.new.items) }
 {
     if is_first(all.as_slice(), at) {
@@ -114,25 +114,23 @@ fn end_at<P: Participant>(all: &mut Vec<P>, at: usize, ending: Ending)
     ensures { FirstsHad (by_place at [] (ending_call ending ∷ []) []) (map (λ p. P.tells p) all.old.items) (map (λ p. P.tells p) all.new.items) }
 {
     if is_first(all.as_slice(), at) {
-        end_one(&mut all[at], ending);
+        end_one(&mut all[at], ending)
     }
 }
 
-/// A state that was answered is kept, with the name of the participant at the place.
+/// A state that the participant answered is kept, with its name.
 fn keep<P: Participant>(
     alloc: Global,
-    all: &[P],
-    at: usize,
+    one: &P,
     answered: Option<PartState>,
     states: &mut Vec<(Name, PartState)>,
 ) -> Result<(), NoMemory>
-    requires { at < length all.now }
-    ensures kept { IfOk result (λ done. IsSomeAnd (slice_get (map (λ p. P.tells p) all.now) at) (λ x. states.new.items ≡ states.old.items ++ named_state x.named answered)) }
+    ensures kept { IfOk result (λ done. states.new.items ≡ states.old.items ++ named_state (P.tells one.now).named answered) }
     ensures none { IsErr result → IsSome answered }
 {
     match answered {
         Some(state) => {
-            let name = name_of(alloc, &all[at])?;
+            let name = name_of(alloc, one)?;
             states.push((name, state))?;
             Ok(())
         }

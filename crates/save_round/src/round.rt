@@ -5,7 +5,7 @@ ghost use Rattle.save_round.specs.Firsts.{FirstsHad};
 ghost use Rattle.save_round.specs.Passes.{ending_call};
 ghost use Rattle.save_round.specs.Rounds.{HaveAnswered, HasStoppedPreparing, HasStoppedSaving, IfFailed, IsNamedAt};
 
-use crate::pass::{ask_each, end_before, name_of, prepare_each, Ending, Stop};
+use crate::pass::{Ending, Stop, ask_each, end_before, name_of, prepare_each};
 use crate::{PartFault, PartState, Participant, Participants, SaveKind};
 use res_path::Name;
 use std::alloc::Global;
