@@ -3,7 +3,7 @@ use Rattle.std.proofs.Common.{◌≡◌, ℕ, zero, suc, ◌+◌, ◌<◌, ◌�
 use Rattle.save_round.specs.declared.kind.SaveKind.{SaveKind}
 use Rattle.save_round.specs.declared.state.PartState.{PartState}
 use Rattle.save_round.specs.declared.participant.PartFault.{PartFault}
-use Rattle.save_round.specs.Told.{Call, Told, Saving}
+use Rattle.save_round.specs.Told.{Told, Saving}
 use Rattle.save_round.specs.Firsts.{FirstsHad, firsts, by_place}
 use Rattle.save_round.specs.Rounds.{named_state, states_where, HaveAnswered}
 use Rattle.save_round.proofs.Called.{as_well, none_had, named_before, same_firsts}

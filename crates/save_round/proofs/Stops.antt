@@ -1,5 +1,5 @@
 -- Rounds that stop.
-use Rattle.std.proofs.Common.{◌≡◌, ℕ, ◌≤◌, ◌<◌, Bool, true, List, [], ◌∷◌, length, map, Option, Some, None, Result, Ok, Err, IsSomeAnd, slice_get, refl, ap, ◌∙◌, subst, sym, arith}
+use Rattle.std.proofs.Common.{◌≡◌, ℕ, true, List, [], ◌∷◌, map, Option, Some, Result, Ok, Err, slice_get, ap, ◌∙◌, subst, sym}
 use Rattle.save_round.specs.declared.kind.SaveKind.{SaveKind}
 use Rattle.save_round.specs.declared.state.PartState.{PartState}
 use Rattle.save_round.specs.declared.participant.PartFault.{PartFault}
@@ -7,11 +7,11 @@ use Rattle.save_round.specs.declared.participant.PartFault.TheVariants as answer
 use Rattle.save_round.specs.declared.pass.Stop.{Stop}
 use Rattle.save_round.specs.declared.round.RoundFault.{RoundFault}
 use Rattle.save_round.specs.declared.round.RoundFault.TheVariants.{Failed, Memory}
-use Rattle.save_round.specs.Told.{Call, Told, Prepared, Saving, RolledBack, HasRisenAt}
+use Rattle.save_round.specs.Told.{Told, Prepared, Saving, RolledBack, HasRisenAt}
 use Rattle.save_round.specs.Firsts.{FirstsHad, firsts, by_place}
-use Rattle.save_round.specs.Rounds.{IfFailed, IsNamedAt, IsCause, HasStoppedPreparing, HasStoppedSaving}
+use Rattle.save_round.specs.Rounds.{IfFailed, IsNamedAt, HasStoppedPreparing, HasStoppedSaving}
 use Rattle.save_round.specs.Passes.{WerePrepared, WereAsked}
-use Rattle.save_round.proofs.Called.{none_had, rose_between, named_before, and_then, same_firsts}
+use Rattle.save_round.proofs.Called.{none_had, rose_between, named_before, same_firsts}
 use Rattle.save_round.proofs.Places.{up_to, rolled, all_rolled, own_up_to}
 use Rattle.save_round.proofs.Asked.{AskedSoFar}
 

@@ -1,6 +1,5 @@
 -- What the participant `notes` keeps.
 use Rattle.std.specs.Prelude.{ℕ, ◌+◌, ◌-◌, ◌^◌, ◌==◌, true, min, if◌then◌else◌, List, length, codes, Option, Some, None}
-use Rattle.std.specs.Option.{option_map}
 use Rattle.byteorder.specs.Endian.{big_bytes, big_number}
 use Rattle.save_round.specs.declared.kind.SaveKind.{SaveKind}
 use Rattle.save_round.specs.declared.kind.SaveKind.TheVariants.{Full, Snapshot}

@@ -1,5 +1,5 @@
 -- Passes over participants.
-use Rattle.std.specs.Prelude.{◌≡◌, ℕ, true, List, [], ◌∷◌, ◌++◌, Option, Some, None, Result, Ok, Err, slice_get}
+use Rattle.std.specs.Prelude.{◌≡◌, ℕ, true, List, [], ◌∷◌, Option, Some, Result, Ok, Err, slice_get}
 use Rattle.save_round.specs.declared.kind.SaveKind.{SaveKind}
 use Rattle.save_round.specs.declared.state.PartState.{PartState}
 use Rattle.save_round.specs.declared.participant.PartFault.{PartFault}

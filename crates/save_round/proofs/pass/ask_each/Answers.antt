@@ -1,4 +1,4 @@
-use Rattle.std.proofs.Common.{◌≤◌, [], Err, map, subst, sym, ap, refl, ◌∙◌, arith}
+use Rattle.std.proofs.Common.{◌≤◌, Err, map, subst, sym, ap, refl, ◌∙◌, arith}
 use Rattle.std.proofs.lemmas.List.{length-map}
 use Rattle.save_round.proofs.Called.{same_count, named_at}
 use Rattle.save_round.proofs.Asked.{AskedSoFar, asked_none, asked_next, asked_all, went_well, went_wrong, marked_if_some, marked_if_failed}
