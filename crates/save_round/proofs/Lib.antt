@@ -1,0 +1,4 @@
+pub mod Called
+pub mod Places
+pub mod Asked
+pub mod Stops
