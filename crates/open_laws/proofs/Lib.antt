@@ -1,0 +1,4 @@
+mod Joined
+mod Unshelved
+mod Known
+pub mod Opens
