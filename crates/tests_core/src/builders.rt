@@ -11,12 +11,12 @@ use std::alloc::{AllocError, Global};
 use std::process::Abort;
 use ws_outside::MemSink;
 
-/// A builder that puts files at these paths, but at its third call, at which it answers the fault.
+/// A builder that puts a file, and one below it where it nests them, but at its third call, at which it answers the fault.
 #[derive(Drop)]
 pub struct Asked {
     alloc: Global,
     name: Name,
-    paths: &'static str,
+    nests: bool,
     fault: BuildFault,
     calls: u64,
     faults: u64,
@@ -35,7 +35,7 @@ impl Builder for Asked {
             self.faults = self.faults.saturating_add(1);
             return Err(self.fault);
         }
-        Ok(edits(self.alloc, self.paths)?)
+        Ok(edits(self.alloc, if self.nests { "/a /a/b" } else { "/a" })?)
     }
 
     fn clean(&mut self) {}
@@ -56,20 +56,20 @@ fn edits(alloc: Global, paths: &str) -> Result<Edits, NoMemory> {
     })
 }
 
-/// Their names, the paths of their files, and how they fail.
-const BUILDERS: [(&str, &str, BuildFault); 3] = [
-    ("failing", "/a", BuildFault::Failed),
-    ("wanting", "/a", BuildFault::Memory),
-    ("nested", "/a /a/b", BuildFault::Failed),
+/// Their names, whether they nest their files, and how they fail.
+const BUILDERS: [(&str, bool, BuildFault); 3] = [
+    ("failing", false, BuildFault::Failed),
+    ("wanting", false, BuildFault::Memory),
+    ("nested", true, BuildFault::Failed),
 ];
 
 fn builders(rt: &(impl Abort + AllocGlobal)) -> Vec<Asked> {
     let mut builders = Vec::new(rt.alloc());
-    for (name, paths, fault) in BUILDERS {
+    for (name, nests, fault) in BUILDERS {
         let builder = Asked {
             alloc: rt.alloc(),
             name: must(rt, Name::parse(rt.alloc(), name)),
-            paths,
+            nests,
             fault,
             calls: 0,
             faults: 0,

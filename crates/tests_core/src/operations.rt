@@ -65,7 +65,8 @@ fn goes_back(rt: &(impl Abort + AllocGlobal), space: &mut Space, row: &str, op: 
 fn answer(rt: &(impl Abort + AllocGlobal), space: &mut Space, op: &Op) -> u64 {
     match apply(rt.alloc(), &mut space.tree, &mut space.side, op) {
         Ok(done) => {
-            must(rt, done.answer.copy());
+            let_go(must(rt, done.answer.copy()));
+            let_go(done);
             0
         }
         Err(OpError::Refused(refusal)) => u64::from(must(rt, refusal.copy()).number()),
@@ -116,6 +117,7 @@ const DONE: &str =
 fn each_operation_that_is_taken_back_leaves_what_was_there(rt: HostRuntime) {
     let mut space = small(&rt);
     follow(&rt, &mut space, DONE);
+    let_go(space);
 }
 
 /// Where one node and one marker are left, and no stamp.
