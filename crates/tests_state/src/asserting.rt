@@ -35,3 +35,6 @@ pub fn number(text: &str) -> u64 {
         Err(_) => 0,
     }
 }
+
+/// Lets the value go, which is dear to prove wherever its type has many forms.
+pub fn let_go<T: Drop>(_: T) {}

@@ -1,5 +1,5 @@
 //! Events as texts of runs have them.
-use crate::asserting::{cut, must, number, some};
+use crate::asserting::{cut, let_go, must, number, some};
 use script_lang::{Command, Script, parse};
 use std::process::Abort;
 use ws_core::Event;
@@ -20,7 +20,9 @@ fn scheduled(rt: &(impl Abort + AllocGlobal), head: &str) -> Event {
     let job = some(rt, phase.jobs.as_slice().first());
     let name = must(rt, job.name.copy());
     let rule = must(rt, job.rule.as_rule().copy());
-    Event::Schedule(name, job.priority.number(), rule, job.asleep)
+    let event = Event::Schedule(name, job.priority.number(), rule, job.asleep);
+    let_go(script);
+    event
 }
 
 /// The event that a command asks.
@@ -44,7 +46,9 @@ fn asked(rt: &(impl Abort + AllocGlobal), line: &str) -> Event {
     let script = script(rt, "j 30 null", line);
     let phase = some(rt, script.phases.as_slice().first());
     let job = some(rt, phase.jobs.as_slice().first());
-    of_command(rt, some(rt, job.commands.as_slice().first()))
+    let event = of_command(rt, some(rt, job.commands.as_slice().first()));
+    let_go(script);
+    event
 }
 
 pub fn event(rt: &(impl Abort + AllocGlobal), text: &str) -> Event {

@@ -1,5 +1,5 @@
 //! Lists of events drawn at random, of four passes, over both trees.
-use crate::asserting::{holds, must};
+use crate::asserting::{holds, let_go, must};
 use crate::playing::{Both, are_alike, end_outer, start, told_by_both};
 use std::process::Abort;
 
@@ -193,6 +193,8 @@ fn play_list(rt: &(impl Abort + AllocGlobal), seed: u64) {
         play_one(rt, &mut both, &mut drawn);
     }
     are_long(rt, &both);
+    let_go(both);
+    let_go(drawn);
 }
 
 #[test]

@@ -2,7 +2,7 @@
 ghost use Rattle.std.specs.Prelude.{◌≡◌, true};
 ghost use Rattle.ws_core.specs.Histories.{has_entered};
 
-use crate::asserting::{holds, must};
+use crate::asserting::{holds, let_go, must};
 use crate::events::event;
 use core_event::Entry;
 use elem_tree::LayerTree;
@@ -58,7 +58,9 @@ fn step<T: Remembers + Drop>(
     let reply = must(rt, core.step(rt.alloc(), pass, event(rt, text)));
     let is_left = core.history().len() > entries;
     let event = event(rt, text);
-    let mut out = lines(rt, &Entry { pass, event, reply });
+    let entry = Entry { pass, event, reply };
+    let mut out = lines(rt, &entry);
+    let_go(entry);
     if !is_left {
         must(rt, put_text(&mut out, "no entry\n"));
     }

@@ -1,6 +1,6 @@
 //! Lists of events of several passes, whose answers were worked by hand. A line has the pass, the event and the answer, as
 //! texts of runs have it; below it stands what is told, or that it left no entry.
-use crate::asserting::{cut, holds, must, number};
+use crate::asserting::{cut, holds, let_go, must, number};
 use crate::playing::{start, told_by_both};
 use std::process::Abort;
 
@@ -276,6 +276,7 @@ fn played(rt: &(impl Abort + AllocGlobal), list: &str, finished: u64) -> Vec<u8>
     }
     let jobs = both.layered.jobs();
     holds(rt, jobs.live == 0 && jobs.finished == finished);
+    let_go(both);
     out
 }
 
