@@ -86,7 +86,11 @@ fn lone_line(verb: Verb, rest: &[Token]) -> Option<Line>
 fn alone(rest: &[Token], line: Line) -> Option<Line>
     ensures { MatchOption result (rest.now ≢ []) (λ found. (found ≡ line) × (rest.now ≡ [])) }
 {
-    if rest.is_empty() { Some(line) } else { None }
+    if rest.is_empty() {
+        return Some(line);
+    }
+    drop(line);
+    None
 }
 
 fn job_line(alloc: Global, rest: &[Token]) -> Result<Option<Line>, NoMemory>

@@ -73,7 +73,10 @@ impl Progress {
                 job.commands.push(command)?;
                 Ok(true)
             }
-            _ => Ok(false),
+            _ => {
+                drop(command);
+                Ok(false)
+            }
         }
     }
 
@@ -97,7 +100,11 @@ impl Progress {
     {
         let Progress { phases, place } = self;
         match place {
-            Place::Outside => Ok(after_phases(alloc, phases, &line)),
+            Place::Outside => {
+                let next = after_phases(alloc, phases, &line);
+                drop(line);
+                Ok(next)
+            }
             Place::WithinPhase(jobs) => after_jobs(alloc, phases, jobs, line),
             Place::WithinJob(jobs, job) => after_command(phases, jobs, job, line),
         }
@@ -135,8 +142,14 @@ fn after_jobs(
             };
             Ok(begin_job(phases, jobs, job))
         }
-        Line::EndPhase => end_phase(phases, jobs),
-        _ => Ok(None),
+        Line::EndPhase => {
+            drop(line);
+            end_phase(phases, jobs)
+        }
+        other => {
+            drop(other);
+            Ok(None)
+        }
     }
 }
 
@@ -183,8 +196,14 @@ fn after_command(
                 place: Place::WithinJob(jobs, job),
             }))
         }
-        Line::EndJob => end_job(phases, jobs, job),
-        _ => Ok(None),
+        Line::EndJob => {
+            drop(line);
+            end_job(phases, jobs, job)
+        }
+        other => {
+            drop(other);
+            Ok(None)
+        }
     }
 }
 

@@ -139,6 +139,17 @@ const COPIED: &str = r#"0|batch; project /P; folder /P/src; file /P/src/a 1|ok
 0|handed /P 0 6|none, all 6 /P/bin/a=2 /P/src/a=2 of /P/src in /P/bin
 0|describe /P {"commands":[{"builder":"zz","inputs":["src"],"output":"bin"}]}; handed /P 0 10; checkin settled|ok; refused 35 zz; ok"#;
 
+/// A build that ends for want of memory once a command was handed something: no command is under way, what it was built last
+/// stays, so the next build hands the same, and its commit is right.
+const WANTING: &str = r#"0|batch; project /P; folder /P/src; file /P/src/a 1; begin /|ok
+0|describe /P {"commands":[{"builder":"copy","inputs":["src"],"output":"bin"}]}|ok
+0|checkout build 10; handed /P 0 10; commit /a=1; checkin settled|ok, /P copy; none, all 10 /P/src/a=1 of /P/src in /P/bin; touched 1 problems 0; ok
+0|write /P/src/a 2; checkout build 10|ok; ok, /P copy
+0|handed /P 0 10; checkin no-memory|delta, /P *, /P/src *, /P/src/a * CONTENT, since 10 /P/bin/a=1 /P/src/a=2 of /P/src in /P/bin; ok
+0|commit; checkout build 10; commit|refused 33 none; ok, /P copy; refused 37
+0|handed /P 0 10; commit /a=2|delta, /P *, /P/src *, /P/src/a * CONTENT, since 10 /P/bin/a=1 /P/src/a=2 of /P/src in /P/bin; touched 1 problems 0
+0|handed /P 0 10; checkin settled|delta, since 10 /P/bin/a=2 /P/src/a=2 of /P/src in /P/bin; ok"#;
+
 /// Two projects that refer to each other, of which each copies what the other has: in the second round nothing changes.
 const KNOT: &str =
     r#"0|batch; project /A; folder /A/src; file /A/src/a 1; project /B; folder /B/src; file /B/src/b 2; begin /|ok
@@ -171,6 +182,7 @@ fn commits_leave_what_their_edits_say(rt: HostRuntime) {
 #[test]
 fn builds_hand_and_commit_what_is_due(rt: HostRuntime) {
     play_all(&rt, COPIED);
+    play_all(&rt, WANTING);
     play_all(&rt, KNOT);
 }
 
