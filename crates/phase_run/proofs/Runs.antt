@@ -49,7 +49,7 @@ zeroth_there s first = ap (λ (m : JobManager). has_pass m.passes 0) first ∙ a
 
 -- once the worker was let in, it has nothing
 entered : (s : Moment) → s.manager ≡ first_manager → IsIdle (step s 0 Enter).0.manager
-entered s first = subst IsIdle (sym (step_manager s 0 Enter refl ∙ ap (λ m. (outcome m 0 Enter).0) first ∙ sym (step_manager fresh 0 Enter refl))) (entered_idle [])
+entered s first = subst IsIdle (sym (step_manager s 0 Enter refl ∙ ap (λ (m : JobManager). (outcome m 0 Enter).0) first ∙ sym (step_manager fresh 0 Enter refl))) (entered_idle [])
 
 pub did_enter : (a b : Session) → a.state ≡ a.opened → a.opened.manager ≡ first_manager → b.opened ≡ a.opened → b.state ≡ (step a.state 0 Enter).0 → b.history ≡ written a.history (entry_of a.state 0 Enter) → Makes (λ h. acts h ≡ (0, Enter) ∷ []) a b
 did_enter a b at f o s h =
