@@ -1,7 +1,7 @@
 -- Rounds that stop.
 use Rattle.std.proofs.Common.{◌≡◌, ℕ, true, List, [], ◌∷◌, map, Option, Some, Result, Ok, Err, slice_get, ap, ◌∙◌, subst, sym}
-use Rattle.save_round.specs.declared.kind.SaveKind.{SaveKind}
-use Rattle.save_round.specs.declared.state.PartState.{PartState}
+use Rattle.save_kind.specs.declared.kind.SaveKind.{SaveKind}
+use Rattle.save_kind.specs.declared.state.PartState.{PartState}
 use Rattle.save_round.specs.declared.participant.PartFault.{PartFault}
 use Rattle.save_round.specs.declared.participant.PartFault.TheVariants as answer
 use Rattle.save_round.specs.declared.pass.Stop.{Stop}
