@@ -15,7 +15,8 @@ use Rattle.save_round.proofs.Called.{none_had, rose_between, named_before, same_
 use Rattle.save_round.proofs.Places.{up_to, rolled, all_rolled, own_up_to}
 use Rattle.save_round.proofs.Asked.{AskedSoFar}
 
-if_failed : (fault : RoundFault) (P Q : List ℕ → Type 0) → ((name : List ℕ) → P name → Q name) → IfFailed fault P → IfFailed fault Q
+-- more holds of the name
+pub if_failed : (fault : RoundFault) (P Q : List ℕ → Type 0) → ((name : List ℕ) → P name → Q name) → IfFailed fault P → IfFailed fault Q
 if_failed (Failed name) P Q more p = more name p
 if_failed Memory P Q more p = tt
 

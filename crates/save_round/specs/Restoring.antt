@@ -9,7 +9,7 @@ use Rattle.save_round.specs.Firsts.{FirstsHad, firsts, by_place}
 
 -- what is kept under a name: of several the first
 abbrev pub kept_under : List KeptState → List ℕ → Option KeptState
-kept_under kept name = find (λ k. bytes_eq k.name name) kept
+kept_under kept name = find (λ k. bytes_eq name k.name) kept
 
 -- the call that gives back what is kept, where something is
 abbrev pub restores : Option KeptState → Result (Unit {0}) AllocError → List Call
