@@ -1,5 +1,5 @@
 -- Participants that get what they kept, one after another.
-use Rattle.std.proofs.Common.{◌≡◌, ℕ, zero, suc, ◌+◌, ◌<◌, ◌≤◌, Bool, true, false, if◌then◌else◌, List, [], ◌∷◌, ◌++◌, length, map, get_or, slice_get, slice_set, Option, Some, Result, Ok, Err, IsSome, IsSomeAnd, OnErr, refl, sym, ap, ap₂, ◌∙◌, subst, append-nil, arith}
+use Rattle.std.proofs.Common.{◌≡◌, ℕ, zero, suc, ◌+◌, ◌<◌, ◌≤◌, Bool, true, if◌then◌else◌, List, [], ◌∷◌, ◌++◌, length, map, get_or, slice_get, slice_set, Some, Result, Ok, Err, IsSome, IsSomeAnd, OnErr, refl, sym, ap, ap₂, ◌∙◌, subst, append-nil, arith}
 use Rattle.std.proofs.lemmas.List.{length-map}
 use Rattle.std.specs.declared.alloc.AllocError.{AllocError}
 use Rattle.save_round.specs.declared.restoring.KeptState.{KeptState}

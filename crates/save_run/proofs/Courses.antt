@@ -1,5 +1,5 @@
 -- How a save goes.
-use Rattle.std.proofs.Common.{◌≡◌, ◌⊎◌, inl, inr, ℕ, true, List, [], ◌∷◌, ◌++◌, Option, Some, None, Result, Ok, Err, IfOk, OnErr, refl, sym, ap, ◌∙◌, subst, append_assoc, append-nil}
+use Rattle.std.proofs.Common.{◌≡◌, ◌⊎◌, inl, inr, ℕ, true, List, [], ◌∷◌, ◌++◌, Option, Some, None, Result, Ok, Err, IfOk, IfErr, OnErr, refl, sym, ap, ◌∙◌, subst, append_assoc, append-nil}
 use Rattle.std.specs.declared.alloc.AllocError.{AllocError}
 use Rattle.save_kind.specs.declared.answer.SaveAnswer.{SaveAnswer}
 use Rattle.save_kind.specs.declared.answer.SaveAnswer.TheVariants as answer
@@ -7,8 +7,9 @@ use Rattle.save_kind.specs.declared.kind.SaveKind.{SaveKind}
 use Rattle.save_kind.specs.declared.state.PartState.{PartState}
 use Rattle.save_round.specs.declared.round.RoundFault.{RoundFault}
 use Rattle.save_round.specs.declared.round.RoundFault.TheVariants.{Failed, Memory}
-use Rattle.save_round.specs.Told.{Told, Done, RolledBack}
+use Rattle.save_round.specs.Told.{Told, Prepared, Done, RolledBack}
 use Rattle.save_round.specs.Firsts.{FirstsHad}
+use Rattle.save_round.specs.Rounds.{HasStoppedSaving, HaveAnswered}
 use Rattle.save_run.specs.declared.command.Saved.{Saved}
 use Rattle.save_run.specs.declared.command.Saved.TheVariants.{Ended}
 use Rattle.save_run.specs.declared.host.WriteFault.{WriteFault}
@@ -16,7 +17,7 @@ use Rattle.save_run.specs.declared.host.WriteFault.TheVariants as write
 use Rattle.save_run.specs.Books.{Book, Deed, Start, Keep, Write, Finish, MayEnd, begun, ended, kept, noted}
 use Rattle.save_run.specs.Saves.{CameTo, HasEnded, HasStopped, IsAnswered, IsCut, IsUnanswered}
 use Rattle.save_run.specs.Inside.Courses.{Gathered, HasGone, HasStored, IsKeptOr, IsStored, Went, end_of, outcome_of, stop_of}
-use Rattle.save_run.proofs.Rounds.{nameless, round}
+use Rattle.save_run.proofs.Rounds.{asking_stopped, gather, nameless, round}
 
 -- states were kept and written
 wrote : (kind : SaveKind) (states : List (List ℕ × PartState)) (result : Result (Unit {0}) WriteFault) (o : SaveAnswer) (b b' : Book) (xs ys : List Told) → b.under ≡ Some kind
@@ -108,3 +109,19 @@ pub has_unanswered : (kind : SaveKind) (r : Result Saved AllocError) (b b' b'' :
     → OnErr r ((o : SaveAnswer) × Went kind o b' b'' xs ys) → OnErr r (IsUnanswered kind b b'' xs ys)
 has_unanswered kind (Ok saved) b b' b'' xs ys is h = tt
 has_unanswered kind (Err e) b b' b'' xs ys is h = inr (was_cut kind h.0 b b' b'' xs ys is h.1)
+
+-- the states that all answered
+pub all_gathered : {V : Type 0} (kind : SaveKind) (r : Result V RoundFault) (states : V → List (List ℕ × PartState)) (xs ys zs : List Told) → FirstsHad (λ k. Prepared kind (Ok tt) ∷ []) xs ys
+    → IfOk r (λ v. HaveAnswered kind (states v) ys zs) → IfOk r (λ v. Gathered kind (states v) xs zs)
+all_gathered kind (Ok v) states xs ys zs h asked = gather kind (states v) xs ys zs h asked
+all_gathered kind (Err e) states xs ys zs h asked = tt
+
+-- or where they stopped
+pub all_stopped : {V : Type 0} (kind : SaveKind) (r : Result V RoundFault) (xs ys zs : List Told) → FirstsHad (λ k. Prepared kind (Ok tt) ∷ []) xs ys
+    → IfErr r (λ fault. HasStoppedSaving kind fault ys zs) → IfErr r (λ fault. HasStopped kind fault xs zs)
+all_stopped kind (Ok v) xs ys zs h stop = tt
+all_stopped kind (Err fault) xs ys zs h stop = inr (asking_stopped kind fault xs ys zs h stop)
+
+-- a save that came to an answer and ended so
+pub gone : (kind : SaveKind) (o o' : SaveAnswer) (b b' b'' : Book) (xs ys : List Told) → o' ≡ o → Went kind o b b' xs ys → b'' ≡ ended b' o → HasGone kind o' b b'' xs ys
+gone kind o o' b b' b'' xs ys same w is = subst (λ a. HasGone kind a b b'' xs ys) (sym same) (b', w, is)

@@ -61,7 +61,7 @@ CameTo kind answer.NoMemory deeds old new = ((deeds ≡ []) × HasStopped kind M
 pub record HasEnded (kind : SaveKind) (o : SaveAnswer) (b b' : Book) (old new : List Told) : Type 0 where
   pub deeds : List Deed
   pub came : CameTo kind o deeds old new
-  pub book : b'.deeds ≡ b.deeds ++ Start kind None ∷ deeds ++ Finish o ∷ []
+  pub book : b'.deeds ≡ b.deeds ++ Start kind None ∷ (deeds ++ Finish o ∷ [])
   pub home : b'.under ≡ None
 
 -- a save came to an answer, and memory wanted at its end

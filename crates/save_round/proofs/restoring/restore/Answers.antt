@@ -1,4 +1,4 @@
-use Rattle.std.proofs.Common.{map, refl, arith}
+use Rattle.std.proofs.Common.{map, arith}
 use Rattle.save_round.proofs.Called.{same_count}
 use Rattle.save_round.proofs.Restored.{restored_none, restored_next, restored_all, restoring_stopped}
 use Rattle.save_round.proofs.restoring.restore.Goals as goal

@@ -1,4 +1,4 @@
-use Rattle.std.proofs.Common.{true, false, OnErr, subst}
+use Rattle.std.proofs.Common.{true, false}
 use Rattle.save_round.proofs.Called.{mark_of, skip_any}
 use Rattle.save_round.proofs.Restored.{one_has, one_restored}
 use Rattle.save_round.proofs.restoring.restore_at.Goals as goal
