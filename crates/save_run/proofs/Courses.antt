@@ -1,5 +1,5 @@
 -- How a save goes.
-use Rattle.std.proofs.Common.{◌≡◌, ◌⊎◌, inl, inr, ℕ, true, List, [], ◌∷◌, ◌++◌, Option, Some, None, Result, Ok, Err, IfOk, IfErr, OnErr, refl, sym, ap, ◌∙◌, subst, append_assoc, append-nil}
+use Rattle.std.proofs.Common.{◌≡◌, inl, inr, ℕ, List, [], ◌∷◌, ◌++◌, Some, None, Result, Ok, Err, IfOk, IfErr, OnErr, refl, sym, ap, ◌∙◌, subst, append_assoc, append-nil}
 use Rattle.std.specs.declared.alloc.AllocError.{AllocError}
 use Rattle.save_kind.specs.declared.answer.SaveAnswer.{SaveAnswer}
 use Rattle.save_kind.specs.declared.answer.SaveAnswer.TheVariants as answer
@@ -14,7 +14,7 @@ use Rattle.save_run.specs.declared.command.Saved.{Saved}
 use Rattle.save_run.specs.declared.command.Saved.TheVariants.{Ended}
 use Rattle.save_run.specs.declared.host.WriteFault.{WriteFault}
 use Rattle.save_run.specs.declared.host.WriteFault.TheVariants as write
-use Rattle.save_run.specs.Books.{Book, Deed, Start, Keep, Write, Finish, MayEnd, begun, ended, kept, noted}
+use Rattle.save_run.specs.Books.{Book, Start, Keep, Write, Finish, begun, ended, kept, noted}
 use Rattle.save_run.specs.Saves.{CameTo, HasEnded, HasStopped, IsAnswered, IsCut, IsUnanswered}
 use Rattle.save_run.specs.Inside.Courses.{Gathered, HasGone, HasStored, IsKeptOr, IsStored, Went, end_of, outcome_of, stop_of}
 use Rattle.save_run.proofs.Rounds.{asking_stopped, gather, nameless, round}

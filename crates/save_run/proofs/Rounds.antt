@@ -1,13 +1,13 @@
 -- What participants are called for over a save.
-use Rattle.std.proofs.Common.{◌≡◌, ◌⊎◌, inl, inr, ℕ, zero, suc, Bool, if◌then◌else◌, List, [], ◌∷◌, ◌++◌, slice_get, Option, Some, None, Result, Ok, Err, refl, sym, ap, ap₂, ◌∙◌}
+use Rattle.std.proofs.Common.{◌≡◌, inl, inr, ℕ, zero, suc, Bool, if◌then◌else◌, List, [], ◌∷◌, ◌++◌, slice_get, Option, None, Ok, Err, refl, sym, ap, ap₂, ◌∙◌}
 use Rattle.save_kind.specs.declared.kind.SaveKind.{SaveKind}
 use Rattle.save_kind.specs.declared.state.PartState.{PartState}
 use Rattle.save_round.specs.declared.participant.PartFault.TheVariants as answer
 use Rattle.save_round.specs.declared.round.RoundFault.{RoundFault}
-use Rattle.save_round.specs.declared.round.RoundFault.TheVariants.{Failed, Memory}
+use Rattle.save_round.specs.declared.round.RoundFault.TheVariants.{Memory}
 use Rattle.save_round.specs.Told.{Call, Told, Prepared, Saving, RolledBack, HasRisenAt}
 use Rattle.save_round.specs.Firsts.{FirstsHad, HadWhere, by_place, firsts}
-use Rattle.save_round.specs.Rounds.{HasStoppedPreparing, HasStoppedSaving, HaveAnswered, IsNamedAt, named_state, states_where}
+use Rattle.save_round.specs.Rounds.{HasStoppedSaving, HaveAnswered, IsNamedAt, named_state, states_where}
 use Rattle.save_round.proofs.Called.{and_then, as_well, named_before, named_kept, none_had, rose_between, same_firsts}
 use Rattle.save_round.proofs.Stops.{if_failed}
 use Rattle.save_run.specs.Saves.{HadRound, HasStopped, HasStoppedAsking}

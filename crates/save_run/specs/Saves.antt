@@ -14,7 +14,7 @@ use Rattle.save_run.specs.declared.command.Saved.{Saved}
 use Rattle.save_run.specs.declared.command.Saved.TheVariants.{Ended, Stopped}
 use Rattle.save_run.specs.declared.host.WriteFault.{WriteFault}
 use Rattle.save_run.specs.declared.host.WriteFault.TheVariants as write
-use Rattle.save_run.specs.Books.{Book, Deed, Start, Keep, Write, Finish, begun, noted, kept, ended}
+use Rattle.save_run.specs.Books.{Book, Deed, Start, Keep, Write, Finish, begun}
 
 -- the first of each name was prepared, answered for its state and was told the end, and these are the states, in the list's order
 pub record HadRound (kind : SaveKind) (end : Call) (states : List (List ℕ × PartState)) (old new : List Told) : Type 0 where
