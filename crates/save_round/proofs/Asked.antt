@@ -1,7 +1,7 @@
 -- Participants that are asked for their states, one after another.
 use Rattle.std.proofs.Common.{◌≡◌, ℕ, zero, suc, ◌+◌, ◌<◌, ◌≤◌, ◌⊎◌, inl, inr, Bool, true, false, cond, List, [], ◌∷◌, ◌++◌, length, slice_get, IsSomeAnd, Option, Some, None, IsSome, Result, Ok, Err, IsErr, IfOk, is_err, refl, sym, ap, ap₂, ◌∙◌, subst, append_assoc, append-nil, arith}
-use Rattle.save_round.specs.declared.kind.SaveKind.{SaveKind}
-use Rattle.save_round.specs.declared.state.PartState.{PartState}
+use Rattle.save_kind.specs.declared.kind.SaveKind.{SaveKind}
+use Rattle.save_kind.specs.declared.state.PartState.{PartState}
 use Rattle.save_round.specs.declared.participant.PartFault.{PartFault}
 use Rattle.save_round.specs.Told.{Told, Saving}
 use Rattle.save_round.specs.Firsts.{FirstsHad, firsts, by_place}

@@ -11,7 +11,7 @@ append : (cs ds : List Call) (x y z : Told) → HadCalls cs x y → HadCalls ds 
 append [] ds x y z h k = subst (λ w. HadCalls ds w z) h k
 append (c ∷ cs) ds x y z h k = (h.0, h.1, append cs ds h.0 y z h.2 k)
 
-named_kept : (cs : List Call) (x y : Told) → HadCalls cs x y → y.named ≡ x.named
+pub named_kept : (cs : List Call) (x y : Told) → HadCalls cs x y → y.named ≡ x.named
 named_kept [] x y h = ap (λ t. t.named) h
 named_kept (c ∷ cs) x y h = named_kept cs h.0 y h.2 ∙ h.1.named
 
@@ -81,32 +81,40 @@ got (Some b) = b
 marked : (b c : Bool) → Some b ≡ Some c → b ≡ c
 marked b c e = ap got e
 
-skipped : (call : Call) (before : List (List ℕ)) (xs : List Told) (at : ℕ) → slice_get (firsts_after before xs) at ≡ Some false
-    → HadWhere (firsts_after before xs) (by_place at [] (call ∷ []) []) xs xs
-skipped call before [] at is = tt
-skipped call before (x ∷ xs) zero is =
+skipped : (calls : List Call) (before : List (List ℕ)) (xs : List Told) (at : ℕ) → slice_get (firsts_after before xs) at ≡ Some false
+    → HadWhere (firsts_after before xs) (by_place at [] calls []) xs xs
+skipped calls before [] at is = tt
+skipped calls before (x ∷ xs) zero is =
     let no = marked (not (list_any (λ name. bytes_eq name x.named) before)) false is in
-    (subst (λ b. HadCalls (if b then call ∷ [] else []) x x) (sym no) refl, untouched (x.named ∷ before) xs)
-skipped call before (x ∷ xs) (suc at) is = (quiet (not (list_any (λ name. bytes_eq name x.named) before)) x, skipped call (x.named ∷ before) xs at is)
+    (subst (λ b. HadCalls (if b then calls else []) x x) (sym no) refl, untouched (x.named ∷ before) xs)
+skipped calls before (x ∷ xs) (suc at) is = (quiet (not (list_any (λ name. bytes_eq name x.named) before)) x, skipped calls (x.named ∷ before) xs at is)
 
 -- one that isn't the first of its name wasn't called
+pub skip_any : (calls : List Call) (xs : List Told) (at : ℕ) → slice_get (firsts xs) at ≡ Some false → FirstsHad (by_place at [] calls []) xs xs
+skip_any calls xs at is = skipped calls [] xs at is
+
 pub skip : (call : Call) (xs : List Told) (at : ℕ) → slice_get (firsts xs) at ≡ Some false → FirstsHad (by_place at [] (call ∷ []) []) xs xs
-skip call xs at is = skipped call [] xs at is
+skip call xs at is = skip_any (call ∷ []) xs at is
 
 module _ {A : Type 0} (tells : A → Told) where
-  called : (call : Call) (before : List (List ℕ)) (xs : List A) (at : ℕ) (y d : A) → at < length xs → slice_get (firsts_after before (map tells xs)) at ≡ Some true
-      → WasCalled call (tells (get_or xs at d)) (tells y) → HadWhere (firsts_after before (map tells xs)) (by_place at [] (call ∷ []) []) (map tells xs) (map tells (slice_set xs at y))
-  called call before [] at y d lt is was = tt
-  called call before (x ∷ xs) zero y d lt is was =
+  called : (calls : List Call) (before : List (List ℕ)) (xs : List A) (at : ℕ) (y d : A) → at < length xs → slice_get (firsts_after before (map tells xs)) at ≡ Some true
+      → HadCalls calls (tells (get_or xs at d)) (tells y) → HadWhere (firsts_after before (map tells xs)) (by_place at [] calls []) (map tells xs) (map tells (slice_set xs at y))
+  called calls before [] at y d lt is had = tt
+  called calls before (x ∷ xs) zero y d lt is had =
       let yes = marked (not (list_any (λ name. bytes_eq name (tells x).named) before)) true is in
-      (subst (λ b. HadCalls (if b then call ∷ [] else []) (tells x) (tells y)) (sym yes) (tells y, was, refl), untouched ((tells x).named ∷ before) (map tells xs))
-  called call before (x ∷ xs) (suc at) y d lt is was =
-      (quiet (not (list_any (λ name. bytes_eq name (tells x).named) before)) (tells x), called call ((tells x).named ∷ before) xs at y d (omega (arith, lt)) is was)
+      (subst (λ b. HadCalls (if b then calls else []) (tells x) (tells y)) (sym yes) had, untouched ((tells x).named ∷ before) (map tells xs))
+  called calls before (x ∷ xs) (suc at) y d lt is had =
+      (quiet (not (list_any (λ name. bytes_eq name (tells x).named) before)) (tells x), called calls ((tells x).named ∷ before) xs at y d (omega (arith, lt)) is had)
+
+  -- the first of its name had these calls, and no other had any
+  pub one_had : (calls : List Call) (xs : List A) (at : ℕ) (y d : A) → at < length xs → slice_get (firsts (map tells xs)) at ≡ Some true
+      → HadCalls calls (tells (get_or xs at d)) (tells y) → FirstsHad (by_place at [] calls []) (map tells xs) (map tells (slice_set xs at y))
+  one_had calls xs at y d lt is had = called calls [] xs at y d lt is had
 
   -- the first of its name was called, and no other
   pub one_called : (call : Call) (xs : List A) (at : ℕ) (y d : A) → at < length xs → slice_get (firsts (map tells xs)) at ≡ Some true
       → WasCalled call (tells (get_or xs at d)) (tells y) → FirstsHad (by_place at [] (call ∷ []) []) (map tells xs) (map tells (slice_set xs at y))
-  one_called call xs at y d lt is was = called call [] xs at y d lt is was
+  one_called call xs at y d lt is was = called (call ∷ []) [] xs at y d lt is (tells y, was, refl)
 
   -- its count rose
   pub one_risen : (xs : List A) (at : ℕ) (y d : A)

@@ -2,3 +2,4 @@ pub mod Called
 pub mod Places
 pub mod Asked
 pub mod Stops
+pub mod Restored

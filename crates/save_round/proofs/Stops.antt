@@ -1,7 +1,7 @@
 -- Rounds that stop.
 use Rattle.std.proofs.Common.{◌≡◌, ℕ, true, List, [], ◌∷◌, map, Option, Some, Result, Ok, Err, slice_get, ap, ◌∙◌, subst, sym}
-use Rattle.save_round.specs.declared.kind.SaveKind.{SaveKind}
-use Rattle.save_round.specs.declared.state.PartState.{PartState}
+use Rattle.save_kind.specs.declared.kind.SaveKind.{SaveKind}
+use Rattle.save_kind.specs.declared.state.PartState.{PartState}
 use Rattle.save_round.specs.declared.participant.PartFault.{PartFault}
 use Rattle.save_round.specs.declared.participant.PartFault.TheVariants as answer
 use Rattle.save_round.specs.declared.pass.Stop.{Stop}
@@ -15,7 +15,8 @@ use Rattle.save_round.proofs.Called.{none_had, rose_between, named_before, same_
 use Rattle.save_round.proofs.Places.{up_to, rolled, all_rolled, own_up_to}
 use Rattle.save_round.proofs.Asked.{AskedSoFar}
 
-if_failed : (fault : RoundFault) (P Q : List ℕ → Type 0) → ((name : List ℕ) → P name → Q name) → IfFailed fault P → IfFailed fault Q
+-- more holds of the name
+pub if_failed : (fault : RoundFault) (P Q : List ℕ → Type 0) → ((name : List ℕ) → P name → Q name) → IfFailed fault P → IfFailed fault Q
 if_failed (Failed name) P Q more p = more name p
 if_failed Memory P Q more p = tt
 

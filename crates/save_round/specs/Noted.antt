@@ -1,9 +1,9 @@
 -- What the participant `notes` keeps.
 use Rattle.std.specs.Prelude.{ℕ, ◌+◌, ◌-◌, ◌^◌, ◌==◌, true, min, if◌then◌else◌, List, length, codes, Option, Some, None}
 use Rattle.byteorder.specs.Endian.{big_bytes, big_number}
-use Rattle.save_round.specs.declared.kind.SaveKind.{SaveKind}
-use Rattle.save_round.specs.declared.kind.SaveKind.TheVariants.{Full, Snapshot}
-use Rattle.save_round.specs.declared.state.PartState.{PartState}
+use Rattle.save_kind.specs.declared.kind.SaveKind.{SaveKind}
+use Rattle.save_kind.specs.declared.kind.SaveKind.TheVariants.{Full, Snapshot}
+use Rattle.save_kind.specs.declared.state.PartState.{PartState}
 use Rattle.save_round.specs.Told.{Told}
 
 -- its number, and the one that it answered in the save under way

@@ -1,7 +1,7 @@
 -- Passes over participants.
 use Rattle.std.specs.Prelude.{◌≡◌, ℕ, true, List, [], ◌∷◌, Option, Some, Result, Ok, Err, slice_get}
-use Rattle.save_round.specs.declared.kind.SaveKind.{SaveKind}
-use Rattle.save_round.specs.declared.state.PartState.{PartState}
+use Rattle.save_kind.specs.declared.kind.SaveKind.{SaveKind}
+use Rattle.save_kind.specs.declared.state.PartState.{PartState}
 use Rattle.save_round.specs.declared.participant.PartFault.{PartFault}
 use Rattle.save_round.specs.declared.participant.PartFault.TheVariants.{Failed}
 use Rattle.save_round.specs.declared.pass.Stop.{Stop}

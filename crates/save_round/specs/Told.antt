@@ -1,18 +1,19 @@
 -- What participants tell.
 use Rattle.std.specs.Prelude.{◌≡◌, ◌≤◌, ◌<◌, ◌⊎◌, ◌^◌, ◌-◌, ℕ, List, [], ◌∷◌, ◌++◌, Option, Result, IsSomeAnd, slice_get}
 use Rattle.std.specs.Option.{option_map}
+use Rattle.std.specs.declared.alloc.AllocError.{AllocError}
 use Rattle.delta_kind.specs.declared.node.DeltaNode.{DeltaNode}
-use Rattle.save_round.specs.declared.kind.SaveKind.{SaveKind}
-use Rattle.save_round.specs.declared.state.PartState.{PartState}
+use Rattle.save_kind.specs.declared.kind.SaveKind.{SaveKind}
+use Rattle.save_kind.specs.declared.state.PartState.{PartState}
 use Rattle.save_round.specs.declared.participant.PartFault.{PartFault}
 
--- a call of a participant, with what it was given and what `prepare` and `saving` answered
+-- a call of a participant, with what it was given and what it answered
 pub data Call : Type 0 where
   Prepared : SaveKind → Result (Unit {0}) PartFault → Call
   Saving : SaveKind → Result (Option PartState) PartFault → Call
   Done : Call
   RolledBack : Call
-  Restored : List ℕ → Option (List DeltaNode) → Call
+  Restored : List ℕ → Option (List DeltaNode) → Result (Unit {0}) AllocError → Call
 
 -- one call more, where the calls are told
 abbrev pub with_call : Call → Option (List Call) → Option (List Call)

@@ -5,11 +5,12 @@ ghost use Rattle.save_round.specs.declared.participant.PartFault.TheVariants.{Fa
 ghost use Rattle.save_round.specs.Told.{Prepared, Saving, Done, RolledBack, Restored, WasCalled};
 ghost use Rattle.save_round.specs.Noted.{notes_told, offer, number_state, taken, number_kept};
 
-use crate::{PartFault, PartState, Participant, SaveKind};
+use crate::{PartFault, Participant};
 use byteorder::{BigEndian, ByteOrder};
 use bytes::Bytes;
 use delta_kind::Delta;
 use res_path::NoMemory;
+use save_kind::{PartState, SaveKind};
 use std::alloc::Global;
 use std::marker::Model;
 
@@ -107,7 +108,7 @@ impl Participant for Notes {
     }
 
     fn restored(&mut self, bytes: &Bytes, delta: Option<&Delta>) -> Result<(), NoMemory>
-        ensures called { WasCalled (Restored bytes.now (option_copied delta.entry)) notes_told notes_told }
+        ensures called { WasCalled (Restored bytes.now (option_copied delta.entry) result) notes_told notes_told }
         ensures fails { IsOk result }
         ensures number { self.new ≡ record { number = number_kept bytes.now; offered = None } }
     {

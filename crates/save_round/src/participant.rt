@@ -5,10 +5,10 @@ ghost use Rattle.res_path.specs.Names.{IsName};
 ghost use Rattle.save_round.specs.declared.participant.PartFault.TheVariants.{Memory};
 ghost use Rattle.save_round.specs.Told.{Told, Prepared, Saving, Done, RolledBack, Restored, WasCalled, HasRisen};
 
-use crate::{PartState, SaveKind};
 use bytes::Bytes;
 use delta_kind::Delta;
 use res_path::NoMemory;
+use save_kind::{PartState, SaveKind};
 use std::alloc::{AllocError, AllocFailed};
 
 /// Why a participant didn't prepare, or gave no state.
@@ -70,9 +70,9 @@ pub trait Participant: Drop {
         ensures called { WasCalled RolledBack (tells self.old) (tells self.new) };
 
     /// A session begins. It is given the bytes that it kept and, where it asked for it, what changed since that save (the
-    /// platform's `ISavedState`).
+    /// platform's `ISavedState`). Refused where memory wanted.
     fn restored(&mut self, bytes: &Bytes, delta: Option<&Delta>) -> Result<(), NoMemory>
-        ensures called { WasCalled (Restored bytes.now (option_copied delta.entry)) (tells self.old) (tells self.new) };
+        ensures called { WasCalled (Restored bytes.now (option_copied delta.entry) result) (tells self.old) (tells self.new) };
 }
 
 impl Participant for Box<dyn Participant + Send> {

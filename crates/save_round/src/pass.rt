@@ -7,8 +7,9 @@ ghost use Rattle.save_round.specs.Firsts.{firsts, FirstsHad, by_place};
 ghost use Rattle.save_round.specs.Rounds.{HaveAnswered, named_state};
 ghost use Rattle.save_round.specs.Passes.{ending_call, WerePrepared, WereAsked};
 
-use crate::{PartFault, PartState, Participant, SaveKind};
+use crate::{PartFault, Participant};
 use res_path::{Name, NoMemory, PathError};
+use save_kind::{PartState, SaveKind};
 use std::alloc::{AllocError, Global};
 
 /// How a participant's round ends.
@@ -149,7 +150,7 @@ pub(crate) fn name_of<P: Participant>(alloc: Global, one: &P) -> Result<Name, No
 }
 
 /// Whether the participant at the place is the first of its name.
-fn is_first<P: Participant>(all: &[P], at: usize) -> bool
+pub(crate) fn is_first<P: Participant>(all: &[P], at: usize) -> bool
     requires { at < length all.now }
     ensures { slice_get (firsts (map (λ p. P.tells p) all.now)) at ≡ Some result }
 {
@@ -171,7 +172,7 @@ fn has_name<P: Participant>(all: &[P], name: &str) -> bool
 }
 
 /// Whether the participant has the name.
-fn is_named<P: Participant>(one: &P, name: &str) -> bool
+pub(crate) fn is_named<P: Participant>(one: &P, name: &str) -> bool
     ensures { result ≡ bytes_eq (P.tells one.now).named name.now }
 {
     one.name() == name

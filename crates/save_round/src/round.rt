@@ -6,8 +6,9 @@ ghost use Rattle.save_round.specs.Passes.{ending_call};
 ghost use Rattle.save_round.specs.Rounds.{HaveAnswered, HasStoppedPreparing, HasStoppedSaving, IfFailed, IsNamedAt};
 
 use crate::pass::{Ending, Stop, ask_each, end_before, name_of, prepare_each};
-use crate::{PartFault, PartState, Participant, Participants, SaveKind};
+use crate::{PartFault, Participant, Participants};
 use res_path::Name;
+use save_kind::{PartState, SaveKind};
 use std::alloc::Global;
 
 /// Why a round stopped.

@@ -1,6 +1,6 @@
 //! What a save writes.
 ghost use Rattle.std.specs.Prelude.{◌≡◌};
-ghost use Rattle.save_round.specs.Kinds.{save_number};
+ghost use Rattle.save_kind.specs.Kinds.{save_number};
 
 /// What a save writes: the whole workspace, or what changed since the last save.
 #[derive(Clone, Copy, Debug, PartialEq, Eq)]

@@ -1,7 +1,7 @@
 -- Kinds of saves.
 use Rattle.std.specs.Prelude.{ℕ}
-use Rattle.save_round.specs.declared.kind.SaveKind.{SaveKind}
-use Rattle.save_round.specs.declared.kind.SaveKind.TheVariants.{Full, Snapshot}
+use Rattle.save_kind.specs.declared.kind.SaveKind.{SaveKind}
+use Rattle.save_kind.specs.declared.kind.SaveKind.TheVariants.{Full, Snapshot}
 
 -- the platform's number of a kind
 abbrev pub save_number : SaveKind → ℕ

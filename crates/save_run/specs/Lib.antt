@@ -1,0 +1,3 @@
+pub mod Books
+pub mod Saves
+pub mod Inside
