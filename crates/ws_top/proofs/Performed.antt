@@ -9,10 +9,13 @@ use Rattle.core_event.specs.declared.entry.Entry.{Entry}
 use Rattle.builder_api.specs.Told.{Told}
 use Rattle.run_text.specs.declared.writing.Unwritten.{Unwritten}
 use Rattle.run_text.specs.declared.writing.Unwritten.TheVariants.{Fault, Memory}
+use Rattle.ws_durable.specs.declared.durable.Durable.{Durable}
 use Rattle.ws_core.specs.States.{Moment}
 use Rattle.ws_core.specs.Histories.{replay}
+use Rattle.phase_run.specs.Calm.{IsCalm}
 use Rattle.ws_top.specs.Inside.Parts.{WritesRun, Nothing, Same, Performs}
-use Rattle.ws_top.specs.Outcomes.{opened_state, WasRun, TellsWriteFault, IsOneThread, DoesScript, WritesCut, WritesText, Writes}
+use Rattle.ws_top.specs.Areas.{opened_state}
+use Rattle.ws_top.specs.Outcomes.{WasRun, TellsWriteFault, IsOneThread, DoesScript, WritesCut, WritesText, Writes}
 use Rattle.ws_top.specs.Texts.{report_from, text, status_line}
 use Rattle.ws_top.proofs.Fronts.{front_part, front_of_writes, all_is_front}
 
@@ -43,11 +46,11 @@ not_run_at_8 n e (inl z) = none_at n 8 0 e z 8≢0
 not_run_at_8 n e (inr f) = none_at n 8 4 e f 8≢4
 
 -- nothing was done from the opened state
-pub thread_none : (told : List Told) (h : List Entry) → h ≡ [] → IsOneThread (opened_state told) h
-thread_none told h e = subst (λ (k : List Entry). IsOneThread (opened_state told) k) (sym e) (record {
+pub thread_none : (kept : Option Durable) (told : List Told) (h : List Entry) → h ≡ [] → IsOneThread (opened_state kept told) h
+thread_none kept told h e = subst (λ (k : List Entry). IsOneThread (opened_state kept told) k) (sym e) (record {
   legal = record { replies = refl; entered = refl; events = refl };
   told = refl;
-  apart = λ n. subst (λ (l : List Entry). IsApart atom_contains atom_conflicts (replay (opened_state told) l).manager.passes.rules) (sym (take_nil n)) tt;
+  apart = λ n. subst (λ (l : List Entry). IsApart atom_contains atom_conflicts (replay (opened_state kept told) l).manager.passes.rules) (sym (take_nil n)) tt;
 })
   where
     none : List Entry
@@ -56,6 +59,10 @@ thread_none told h e = subst (λ (k : List Entry). IsOneThread (opened_state tol
     take_nil : (n : ℕ) → take n none ≡ none
     take_nil zero = refl
     take_nil (suc n) = refl
+
+-- no build wanted memory
+pub calm_none : (h : List Entry) → h ≡ [] → IsCalm h
+calm_none h e = subst IsCalm (sym e) tt
 
 -- the text of a want of memory, by some front of it
 text_at_8 : (opened : Moment) (a b : Option (List ℕ)) (n : ℕ) (h : List Entry) → n ≡ 8 → WritesCut opened a b h → WritesText opened a b n h
@@ -76,19 +83,21 @@ done_at_8 : (All Front : List Entry → Type 0) (n : ℕ) (h : List Entry) → n
 done_at_8 All Front n h e d = record { all_at_0_and_4 = λ r. not_run_at_8 n e r; some_at_8 = λ _. d }
 
 -- memory wanted before anything was done
-pub performs_nothing : (told : List Told) (a b : Option (List ℕ)) (f g n : ℕ) (h : List Entry) → n ≡ 8 → h ≡ [] → Writes a b f g (status_line 8) → Performs Nothing Nothing Nothing (opened_state told) a b f g n h
-performs_nothing told a b f g n h e z w = record {
+pub performs_nothing : (kept : Option Durable) (told : List Told) (a b : Option (List ℕ)) (f g n : ℕ) (h : List Entry) → n ≡ 8 → h ≡ [] → Writes a b f g (status_line 8)
+    → Performs Nothing Nothing Nothing (opened_state kept told) a b f g n h
+performs_nothing kept told a b f g n h e z w = record {
   ends = inr e;
   fault = fault_at_8 f g n ((h ≡ []) ⊎ Nothing h) e (inr (inl z));
   done = done_at_8 Nothing Nothing n h e (inl z);
-  thread = thread_none told h z;
-  text = text_at_8 (opened_state told) a b n h e (record { written = status_line 8; is_cut = inr (z, refl); front = front_of_writes a b f g (status_line 8) w });
+  thread = thread_none kept told h z;
+  text = text_at_8 (opened_state kept told) a b n h e (record { written = status_line 8; is_cut = inr (z, refl); front = front_of_writes a b f g (status_line 8) w });
+  calm = λ no. absurd (no e);
 }
 
 -- the whole text was written
-pub performs_all : (a b : Option (List ℕ)) (f g n : ℕ) (s : Moment) (d h : List Entry) → n ≡ 0 → h ≡ d → IsOneThread s h
+pub performs_all : (a b : Option (List ℕ)) (f g n : ℕ) (s : Moment) (d h : List Entry) → n ≡ 0 → h ≡ d → IsOneThread s h → IsCalm d
     → Gains a (text s d 0) b × (g ≡ f) → Performs (Same d) (Same d) Nothing s a b f g n h
-performs_all a b f g n s d h e k t w = record {
+performs_all a b f g n s d h e k t calm w = record {
   ends = inl (inl e);
   fault = record {
     rose_at_4 = λ r. none_at n 0 4 e r 0≢4;
@@ -102,12 +111,13 @@ performs_all a b f g n s d h e k t w = record {
     front_at_4 = λ r. none_at n 0 4 e r 0≢4;
     front_at_8 = λ r. none_at n 0 8 e r 0≢8;
   };
+  calm = λ _. subst IsCalm (sym k) calm;
 }
 
 -- a write of it failed
-pub performs_fault : (a b : Option (List ℕ)) (f g n : ℕ) (s : Moment) (d h : List Entry) → n ≡ 4 → h ≡ d → IsOneThread s h
+pub performs_fault : (a b : Option (List ℕ)) (f g n : ℕ) (s : Moment) (d h : List Entry) → n ≡ 4 → h ≡ d → IsOneThread s h → IsCalm d
     → GainsFront a (text s d 0) b × Rose f g → Performs (Same d) (Same d) Nothing s a b f g n h
-performs_fault a b f g n s d h e k t w = record {
+performs_fault a b f g n s d h e k t calm w = record {
   ends = inl (inr e);
   fault = record {
     rose_at_4 = λ _. w.1;
@@ -121,6 +131,7 @@ performs_fault a b f g n s d h e k t w = record {
     front_at_4 = λ _. subst (λ (x : List Entry). GainsFront a (text s x 0) b) (sym k) w.0;
     front_at_8 = λ r. none_at n 4 8 e r 4≢8;
   };
+  calm = λ _. subst IsCalm (sym k) calm;
 }
 
 cut_of : (a b : Option (List ℕ)) (s : Moment) (d h : List Entry) → h ≡ d → GainsFront a (text s d 8) b → WritesCut s a b h
@@ -139,6 +150,7 @@ performs_want a b f g n s d h e k t w = record {
   done = done_at_8 (Same d) (Same d) n h e (inr k);
   thread = t;
   text = text_at_8 s a b n h e (cut_of a b s d h k (front_part a b (report_from s d) (status_line 8) w.0));
+  calm = λ no. absurd (no e);
 }
 
 front_of_run : {T : Type 0} (a b : Option (List ℕ)) (f g : ℕ) (s : Moment) (d : List Entry) (m : ℕ) (r : Result T Unwritten) → WritesRun a b f g s d m r → GainsFront a (text s d m) b
@@ -155,6 +167,7 @@ performs_cut a b f g n s d h r e k t w = record {
   done = done_at_8 Nothing (Same d) n h e (inr k);
   thread = t;
   text = text_at_8 s a b n h e (cut_of a b s d h k (front_of_run a b f g s d 8 r w));
+  calm = λ no. absurd (no e);
 }
 
 pub right_of : {A B C : Type 0} → (B → C) → A ⊎ B → A ⊎ C
@@ -174,6 +187,7 @@ performs_as A F S B G T opened a b f g n h all some stopped p = record {
   done = record { all_at_0_and_4 = λ r. all (p.done.all_at_0_and_4 r); some_at_8 = λ e. right_of some (p.done.some_at_8 e) };
   thread = p.thread;
   text = p.text;
+  calm = p.calm;
 }
 
 -- nothing was done, said of other histories

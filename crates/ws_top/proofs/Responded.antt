@@ -7,15 +7,21 @@ use Rattle.script_words.specs.declared.error.ScriptError.TheVariants.{BadLine, M
 use Rattle.script_lang.specs.Scripts.{IsScript, IsFirstBad}
 use Rattle.core_event.specs.declared.entry.Entry.{Entry}
 use Rattle.builder_api.specs.Meanings.{Meanings}
+use Rattle.builder_api.specs.Told.{Told}
+use Rattle.ws_durable.specs.declared.durable.Durable.{Durable}
 use Rattle.ws_core.specs.States.{Moment}
 use Rattle.ws_core.specs.Histories.{has_entered, replay}
 use Rattle.ws_core.specs.Sessions.{Session}
 use Rattle.run_order.proofs.Whole.{cut_of_shuffle}
 use Rattle.phase_run.specs.Plans.{Made, phases_plan}
-use Rattle.ws_top.specs.Inside.Parts.{Nothing, Same, Performs, Responds}
+use Rattle.save_store.specs.declared.faults.OpenFault.{OpenFault}
+use Rattle.save_store.specs.declared.faults.OpenFault.TheVariants as fault
+use Rattle.ws_top.specs.Areas.{opened_state}
+use Rattle.ws_top.specs.Inside.Opening.{Refuses}
+use Rattle.ws_top.specs.Inside.Parts.{Nothing, Same, Performs, IsRefused, SaysBadLine, Responds}
 use Rattle.ws_top.specs.Outcomes.{SpellsNone, Shuffle, CutShuffle, StoppedShuffle, Spelled, Writes}
-use Rattle.ws_top.specs.Texts.{bad_line}
-use Rattle.ws_top.proofs.Performed.{performs_as, performs_none}
+use Rattle.ws_top.specs.Texts.{status_line, bad_line}
+use Rattle.ws_top.proofs.Performed.{performs_as, performs_none, performs_nothing}
 
 not_memory : (line : ℕ) → BadLine line ≡ Memory → ⊥
 not_memory line h = let no : BadLine line ≡ Memory = h in cc
@@ -26,27 +32,42 @@ pub none_spelled : (bytes : List ℕ) (r : Result Script ScriptError) (line : �
 none_spelled bytes r line e all script s =
     not_memory line (subst (λ (q : Result Script ScriptError). MatchResult q (λ found. found ≡ script) (λ x. x ≡ Memory)) e (all script s))
 
--- a script that the bytes spell was performed
+-- a script that the bytes spell was performed, or no state was opened for it
 pub responds_script : (ms : Meanings) (opened : Moment) (bytes : List ℕ) (script : Script) (a b : Option (List ℕ)) (f g n : ℕ) (h : List Entry) → IsScript bytes script
-    → Performs (Shuffle ms opened script) (CutShuffle ms opened script) (StoppedShuffle ms opened script) opened a b f g n h → Responds ms opened bytes a b f g n h
-responds_script ms opened bytes script a b f g n h spelled p =
+    → Performs (Shuffle ms opened script) (CutShuffle ms opened script) (StoppedShuffle ms opened script) opened a b f g n h ⊎ IsRefused n h → Responds ms opened bytes a b f g n h
+responds_script ms opened bytes script a b f g n h spelled (inl p) =
     inl (performs_as (Shuffle ms opened script) (CutShuffle ms opened script) (StoppedShuffle ms opened script)
     (Spelled (Shuffle ms opened) bytes) (Spelled (CutShuffle ms opened) bytes) (Spelled (StoppedShuffle ms opened) bytes) opened a b f g n h
     (λ m. record { script = script; spelled = spelled; made = m })
     (λ m. record { script = script; spelled = spelled; made = m })
     (λ m. record { script = script; spelled = spelled; made = m }) p)
+responds_script ms opened bytes script a b f g n h spelled (inr r) = inr (inr (record { script = script; spelled = spelled; refused = r }))
 
 -- memory wanted before anything was done
-pub responds_nothing : (ms : Meanings) (opened : Moment) (bytes : List ℕ) (a b : Option (List ℕ)) (f g n : ℕ) (h : List Entry) → Performs Nothing Nothing Nothing opened a b f g n h
-    → Responds ms opened bytes a b f g n h
-responds_nothing ms opened bytes a b f g n h p =
-    inl (performs_none (Spelled (Shuffle ms opened) bytes) (Spelled (CutShuffle ms opened) bytes) (Spelled (StoppedShuffle ms opened) bytes) opened a b f g n h p)
+pub responds_nothing : (ms : Meanings) (kept : Option Durable) (told : List Told) (bytes : List ℕ) (a b : Option (List ℕ)) (f g n : ℕ) (h : List Entry) → n ≡ 8 → h ≡ [] → Writes a b f g (status_line 8)
+    → Responds ms (opened_state kept told) bytes a b f g n h
+responds_nothing ms kept told bytes a b f g n h e z w = let opened = opened_state kept told in
+    inl (performs_none (Spelled (Shuffle ms opened) bytes) (Spelled (CutShuffle ms opened) bytes) (Spelled (StoppedShuffle ms opened) bytes) opened a b f g n h (performs_nothing kept told a b f g n h e z w))
 
 -- the first bad line was told, or memory wanted for it
-pub responds_bad : (ms : Meanings) (opened : Moment) (bytes : List ℕ) (line : ℕ) (a b : Option (List ℕ)) (f g n : ℕ) (h : List Entry) → SpellsNone bytes → IsFirstBad bytes line
-    → ((n ≡ 6) × (h ≡ []) × Writes a b f g (bad_line line)) ⊎ Performs Nothing Nothing Nothing opened a b f g n h → Responds ms opened bytes a b f g n h
-responds_bad ms opened bytes line a b f g n h none place (inl (e, z, w)) = inr (record { ends = e; none = none; nothing = z; line = line; place = place; written = w })
-responds_bad ms opened bytes line a b f g n h none place (inr p) = responds_nothing ms opened bytes a b f g n h p
+pub responds_bad : (ms : Meanings) (kept : Option Durable) (told : List Told) (bytes : List ℕ) (line : ℕ) (a b : Option (List ℕ)) (f g n : ℕ) (h : List Entry) → SpellsNone bytes → IsFirstBad bytes line
+    → SaysBadLine line a b f g n → h ≡ [] → Responds ms (opened_state kept told) bytes a b f g n h
+responds_bad ms kept told bytes line a b f g n h none place (inl (e, w)) z = inr (inl (record { ends = e; none = none; nothing = z; line = line; place = place; written = w }))
+responds_bad ms kept told bytes line a b f g n h none place (inr (e, w)) z = responds_nothing ms kept told bytes a b f g n h e z w
+
+-- memory wanted before a script that is one was run
+pub performs_wanted : (ms : Meanings) (kept : Option Durable) (told : List Told) (script : Script) (a b : Option (List ℕ)) (f g n : ℕ) (h : List Entry) → n ≡ 8 → h ≡ [] → Writes a b f g (status_line 8)
+    → Performs (Shuffle ms (opened_state kept told) script) (CutShuffle ms (opened_state kept told) script) (StoppedShuffle ms (opened_state kept told) script) (opened_state kept told) a b f g n h
+performs_wanted ms kept told script a b f g n h e z w = let opened = opened_state kept told in
+    performs_none (Shuffle ms opened script) (CutShuffle ms opened script) (StoppedShuffle ms opened script) opened a b f g n h (performs_nothing kept told a b f g n h e z w)
+
+-- the areas couldn't be read, or memory wanted
+pub performs_refused : (ms : Meanings) (kept : Option Durable) (told : List Told) (script : Script) (e : OpenFault) (a b : Option (List ℕ)) (f g n : ℕ) (h : List Entry) → Refuses e a b f g n → h ≡ []
+    → Performs (Shuffle ms (opened_state kept told) script) (CutShuffle ms (opened_state kept told) script) (StoppedShuffle ms (opened_state kept told) script) (opened_state kept told) a b f g n h ⊎ IsRefused n h
+performs_refused ms kept told script fault.Disk a b f g n h (five, w) z = inr (record { ends = inl five; nothing = z })
+performs_refused ms kept told script (fault.Damaged damage) a b f g n h (inl (seven, w)) z = inr (record { ends = inr seven; nothing = z })
+performs_refused ms kept told script (fault.Damaged damage) a b f g n h (inr (eight, w)) z = inl (performs_wanted ms kept told script a b f g n h eight z w)
+performs_refused ms kept told script fault.Memory a b f g n h (eight, w) z = inl (performs_wanted ms kept told script a b f g n h eight z w)
 
 -- the whole script was run
 pub performed : (ms : Meanings) (opened : Moment) (new : Session) (script : Script) (a b : Option (List ℕ)) (f g n : ℕ) (h : List Entry) → new.opened ≡ opened → Shuffle ms opened script new.history
