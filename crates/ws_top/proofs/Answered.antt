@@ -21,10 +21,10 @@ use Rattle.ws_top.specs.Areas.{opened_state, IsDamage, AreUndamaged, FindsDamage
 use Rattle.ws_top.specs.Forms.{Touches, help_text, version_text}
 use Rattle.ws_top.specs.Inside.Parts.{unread_status, IsUnreadCause, IsUnreadLength, IsUnopenedFor, Responds, EndsRun}
 use Rattle.ws_top.specs.Limits.{longest, Reads, ReadsAll, ReadsShort}
-use Rattle.ws_top.specs.Outcomes.{IsStatus, WasRead, WasRun, WasUnopened, TellsWriteFault, TellsState, TellsUnopened, Shuffle, CutShuffle, StoppedShuffle, Spelled, Ran, WasStopped, WritesCut, Writes, ReadsNoMore, RunsScript, Tells, TellsFound, Checks, DoesNothing, EndsProgram}
+use Rattle.ws_top.specs.Outcomes.{IsStatus, WasRead, WasRun, WasIdle, WasUnopened, TellsWriteFault, TellsState, TellsUnopened, Shuffle, CutShuffle, StoppedShuffle, Spelled, Ran, WasStopped, WritesCut, Writes, ReadsNoMore, RunsScript, Tells, TellsFound, Checks, DoesNothing, EndsProgram}
 use Rattle.ws_top.specs.Texts.{status_line, check_text}
 use Rattle.ws_top.proofs.Fronts.{front_of_writes}
-use Rattle.ws_top.proofs.Opened.{unopened_never}
+use Rattle.ws_top.proofs.Opened.{unopened_never, told_status, told_unopened}
 use Rattle.ws_top.proofs.Performed.{right_of, thread_none, calm_none}
 use Rattle.ws_top.proofs.Statuses.{apart, not_2, not_3, not_6, not_9, not_unread, not_idle, is_performed, was_run, well_of, not_refused, refused_unread, refused_idle, refused_run, refused_8, is_refused, unrun, told_other, is_told}
 use Rattle.ws_top.proofs.Taken.{takes_none}
@@ -265,6 +265,11 @@ none_touches : {A : Type 0} (form : Option Form) → form ≡ None → Touches f
 none_touches form e (inl k) = not_none form Run k e
 none_touches form e (inr k) = not_none form Check k e
 
+-- what the words ask touches the areas, or the status says that it didn't come to that
+pub touched_idle : {D : Type 0} {x y : D} (form : Option Form) (n : ℕ) → Touches form → (WasIdle n → x ≡ y) → (Touches form → ⊥) ⊎ WasIdle n → x ≡ y
+touched_idle form n touches idle (inl no) = absurd (no touches)
+touched_idle form n touches idle (inr w) = idle w
+
 -- the words ask for a run
 pub program_run : (ms : Meanings) (kept : Option Durable) (told : List Told) (form : Option Form) (l m : Option (List ℕ)) (x y : Option ℕ) (i j : ℕ) (seen : Option Contents) (p q : ℕ) (a b : Option (List ℕ)) (f g n : ℕ) (h : List Entry)
     → form ≡ Some Run → EndsRun ms (opened_state kept told) l m x y i j seen p q a b f g n h → TellsDiskFault p q n → TellsUnopened kept seen a b f g n h → IfSome seen (λ both. FindsDamage both n) → TellsState kept seen n h
@@ -335,14 +340,6 @@ program_usage ms kept told form l x i seen p q a b f g n h is same none e z w = 
 }
 
 -- ---- texts that are told
-
-told_status : (text : List ℕ) (a b : Option (List ℕ)) (f g n : ℕ) → Tells text a b f g n → WasRun n
-told_status text a b f g n (inl (e, _)) = inl e
-told_status text a b f g n (inr (e, _)) = inr e
-
-told_unopened : (text : List ℕ) (kept : Option Durable) (seen : Option Contents) (a b : Option (List ℕ)) (f g n : ℕ) (h : List Entry) → Tells text a b f g n → TellsUnopened kept seen a b f g n h
-told_unopened text kept seen a b f g n h (inl (e, _)) = unopened_never kept seen a b f g n 0 h e (λ k. omega (arith, k)) (λ k. omega (arith, k)) (λ k. omega (arith, k))
-told_unopened text kept seen a b f g n h (inr (e, _)) = unopened_never kept seen a b f g n 4 h e (λ k. omega (arith, k)) (λ k. omega (arith, k)) (λ k. omega (arith, k))
 
 told_write : (text : List ℕ) (a b : Option (List ℕ)) (f g n : ℕ) (W : Type 0) → W → Tells text a b f g n → TellsWriteFault f g n W
 told_write text a b f g n W w (inl (e, _, calm)) = record { rose_at_4 = λ k. apart n 0 4 e k (λ k. omega (arith, k)); calm_at_0 = λ _. calm; calm_or_later_at_8 = λ _. inr w }

@@ -1,19 +1,29 @@
 -- What becomes of the areas, and what is told of it.
-use Rattle.std.proofs.Common.{◌≡◌, ◌⊎◌, inl, inr, ℕ, List, [], Option, Some, None, refl, sym, ◌∙◌, ap, subst, arith}
-use Rattle.std.specs.Prelude.{Result, Ok, Err, IfSome, IfOk, IsSome, true, is_some}
+use Rattle.std.proofs.Common.{◌≡◌, ◌⊎◌, inl, inr, ℕ, List, [], map, Option, Some, None, refl, sym, ◌∙◌, ap, subst, arith}
+use Rattle.std.specs.Prelude.{Result, Ok, Err, IfSome, IfOk, IsSome, is_some}
 use Rattle.ws_outside.specs.declared.contents.Contents.{Contents}
+use Rattle.ws_outside.specs.Disk.{Each, LeavesOnly}
 use Rattle.disk_area.specs.declared.damage.Damage.{Damage}
 use Rattle.disk_area.proofs.Moments.{at_start}
 use Rattle.ws_durable.specs.declared.durable.Durable.{Durable}
 use Rattle.ws_durable.specs.Saved.{Saved, saved}
 use Rattle.save_store.specs.declared.faults.OpenFault.{OpenFault}
 use Rattle.save_store.specs.declared.faults.OpenFault.TheVariants.{Disk, Damaged, Memory}
-use Rattle.save_store.specs.Damages.{IsDamaged}
+use Rattle.save_store.specs.declared.look.Found.{Found}
+use Rattle.save_store.specs.Damages.{IsDamaged, TellsDamage, FaultOf}
+use Rattle.save_store.specs.States.{Holds}
+use Rattle.builder_api.specs.Told.{Told}
+use Rattle.res_path.specs.Paths.{Names}
+use Rattle.ws_core.specs.Opened.{opened_of}
+use Rattle.ws_core.specs.Sessions.{Session}
 use Rattle.core_event.specs.declared.entry.Entry.{Entry}
-use Rattle.ws_top.specs.Areas.{EndsDamaged, FindsDamage, IsHeld, StaysAsItWas, LeavesOpened, TellsDiskFault}
-use Rattle.ws_top.specs.Inside.Opening.{HasFault, Opens, Refuses, RunsFrom, LeavesAreas, OpensAreas}
-use Rattle.ws_top.specs.Outcomes.{WasRun, WasIdle, WasUnopened, TellsState, TellsUnopened, Writes}
-use Rattle.ws_top.specs.Texts.{status_line}
+use Rattle.ws_top.specs.Areas.{opened_state, EndsDamaged, FindsDamage, IsHeld, StaysAsItWas, LeavesOpened, TellsDiskFault}
+use Rattle.ws_top.specs.Inside.Opening.{HasFault, Opens, Refuses, TellsHeld, RunsFrom, LeavesAreas, OpensAreas}
+use Rattle.ws_top.specs.declared.reading.Unread.{Unread}
+use Rattle.ws_top.specs.declared.reading.Unread.TheVariants as unread
+use Rattle.ws_top.specs.Inside.Parts.{SaysBadLine, unread_status}
+use Rattle.ws_top.specs.Outcomes.{WasRun, WasIdle, WasUnopened, TellsState, TellsUnopened, Tells, Writes}
+use Rattle.ws_top.specs.Texts.{status_line, check_text}
 use Rattle.ws_top.proofs.Statuses.{apart, not_5, not_7, not_idle, not_unopened, refused_idle, refused_run, unrun}
 
 -- ---- options
@@ -49,6 +59,14 @@ unopened_never kept seen a b f g n s h e five seven eight = record {
     none (inl k) = apart n s 5 e k five
     none (inr k) = apart n s 7 e k seven
 
+pub told_status : (text : List ℕ) (a b : Option (List ℕ)) (f g n : ℕ) → Tells text a b f g n → WasRun n
+told_status text a b f g n (inl (e, _)) = inl e
+told_status text a b f g n (inr (e, _)) = inr e
+
+pub told_unopened : (text : List ℕ) (kept : Option Durable) (seen : Option Contents) (a b : Option (List ℕ)) (f g n : ℕ) (h : List Entry) → Tells text a b f g n → TellsUnopened kept seen a b f g n h
+told_unopened text kept seen a b f g n h (inl (e, _)) = unopened_never kept seen a b f g n 0 h e (λ k. omega (arith, k)) (λ k. omega (arith, k)) (λ k. omega (arith, k))
+told_unopened text kept seen a b f g n h (inr (e, _)) = unopened_never kept seen a b f g n 4 h e (λ k. omega (arith, k)) (λ k. omega (arith, k)) (λ k. omega (arith, k))
+
 refused_ends : (e : OpenFault) (a b : Option (List ℕ)) (f g n : ℕ) → Refuses e a b f g n → WasUnopened n ⊎ (n ≡ 8)
 refused_ends Disk a b f g n (five, w) = inl (inl five)
 refused_ends (Damaged damage) a b f g n (inl (seven, w)) = inl (inr seven)
@@ -68,6 +86,14 @@ state_none kept seen n h none nothing unrun = record {
 pub refused_not_run : (n : ℕ) → WasUnopened n ⊎ (n ≡ 8) → WasRun n → ⊥
 refused_not_run n (inl u) r = refused_run n u r
 refused_not_run n (inr e) r = unrun n 8 e (λ k. omega (arith, k)) (λ k. omega (arith, k)) r
+
+-- ---- workspaces
+
+-- a workspace over what was kept is opened in the state that is told
+pub workspace_opened : {E : Type 0} (d : Durable) (names : Names) (told : List Told) (r : Result (Session × Option Durable) E) → names ≡ map (λ b. b.named) told → IfOk r (λ o. o.1 ≡ Some d)
+    → IfOk r (λ o. o.0.opened ≡ opened_of (saved d) names) → IfOk r (λ o. o.0.opened ≡ opened_state o.1 told)
+workspace_opened d names told (Ok o) named kept opened = opened ∙ (ap (opened_of (saved d)) named ∙ ap (λ k. opened_state k told) (sym kept))
+workspace_opened d names told (Err e) named kept opened = tt
 
 -- ---- areas
 
@@ -196,3 +222,67 @@ module _ {D : Type 0} (moment : D → ℕ) (left_since : D → ℕ → Contents 
     state = state_none kept (seen held) n h none nothing (refused_not_run n (inr eight));
   }
 
+  -- what both areas hold was told, or memory wanted
+  pub areas_found : (found : Found) (held left : D) (a b : Option (List ℕ)) (f g : ℕ) (kept : Option Durable) (n : ℕ) (h : List Entry)
+      → faults left ≡ faults held → StaysAsItWas moment left_since may_leave seen held left → IfSome (seen held) (λ both. (damage : Damage) → IsDamaged both damage → ⊥) → kept ≡ None → h ≡ [] → TellsHeld found a b f g n
+      → LeavesAreas moment left_since may_leave seen faults held left a b f g kept n h
+  areas_found found held left a b f g kept n h calm stays whole none nothing (inl t) = let c : WasRun n ⊎ (n ≡ 8) = inl (told_status (check_text found) a b f g n t) in record {
+    fault = record { rose_at_5 = λ e. absurd (not_5 n c e); calm_else = λ _. calm };
+    unopened = told_unopened (check_text found) kept (seen held) a b f g n h t;
+    damaged = some_map (λ both. (damage : Damage) → IsDamaged both damage → ⊥) (λ both. FindsDamage both n) (seen held) (λ both no damage has. absurd (no damage has)) whole;
+    stays = stays;
+    leaves = none_held kept (λ d. LeavesOpened moment left_since may_leave held left (saved d)) none;
+    idle = λ w. not_idle n c w;
+  }
+  areas_found found held left a b f g kept n h calm stays whole none nothing (inr (eight, w)) = areas_wanted held left a b f g kept n h calm stays none nothing eight w
+
+  -- a store was opened, and its disk came back
+  pub opens_ok : (held there left : D) (d : Durable) → left ≡ there → IfSome (seen held) (λ both. Holds both (saved d)) → Each (may_leave there) (λ c. Holds c (saved d)) → faults there ≡ faults held
+      → IfSome (seen held) (λ both. (damage : Damage) → IsDamaged both damage → ⊥) → seen there ≡ seen held → LeavesOnly moment left_since may_leave held there (may_leave held)
+      → Opens moment left_since may_leave seen faults held left (Ok d)
+  opens_ok held there left d same holds leaves calm whole contents any_moment = subst (λ x. Opens moment left_since may_leave seen faults held x (Ok d)) (sym same) (record {
+    held = holds;
+    leaves = leaves;
+    calm = calm;
+    fault = tt;
+    spoilt = whole;
+    stays = record { contents = contents; any_moment = any_moment };
+  })
+
+  -- none was opened
+  pub opens_err : (held left : D) (e : OpenFault) → IfSome (seen held) (λ both. TellsDamage (IsDamaged both) e) → FaultOf (faults held) (faults left) e → seen left ≡ seen held → LeavesOnly moment left_since may_leave held left (may_leave held)
+      → Opens moment left_since may_leave seen faults held left (Err e)
+  opens_err held left e damage cause contents any_moment = record {
+    held = tt;
+    leaves = tt;
+    calm = tt;
+    fault = record { damage = damage; cause = cause };
+    spoilt = some_all (λ both. (damage : Damage) → IsDamaged both damage → IfOk (err e) (λ d. ⊥)) (seen held) (λ both damage has. tt);
+    stays = record { contents = contents; any_moment = any_moment };
+  }
+    where
+      err : OpenFault → Result Durable OpenFault
+      err x = Err x
+
+  -- the first bad line was told, or memory wanted for it
+  pub opens_bad_line : ((d : D) (c : Contents) → left_since d (moment d) c → may_leave d c) → (line : ℕ) (held left : D) (a b : Option (List ℕ)) (f g : ℕ) (kept : Option Durable) (n : ℕ) (h : List Entry)
+      → left ≡ held → kept ≡ None → h ≡ [] → SaysBadLine line a b f g n → OpensAreas moment left_since may_leave seen faults held left a b f g kept n h
+  opens_bad_line only_now line held left a b f g kept n h same none nothing (inl (six, _)) = opens_untouched only_now held left a b f g kept n 6 h same none nothing six
+      (inr (inr (inr (inl refl)))) (λ k. omega (arith, k)) (λ k. omega (arith, k)) (λ k. absurd (six_not_8 k)) (λ k. omega (arith, k)) (λ k. omega (arith, k))
+    where
+      six_not_8 : ◌≡◌ {A = ℕ} 6 8 → ⊥
+      six_not_8 k = omega (arith, k)
+  opens_bad_line only_now line held left a b f g kept n h same none nothing (inr (eight, w)) = opens_wanted only_now held left a b f g kept n h same none nothing eight w
+
+  -- the source wasn't read to its end
+  pub opens_unread : ((d : D) (c : Contents) → left_since d (moment d) c → may_leave d c) → (why : Unread) (held left : D) (a b : Option (List ℕ)) (f g : ℕ) (kept : Option Durable) (n : ℕ) (h : List Entry)
+      → left ≡ held → kept ≡ None → h ≡ [] → n ≡ unread_status why → Writes a b f g (status_line (unread_status why)) → OpensAreas moment left_since may_leave seen faults held left a b f g kept n h
+  opens_unread only_now unread.Fault held left a b f g kept n h same none nothing is w = opens_untouched only_now held left a b f g kept n 3 h same none nothing is (inr (inl refl)) (λ k. omega (arith, k)) (λ k. omega (arith, k)) (λ k. absurd (three_not_8 k)) (λ k. omega (arith, k)) (λ k. omega (arith, k))
+    where
+      three_not_8 : ◌≡◌ {A = ℕ} 3 8 → ⊥
+      three_not_8 k = omega (arith, k)
+  opens_unread only_now unread.TooLong held left a b f g kept n h same none nothing is w = opens_untouched only_now held left a b f g kept n 9 h same none nothing is (inr (inr (inl refl))) (λ k. omega (arith, k)) (λ k. omega (arith, k)) (λ k. absurd (nine_not_8 k)) (λ k. omega (arith, k)) (λ k. omega (arith, k))
+    where
+      nine_not_8 : ◌≡◌ {A = ℕ} 9 8 → ⊥
+      nine_not_8 k = omega (arith, k)
+  opens_unread only_now unread.Memory held left a b f g kept n h same none nothing is w = opens_wanted only_now held left a b f g kept n h same none nothing is w

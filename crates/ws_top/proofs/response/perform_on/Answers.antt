@@ -1,10 +1,19 @@
-use Rattle.std.proofs.Common.{map, sym, subst}
+use Rattle.std.proofs.Common.{map, sym, ap, subst}
 use Rattle.ws_top.specs.Builds.{MakesBuilds}
 use Rattle.ws_top.proofs.Built.{builds_of}
 use Rattle.ws_top.specs.Outcomes.{Shuffle, CutShuffle, IsOneThread, HearsNotices}
 use Rattle.ws_top.proofs.Told.{hears_all, hears_front}
 use Rattle.ws_top.proofs.Responded.{performed, performed_cut}
 use Rattle.ws_top.proofs.response.perform_on.Goals as goal
+
+pub run_phases-requires-opened : goal.run_phases-requires-opened
+run_phases-requires-opened g c = ap (λ s. s.manager) c.requires.opened
+
+pub run_phases-requires-served : goal.run_phases-requires-served
+run_phases-requires-served g c = record { named = ap (λ s. s.desk.builders) c.requires.opened; means = c.requires.means }
+
+pub report-requires : goal.report-requires
+report-requires g c = c.in-Ok.ensures.calm
 
 pub returns-in-Ok-clause-performs : goal.returns-in-Ok-clause-performs
 returns-in-Ok-clause-performs g c = performed g.M.Meanings.meaning c.args.core.opened c.run_phases-ran.new.core c.args.script (g.K.Sink.written c.args.sink.now) (g.K.Sink.written c.report.new.sink) (g.K.Sink.faults c.args.sink.now) (g.K.Sink.faults c.report.new.sink) c.report.result.status c.report.result.history c.run_phases-ran.ensures.opened
@@ -16,8 +25,8 @@ returns-in-Ok-clause-heard g c = subst (λ kit. HearsNotices c.args.core.opened 
 
 pub returns-in-Ok-clause-builds : goal.returns-in-Ok-clause-builds
 returns-in-Ok-clause-builds g c = subst (λ kit. MakesBuilds g.M.Meanings.meaning c.args.core.opened c.report.result.history (map (λ b. g.B.Builder.tells b) c.args.kit.builders) (map (λ b. g.B.Builder.tells b) kit.builders)) (sym c.report.ensures.kit)
-    (builds_of g.M.Meanings.meaning c.args.core c.run_phases-ran.new.core (map (λ b. g.B.Builder.tells b) c.args.kit.builders) (map (λ b. g.B.Builder.tells b) c.args.kit.builders) (map (λ b. g.B.Builder.tells b) c.run_phases-ran.new.builders) c.report.result.history
-    c.requires.opened c.requires.history c.run_phases-ran.ensures.serves c.report.ensures.history c.report.ensures.performs.thread.legal)
+    (builds_of g.M.Meanings.meaning c.args.core c.run_phases-ran.new.core (map (λ b. g.B.Builder.tells b) c.args.kit.builders) (map (λ b. g.B.Builder.tells b) c.run_phases-ran.new.builders) c.report.result.history
+    c.requires.history c.run_phases-ran.ensures.serves c.report.ensures.history c.report.ensures.performs.thread.legal)
 
 pub returns-clause-performs : goal.returns-clause-performs
 returns-clause-performs g c = performed_cut g.M.Meanings.meaning c.args.core.opened c.run_phases-ran.new.core c.args.script (g.K.Sink.written c.args.sink.now) (g.K.Sink.written c.report_cut.new.sink) (g.K.Sink.faults c.args.sink.now) (g.K.Sink.faults c.report_cut.new.sink) c.report_cut.result.status c.report_cut.result.history c.run_phases-ran.ensures.opened
@@ -29,5 +38,5 @@ returns-clause-heard g c = subst (λ kit. HearsNotices c.args.core.opened c.repo
 
 pub returns-clause-builds : goal.returns-clause-builds
 returns-clause-builds g c = subst (λ kit. MakesBuilds g.M.Meanings.meaning c.args.core.opened c.report_cut.result.history (map (λ b. g.B.Builder.tells b) c.args.kit.builders) (map (λ b. g.B.Builder.tells b) kit.builders)) (sym c.report_cut.ensures.kit)
-    (builds_of g.M.Meanings.meaning c.args.core c.run_phases-ran.new.core (map (λ b. g.B.Builder.tells b) c.args.kit.builders) (map (λ b. g.B.Builder.tells b) c.args.kit.builders) (map (λ b. g.B.Builder.tells b) c.run_phases-ran.new.builders) c.report_cut.result.history
-    c.requires.opened c.requires.history c.run_phases-ran.ensures.serves c.report_cut.ensures.history c.report_cut.ensures.performs.thread.legal)
+    (builds_of g.M.Meanings.meaning c.args.core c.run_phases-ran.new.core (map (λ b. g.B.Builder.tells b) c.args.kit.builders) (map (λ b. g.B.Builder.tells b) c.run_phases-ran.new.builders) c.report_cut.result.history
+    c.requires.history c.run_phases-ran.ensures.serves c.report_cut.ensures.history c.report_cut.ensures.performs.thread.legal)
