@@ -3,7 +3,7 @@ use Rattle.std.proofs.Common.{◌≡◌, ◌≢◌, ◌⊎◌, inl, inr, ℕ, �
 use Rattle.std.specs.Prelude.{unwrap_or, IfSome}
 use Rattle.ws_outside.specs.declared.contents.Contents.{Contents}
 use Rattle.ws_outside.specs.Faults.{Rose}
-use Rattle.ws_outside.specs.Streams.{Takes, IsAtEnd}
+use Rattle.ws_outside.specs.Streams.{Takes, IsAtEnd, GainsFront}
 use Rattle.disk_area.specs.declared.damage.Damage.{Damage}
 use Rattle.ws_durable.specs.declared.durable.Durable.{Durable}
 use Rattle.save_store.specs.Damages.{IsDamaged}
@@ -21,8 +21,8 @@ use Rattle.ws_top.specs.Areas.{opened_state, IsDamage, AreUndamaged, FindsDamage
 use Rattle.ws_top.specs.Forms.{Touches, help_text, version_text}
 use Rattle.ws_top.specs.Inside.Parts.{unread_status, IsUnreadCause, IsUnreadLength, IsUnopenedFor, Responds, EndsRun}
 use Rattle.ws_top.specs.Limits.{longest, Reads, ReadsAll, ReadsShort}
-use Rattle.ws_top.specs.Outcomes.{IsStatus, WasRead, WasRun, WasIdle, WasUnopened, TellsWriteFault, TellsState, TellsUnopened, Shuffle, CutShuffle, StoppedShuffle, Spelled, Ran, WasStopped, WritesCut, Writes, ReadsNoMore, RunsScript, Tells, TellsFound, Checks, DoesNothing, EndsProgram}
-use Rattle.ws_top.specs.Texts.{status_line, check_text}
+use Rattle.ws_top.specs.Outcomes.{IsStatus, WasRead, WasRun, WasIdle, WasUnopened, TellsWriteFault, TellsState, TellsUnopened, Shuffle, CutShuffle, StoppedShuffle, Spelled, Ran, WasStopped, Writes, ReadsNoMore, RunsScript, Tells, TellsFound, Checks, DoesNothing, EndsProgram}
+use Rattle.ws_top.specs.Texts.{status_line, cut_text, check_text}
 use Rattle.ws_top.proofs.Fronts.{front_of_writes}
 use Rattle.ws_top.proofs.Opened.{unopened_never, told_status, told_unopened}
 use Rattle.ws_top.proofs.Performed.{right_of, thread_none, calm_none}
@@ -53,7 +53,7 @@ told_damaged seen both damage is has = subst (λ o. IsDamage o damage) is has
 
 -- the bytes spell a script, for which no state was opened
 refused_responded : (ms : Meanings) (kept : Option Durable) (told : List Told) (l m : Option (List ℕ)) (x y : Option ℕ) (i j : ℕ) (seen : Option Contents) (p q : ℕ) (a b : Option (List ℕ)) (f g n : ℕ) (h : List Entry) (bytes : List ℕ)
-    → ReadsAll l m bytes → j ≡ i → (xs : List ℕ) × Reads l m x y xs → TellsDiskFault p q n → TellsUnopened kept seen a b f g n h → IsUnopenedFor bytes n h → EndsRun ms (opened_state kept told) l m x y i j seen p q a b f g n h
+    → ReadsAll l m bytes → j ≡ i → (xs : List ℕ) × Reads l m x y xs → TellsDiskFault p q n → TellsUnopened kept seen a b f g n h → IsUnopenedFor bytes n h → EndsRun ms kept (opened_state kept told) l m x y i j seen p q a b f g n h
 refused_responded ms kept told l m x y i j seen p q a b f g n h bytes r calm few fault unopened t = record {
   ends = is_refused n t.refused.ends;
   usage = not_refused n 2 t.refused.ends (λ k. omega (arith, k)) (λ k. omega (arith, k));
@@ -88,7 +88,7 @@ refused_responded ms kept told l m x y i j seen p q a b f g n h bytes r calm few
 
 -- what the bytes of the source ask for was done
 pub ends_responded : (ms : Meanings) (kept : Option Durable) (told : List Told) (l m : Option (List ℕ)) (x y : Option ℕ) (i j : ℕ) (seen : Option Contents) (p q : ℕ) (a b : Option (List ℕ)) (f g n : ℕ) (h : List Entry) (bytes : List ℕ)
-    → ReadsAll l m bytes → j ≡ i → (xs : List ℕ) × Reads l m x y xs → TellsDiskFault p q n → TellsUnopened kept seen a b f g n h → Responds ms (opened_state kept told) bytes a b f g n h → EndsRun ms (opened_state kept told) l m x y i j seen p q a b f g n h
+    → ReadsAll l m bytes → j ≡ i → (xs : List ℕ) × Reads l m x y xs → TellsDiskFault p q n → TellsUnopened kept seen a b f g n h → Responds ms kept (opened_state kept told) bytes a b f g n h → EndsRun ms kept (opened_state kept told) l m x y i j seen p q a b f g n h
 ends_responded ms kept told l m x y i j seen p q a b f g n h bytes r calm few fault unopened (inl o) = record {
   ends = is_performed n o.ends;
   usage = not_2 n o.ends;
@@ -152,9 +152,9 @@ ends_responded ms kept told l m x y i j seen p q a b f g n h bytes r calm few fa
 ends_responded ms kept told l m x y i j seen p q a b f g n h bytes r calm few fault unopened (inr (inr t)) = refused_responded ms kept told l m x y i j seen p q a b f g n h bytes r calm few fault unopened t
 
 -- the script was not run: a status of its own is told
-runs_nothing : (ms : Meanings) (opened : Moment) (l m a b : Option (List ℕ)) (f g n s : ℕ) (h : List Entry) → n ≡ s → h ≡ [] → (WasRead s → ⊥) → (s ≡ 0 → ⊥) → (s ≡ 4 → ⊥) → (s ≡ 6 → ⊥) → (s ≡ 8 → WritesCut opened a b h)
-    → RunsScript ms opened l m a b f g n h
-runs_nothing ms opened l m a b f g n s h e z u d4 d5 d6 w = record {
+runs_nothing : (ms : Meanings) (kept : Option Durable) (opened : Moment) (l m a b : Option (List ℕ)) (f g n s : ℕ) (h : List Entry) → n ≡ s → h ≡ [] → (WasRead s → ⊥) → (s ≡ 0 → ⊥) → (s ≡ 4 → ⊥) → (s ≡ 6 → ⊥) → (s ≡ 8 → GainsFront a (cut_text kept opened h) b)
+    → RunsScript ms kept opened l m a b f g n h
+runs_nothing ms kept opened l m a b f g n s h e z u d4 d5 d6 w = record {
   to_its_end = λ k. absurd (u (subst WasRead e k));
   judged = λ k. absurd (u (subst WasRead e k));
   nothing_if_idle = λ _. z;
@@ -169,9 +169,9 @@ runs_nothing ms opened l m a b f g n s h e z u d4 d5 d6 w = record {
 
 -- the source was not read to its end
 pub ends_unread : (ms : Meanings) (kept : Option Durable) (told : List Told) (why : Unread) (l m : Option (List ℕ)) (x y : Option ℕ) (i j : ℕ) (seen : Option Contents) (p q : ℕ) (a b : Option (List ℕ)) (f g n : ℕ) (h : List Entry)
-    → IsUnreadCause why i j → IsUnreadLength why l m → (xs : List ℕ) × Reads l m x y xs → n ≡ unread_status why → h ≡ [] → Writes a b f g (status_line (unread_status why))
-    → EndsRun ms (opened_state kept told) l m x y i j seen p q a b f g n h
-ends_unread ms kept told Fault l m x y i j seen p q a b f g n h cause much few e z w = record {
+    → IsUnreadCause why i j → IsUnreadLength why l m → (xs : List ℕ) × Reads l m x y xs → n ≡ unread_status why → h ≡ [] → kept ≡ None → Writes a b f g (status_line (unread_status why))
+    → EndsRun ms kept (opened_state kept told) l m x y i j seen p q a b f g n h
+ends_unread ms kept told Fault l m x y i j seen p q a b f g n h cause much few e z none w = record {
   ends = inr (inr (inl e));
   usage = λ k. apart n 3 2 e k (λ k. omega (arith, k));
   read_fault = record { rose_at_3 = λ _. cause; calm_else = λ k. absurd (k e) };
@@ -183,14 +183,14 @@ ends_unread ms kept told Fault l m x y i j seen p q a b f g n h cause much few e
   complete = λ good _ _ given script both left short spelled is whole. absurd (good cause);
   reads = record { few = few; one_too_many_at_9 = λ k. apart n 3 9 e k (λ k. omega (arith, k)); short_else = λ _. much };
   thread = thread_none kept told h z;
-  runs = runs_nothing ms (opened_state kept told) l m a b f g n 3 h e z (λ k. k.fault refl) (λ k. omega (arith, k)) (λ k. omega (arith, k)) (λ k. omega (arith, k)) (λ k. absurd (three_not_8 k));
+  runs = runs_nothing ms kept (opened_state kept told) l m a b f g n 3 h e z (λ k. k.fault refl) (λ k. omega (arith, k)) (λ k. omega (arith, k)) (λ k. omega (arith, k)) (λ k. absurd (three_not_8 k));
   calm = λ _. calm_none h z;
   line = λ _. subst (λ (k : ℕ). Writes a b f g (status_line k)) (sym e) w;
 }
   where
     three_not_8 : ◌≡◌ {A = ℕ} 3 8 → ⊥
     three_not_8 k = omega (arith, k)
-ends_unread ms kept told TooLong l m x y i j seen p q a b f g n h cause much few e z w = record {
+ends_unread ms kept told TooLong l m x y i j seen p q a b f g n h cause much few e z none w = record {
   ends = inr (inr (inr (inr (inr (inr (inl e))))));
   usage = λ k. apart n 9 2 e k (λ k. omega (arith, k));
   read_fault = record { rose_at_3 = λ k. apart n 9 3 e k (λ k. omega (arith, k)); calm_else = λ _. cause };
@@ -202,7 +202,7 @@ ends_unread ms kept told TooLong l m x y i j seen p q a b f g n h cause much few
   complete = λ _ _ _ given script both left short spelled is whole. absurd (too_much given left short);
   reads = record { few = few; one_too_many_at_9 = λ _. much; short_else = λ k. absurd (k e) };
   thread = thread_none kept told h z;
-  runs = runs_nothing ms (opened_state kept told) l m a b f g n 9 h e z (λ k. k.too_long refl) (λ k. omega (arith, k)) (λ k. omega (arith, k)) (λ k. omega (arith, k)) (λ k. absurd (nine_not_8 k));
+  runs = runs_nothing ms kept (opened_state kept told) l m a b f g n 9 h e z (λ k. k.too_long refl) (λ k. omega (arith, k)) (λ k. omega (arith, k)) (λ k. omega (arith, k)) (λ k. absurd (nine_not_8 k));
   calm = λ _. calm_none h z;
   line = λ _. subst (λ (k : ℕ). Writes a b f g (status_line k)) (sym e) w;
 }
@@ -212,7 +212,7 @@ ends_unread ms kept told TooLong l m x y i j seen p q a b f g n h cause much few
 
     too_much : (given : List ℕ) → l ≡ Some given → length given ≤ longest → ⊥
     too_much given left short = omega (arith, short, much.1, taken_within l m much.0 given much.2 left)
-ends_unread ms kept told Memory l m x y i j seen p q a b f g n h cause much few e z w = record {
+ends_unread ms kept told Memory l m x y i j seen p q a b f g n h cause much few e z none w = record {
   ends = inr (inr (inr (inr (inr (inl e)))));
   usage = λ k. apart n 8 2 e k (λ k. omega (arith, k));
   read_fault = record { rose_at_3 = λ k. apart n 8 3 e k (λ k. omega (arith, k)); calm_else = λ _. cause };
@@ -224,8 +224,8 @@ ends_unread ms kept told Memory l m x y i j seen p q a b f g n h cause much few 
   complete = λ _ _ _ given script both left short spelled is whole. inr e;
   reads = record { few = few; one_too_many_at_9 = λ k. apart n 8 9 e k (λ k. omega (arith, k)); short_else = λ _. much };
   thread = thread_none kept told h z;
-  runs = runs_nothing ms (opened_state kept told) l m a b f g n 8 h e z (λ k. k.memory refl) (λ k. omega (arith, k)) (λ k. omega (arith, k)) (λ k. omega (arith, k))
-      (λ _. record { written = status_line 8; is_cut = inr (z, refl); front = front_of_writes a b f g (status_line 8) w });
+  runs = runs_nothing ms kept (opened_state kept told) l m a b f g n 8 h e z (λ k. k.memory refl) (λ k. omega (arith, k)) (λ k. omega (arith, k)) (λ k. omega (arith, k))
+      (λ _. subst (λ k. GainsFront a (cut_text k (opened_state kept told) h) b) (sym none) (front_of_writes a b f g (status_line 8) w));
   calm = λ _. calm_none h z;
   line = λ _. subst (λ (k : ℕ). Writes a b f g (status_line k)) (sym e) w;
 }
@@ -272,7 +272,7 @@ touched_idle form n touches idle (inr w) = idle w
 
 -- the words ask for a run
 pub program_run : (ms : Meanings) (kept : Option Durable) (told : List Told) (form : Option Form) (l m : Option (List ℕ)) (x y : Option ℕ) (i j : ℕ) (seen : Option Contents) (p q : ℕ) (a b : Option (List ℕ)) (f g n : ℕ) (h : List Entry)
-    → form ≡ Some Run → EndsRun ms (opened_state kept told) l m x y i j seen p q a b f g n h → TellsDiskFault p q n → TellsUnopened kept seen a b f g n h → IfSome seen (λ both. FindsDamage both n) → TellsState kept seen n h
+    → form ≡ Some Run → EndsRun ms kept (opened_state kept told) l m x y i j seen p q a b f g n h → TellsDiskFault p q n → TellsUnopened kept seen a b f g n h → IfSome seen (λ both. FindsDamage both n) → TellsState kept seen n h
     → EndsProgram ms kept told form l m x y i j seen p q a b f g n h
 program_run ms kept told form l m x y i j seen p q a b f g n h is r fault unopened damaged state = record {
   ends = r.ends;

@@ -20,7 +20,7 @@ pub returns-in-Err : goal.returns-in-Err
 returns-in-Err g c = let out = c.stop_unread in record {
   ends = ends_unread g.M.Meanings.meaning out.result.kept (map (λ b. g.B.Builder.tells b) c.args.kit.builders) c.in-Err.error (g.S.Source.left c.args.source.now) (g.S.Source.left c.read_all.new.source) (g.S.Source.reads c.args.source.now) (g.S.Source.reads c.read_all.new.source) (g.S.Source.faults c.args.source.now) (g.S.Source.faults c.read_all.new.source)
       (g.D.Disk.seen c.args.areas.disk) (g.D.Disk.faults c.args.areas.disk) (g.D.Disk.faults c.stop_unread.result.areas.disk) (g.K.Sink.written c.args.sink.now) (g.K.Sink.written c.stop_unread.new.sink) (g.K.Sink.faults c.args.sink.now) (g.K.Sink.faults c.stop_unread.new.sink) out.result.status out.result.history
-      c.in-Err.ensures.cause c.in-Err.ensures.much c.read_all.ensures.some out.ensures.status out.ensures.nothing out.ensures.line;
+      c.in-Err.ensures.cause c.in-Err.ensures.much c.read_all.ensures.some out.ensures.status out.ensures.nothing out.ensures.none out.ensures.line;
   areas = opens_unread g.D.Disk.moment g.D.Disk.left_since g.D.Disk.may_leave g.D.Disk.seen g.D.Disk.faults g.met.D.Disk.only_now c.in-Err.error c.args.areas.disk out.result.areas.disk (g.K.Sink.written c.args.sink.now) (g.K.Sink.written c.stop_unread.new.sink) (g.K.Sink.faults c.args.sink.now) (g.K.Sink.faults c.stop_unread.new.sink) out.result.kept out.result.status out.result.history
       (ap (λ areas. areas.disk) out.ensures.areas) out.ensures.none out.ensures.nothing out.ensures.status out.ensures.line;
   heard = hears_nothing (opened_state c.stop_unread.result.kept (map (λ b. g.B.Builder.tells b) c.args.kit.builders)) c.stop_unread.result.status c.stop_unread.result.history (map (λ l. g.L.Listener.heard l) c.args.kit.listeners) (map (λ l. g.L.Listener.heard l) c.stop_unread.result.kit.listeners) c.stop_unread.ensures.nothing (ap (λ kit. map (λ l. g.L.Listener.heard l) kit.listeners) c.stop_unread.ensures.kit);

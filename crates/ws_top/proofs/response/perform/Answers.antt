@@ -25,7 +25,7 @@ returns-in-Ok g c = let d = g.D.Disk in let out = c.perform_from in record {
 
 pub returns-in-Err : goal.returns-in-Err
 returns-in-Err g c = let d = g.D.Disk in let out = c.refuse in record {
-  performs = performs_refused g.M.Meanings.meaning out.result.kept (map (λ b. g.B.Builder.tells b) c.args.kit.builders) c.args.script c.in-Err.fault (g.K.Sink.written c.args.sink.now) (g.K.Sink.written c.refuse.new.sink) (g.K.Sink.faults c.args.sink.now) (g.K.Sink.faults c.refuse.new.sink) out.result.status out.result.history out.ensures.told out.ensures.nothing;
+  performs = performs_refused g.M.Meanings.meaning out.result.kept (map (λ b. g.B.Builder.tells b) c.args.kit.builders) c.args.script c.in-Err.fault (g.K.Sink.written c.args.sink.now) (g.K.Sink.written c.refuse.new.sink) (g.K.Sink.faults c.args.sink.now) (g.K.Sink.faults c.refuse.new.sink) out.result.status out.result.history out.ensures.told out.ensures.nothing out.ensures.none;
   areas = subst (λ areas. OpensAreas d.moment d.left_since d.may_leave d.seen d.faults c.args.areas.disk areas.disk (g.K.Sink.written c.args.sink.now) (g.K.Sink.written c.refuse.new.sink) (g.K.Sink.faults c.args.sink.now) (g.K.Sink.faults c.refuse.new.sink) out.result.kept out.result.status out.result.history) (sym out.ensures.areas)
       (opens_refused d.moment d.left_since d.may_leave d.seen d.faults c.in-Err.fault c.args.areas.disk c.open_areas-opened.result.1.disk (g.K.Sink.written c.args.sink.now) (g.K.Sink.written c.refuse.new.sink) (g.K.Sink.faults c.args.sink.now) (g.K.Sink.faults c.refuse.new.sink) out.result.kept out.result.status out.result.history
       (subst (λ r. Opens d.moment d.left_since d.may_leave d.seen d.faults c.args.areas.disk c.open_areas-opened.result.1.disk r) c.in-Err.is c.open_areas-opened.ensures.opens) out.ensures.none out.ensures.nothing out.ensures.told);

@@ -12,11 +12,11 @@ run_phases-requires-opened g c = ap (λ s. s.manager) c.requires.opened
 pub run_phases-requires-served : goal.run_phases-requires-served
 run_phases-requires-served g c = record { named = ap (λ s. s.desk.builders) c.requires.opened; means = c.requires.means }
 
-pub report-requires : goal.report-requires
-report-requires g c = c.in-Ok.ensures.calm
+pub report-requires-calm : goal.report-requires-calm
+report-requires-calm g c = c.in-Ok.ensures.calm
 
 pub returns-in-Ok-clause-performs : goal.returns-in-Ok-clause-performs
-returns-in-Ok-clause-performs g c = performed g.M.Meanings.meaning c.args.core.opened c.run_phases-ran.new.core c.args.script (g.K.Sink.written c.args.sink.now) (g.K.Sink.written c.report.new.sink) (g.K.Sink.faults c.args.sink.now) (g.K.Sink.faults c.report.new.sink) c.report.result.status c.report.result.history c.run_phases-ran.ensures.opened
+returns-in-Ok-clause-performs g c = performed g.M.Meanings.meaning c.report.result.kept c.args.core.opened c.run_phases-ran.new.core c.args.script (g.K.Sink.written c.args.sink.now) (g.K.Sink.written c.report.new.sink) (g.K.Sink.faults c.args.sink.now) (g.K.Sink.faults c.report.new.sink) c.report.result.status c.report.result.history c.run_phases-ran.ensures.opened
     (subst (λ phases. Shuffle g.M.Meanings.meaning c.args.core.opened (record { phases = phases }) c.run_phases-ran.new.core.history) c.as_slice-phases.ensures c.in-Ok.ensures.whole) c.report.ensures.performs
 
 pub returns-in-Ok-clause-heard : goal.returns-in-Ok-clause-heard
@@ -29,7 +29,7 @@ returns-in-Ok-clause-builds g c = subst (λ kit. MakesBuilds g.M.Meanings.meanin
     c.requires.history c.run_phases-ran.ensures.serves c.report.ensures.history c.report.ensures.performs.thread.legal)
 
 pub returns-clause-performs : goal.returns-clause-performs
-returns-clause-performs g c = performed_cut g.M.Meanings.meaning c.args.core.opened c.run_phases-ran.new.core c.args.script (g.K.Sink.written c.args.sink.now) (g.K.Sink.written c.report_cut.new.sink) (g.K.Sink.faults c.args.sink.now) (g.K.Sink.faults c.report_cut.new.sink) c.report_cut.result.status c.report_cut.result.history c.run_phases-ran.ensures.opened
+returns-clause-performs g c = performed_cut g.M.Meanings.meaning c.report_cut.result.kept c.args.core.opened c.run_phases-ran.new.core c.args.script (g.K.Sink.written c.args.sink.now) (g.K.Sink.written c.report_cut.new.sink) (g.K.Sink.faults c.args.sink.now) (g.K.Sink.faults c.report_cut.new.sink) c.report_cut.result.status c.report_cut.result.history c.run_phases-ran.ensures.opened
     (subst (λ phases. CutShuffle g.M.Meanings.meaning c.args.core.opened (record { phases = phases }) c.run_phases-ran.new.core.history) c.as_slice-phases.ensures c.in-Err.ensures.cut) c.in-Err.ensures.there c.report_cut.ensures.performs
 
 pub returns-clause-heard : goal.returns-clause-heard
