@@ -257,12 +257,9 @@ module _ {D : Type 0} (moment : D → ℕ) (left_since : D → ℕ → Contents 
     leaves = tt;
     calm = tt;
     fault = record { damage = damage; cause = cause };
-    spoilt = some_all (λ both. (damage : Damage) → IsDamaged both damage → IfOk (err e) (λ d. ⊥)) (seen held) (λ both damage has. tt);
+    spoilt = some_all (λ both. (damage : Damage) → IsDamaged both damage → Unit {0}) (seen held) (λ both damage has. tt);
     stays = record { contents = contents; any_moment = any_moment };
   }
-    where
-      err : OpenFault → Result Durable OpenFault
-      err x = Err x
 
   -- the first bad line was told, or memory wanted for it
   pub opens_bad_line : ((d : D) (c : Contents) → left_since d (moment d) c → may_leave d c) → (line : ℕ) (held left : D) (a b : Option (List ℕ)) (f g : ℕ) (kept : Option Durable) (n : ℕ) (h : List Entry)

@@ -10,8 +10,8 @@ use Rattle.ws_top.proofs.Responded.{performs_refused}
 use Rattle.ws_top.proofs.Told.{hears_nothing}
 use Rattle.ws_top.proofs.response.perform.Goals as goal
 
-pub perform_from-requires-valid : goal.perform_from-requires-valid
-perform_from-requires-valid g c = subst (λ r. IfOk r (λ d. Valid (saved d))) c.in-Ok.is c.open_areas-opened.ensures.valid
+pub perform_from-requires-clause-valid : goal.perform_from-requires-clause-valid
+perform_from-requires-clause-valid g c = subst (λ r. IfOk r (λ d. Valid (saved d))) c.in-Ok.is c.open_areas-opened.ensures.valid
 
 pub returns-in-Ok : goal.returns-in-Ok
 returns-in-Ok g c = let d = g.D.Disk in let out = c.perform_from in record {

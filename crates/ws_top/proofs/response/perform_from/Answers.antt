@@ -8,8 +8,8 @@ use Rattle.ws_top.proofs.Responded.{performed_from, performs_wanted}
 use Rattle.ws_top.proofs.Told.{hears_nothing}
 use Rattle.ws_top.proofs.response.perform_from.Goals as goal
 
-pub perform_on-requires-some : goal.perform_on-requires-some
-perform_on-requires-some g c = ap is_some c.in-Ok.ensures.kept
+pub perform_on-requires-clause-some : goal.perform_on-requires-clause-some
+perform_on-requires-clause-some g c = ap is_some c.in-Ok.ensures.kept
 
 pub returns-in-Ok : goal.returns-in-Ok
 returns-in-Ok g c =

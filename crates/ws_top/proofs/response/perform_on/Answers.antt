@@ -6,14 +6,14 @@ use Rattle.ws_top.proofs.Told.{hears_all, hears_front}
 use Rattle.ws_top.proofs.Responded.{performed, performed_cut}
 use Rattle.ws_top.proofs.response.perform_on.Goals as goal
 
-pub run_phases-requires-opened : goal.run_phases-requires-opened
-run_phases-requires-opened g c = ap (λ s. s.manager) c.requires.opened
+pub run_phases-ran-requires-clause-opened : goal.run_phases-ran-requires-clause-opened
+run_phases-ran-requires-clause-opened g c = ap (λ s. s.manager) c.requires.opened
 
-pub run_phases-requires-served : goal.run_phases-requires-served
-run_phases-requires-served g c = record { named = ap (λ s. s.desk.builders) c.requires.opened; means = c.requires.means }
+pub run_phases-ran-requires-clause-served : goal.run_phases-ran-requires-clause-served
+run_phases-ran-requires-clause-served g c = record { named = ap (λ s. s.desk.builders) c.requires.opened; means = c.requires.means }
 
-pub report-requires-calm : goal.report-requires-calm
-report-requires-calm g c = c.in-Ok.ensures.calm
+pub report-requires-clause-calm : goal.report-requires-clause-calm
+report-requires-clause-calm g c = c.in-Ok.ensures.calm
 
 pub returns-in-Ok-clause-performs : goal.returns-in-Ok-clause-performs
 returns-in-Ok-clause-performs g c = performed g.M.Meanings.meaning c.report.result.kept c.args.core.opened c.run_phases-ran.new.core c.args.script (g.K.Sink.written c.args.sink.now) (g.K.Sink.written c.report.new.sink) (g.K.Sink.faults c.args.sink.now) (g.K.Sink.faults c.report.new.sink) c.report.result.status c.report.result.history c.run_phases-ran.ensures.opened
