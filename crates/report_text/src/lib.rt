@@ -19,6 +19,6 @@ mod rule_text;
 pub use branch_text::{digest_text, put_tree_line, tree_lines, tree_text};
 pub use delta_text::{delta_lines, put_node};
 pub use element_text::{put_shown, shown_text};
-pub use put::{put_counted, put_named, put_number, put_path, put_text};
+pub use put::{put_counted, put_hexadecimal, put_named, put_number, put_path, put_text};
 pub use res_path::NoMemory;
 pub use rule_text::{put_rule, rule_words};

@@ -47,7 +47,7 @@ pub fn put_path(out: &mut Vec<u8>, before: &str, path: &Path) -> Result<(), NoMe
 }
 
 /// Appends the bytes in lower-case hexadecimal.
-pub(crate) fn put_hexadecimal(out: &mut Vec<u8>, bytes: &[u8]) -> Result<(), NoMemory>
+pub fn put_hexadecimal(out: &mut Vec<u8>, bytes: &[u8]) -> Result<(), NoMemory>
     ensures { OnOk result (out.new.items ≡ out.old.items ++ hexadecimal bytes.now) }
 {
     for b in bytes {

@@ -1,5 +1,8 @@
 -- The text of a run.
-use Rattle.std.specs.Prelude.{ℕ, List, ◌++◌, codes, decimal}
+use Rattle.std.specs.Prelude.{ℕ, List, ◌++◌, Option, Some, None, codes, decimal}
+use Rattle.ws_durable.specs.declared.durable.Durable.{Durable}
+use Rattle.save_store.specs.declared.look.Found.{Found}
+use Rattle.area_text.specs.Looks.{found_text}
 use Rattle.delta_kind.specs.Deltas.{delta}
 use Rattle.core_event.specs.declared.entry.Entry.{Entry}
 use Rattle.report_text.specs.Deltas.{delta_lines}
@@ -22,5 +25,14 @@ status_line n = codes "status " ++ decimal n ++ codes "\n"
 abbrev pub text : Moment → List Entry → ℕ → List ℕ
 text opened h n = report_from opened h ++ status_line n
 
+-- the text of a want of memory: of what was done, as above, or the status alone where no state was opened
+abbrev pub cut_text : Option Durable → Moment → List Entry → List ℕ
+cut_text None opened h = status_line 8
+cut_text (Some d) opened h = text opened h 8
+
 abbrev pub bad_line : ℕ → List ℕ
 bad_line line = codes "status " ++ decimal 6 ++ codes " line " ++ decimal line ++ codes "\n"
+
+-- the text of what was found in both areas
+abbrev pub check_text : Found → List ℕ
+check_text found = found_text found ++ status_line 0
