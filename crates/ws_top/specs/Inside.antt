@@ -1,2 +1,3 @@
 -- Words that private code alone speaks of.
 pub mod Parts
+pub mod Opening

@@ -1,5 +1,6 @@
 pub mod Forms
 pub mod Limits
+pub mod Areas
 pub mod Texts
 pub mod Outcomes
 pub mod Inside

@@ -1,35 +1,39 @@
 -- What a run read, did and wrote, by its status.
-use Rattle.std.specs.Prelude.{◌≡◌, ◌≢◌, ◌⊎◌, ◌↔◌, ◌≤◌, ℕ, true, List, [], ◌++◌, map, take, length, Option, Some, None}
+use Rattle.std.specs.Prelude.{◌≡◌, ◌≢◌, ◌⊎◌, ◌↔◌, ◌≤◌, ℕ, true, List, [], ◌++◌, take, length, Option, Some, None, IfSome, IsSome}
 use Rattle.sched_rules.specs.Atoms.{atom_contains, atom_conflicts}
 use Rattle.rule_table.specs.Tables.{IsApart}
 use Rattle.delta_kind.specs.declared.node.DeltaNode.{DeltaNode}
+use Rattle.ws_outside.specs.declared.contents.Contents.{Contents}
 use Rattle.ws_outside.specs.Faults.{Rose}
 use Rattle.ws_outside.specs.Streams.{Gains, GainsFront, IsAtEnd}
+use Rattle.disk_area.specs.declared.damage.Damage.{Damage}
+use Rattle.ws_durable.specs.declared.durable.Durable.{Durable}
+use Rattle.save_store.specs.declared.look.Found.{Found}
+use Rattle.save_store.specs.Looks.{IsLookedAt}
+use Rattle.area_text.specs.Damages.{damage_line}
 use Rattle.script_lang.specs.declared.script.Script.{Script}
 use Rattle.script_lang.specs.Scripts.{IsScript, IsFirstBad}
 use Rattle.core_event.specs.declared.entry.Entry.{Entry}
 use Rattle.builder_api.specs.Meanings.{Meanings}
 use Rattle.builder_api.specs.Told.{Told}
 use Rattle.ws_core.specs.States.{Moment}
-use Rattle.ws_core.specs.Histories.{fresh_for, has_entered, replay, Legal, notices, told_of}
+use Rattle.ws_core.specs.Histories.{has_entered, replay, Legal, notices, told_of}
 use Rattle.run_order.specs.Orders as order
 use Rattle.save_parts.specs.Heard.{Heard, HeardMore}
+use Rattle.phase_run.specs.Calm.{IsCalm}
 use Rattle.phase_run.specs.Plans.{Made, phases_plan}
 use Rattle.ws_top.specs.declared.words.Form.{Form}
 use Rattle.ws_top.specs.declared.words.Form.TheVariants.{Help, Version}
-use Rattle.ws_top.specs.Forms.{IsRun, help_text, version_text}
+use Rattle.ws_top.specs.Areas.{opened_state, IsHeld, IsDamage, AreUndamaged, FindsDamage, TellsDiskFault}
+use Rattle.ws_top.specs.Forms.{IsRun, IsCheck, Touches, help_text, version_text}
 use Rattle.ws_top.specs.Limits.{longest, Reads, ReadsAll, ReadsShort, ReadsLong}
-use Rattle.ws_top.specs.Texts.{text, status_line, bad_line}
-
--- the state that a run opens: the fresh workspace, with builders of these names
-abbrev pub opened_state : List Told → Moment
-opened_state told = fresh_for (map (λ b. b.named) told)
+use Rattle.ws_top.specs.Texts.{text, status_line, bad_line, check_text}
 
 -- ---- statuses
 
 -- the statuses with which the program ends
 abbrev pub IsStatus : ℕ → Type 0
-IsStatus status = (status ≡ 0) ⊎ (status ≡ 2) ⊎ (status ≡ 3) ⊎ (status ≡ 4) ⊎ (status ≡ 6) ⊎ (status ≡ 8) ⊎ (status ≡ 9)
+IsStatus status = (status ≡ 0) ⊎ (status ≡ 2) ⊎ (status ≡ 3) ⊎ (status ≡ 4) ⊎ (status ≡ 6) ⊎ (status ≡ 8) ⊎ (status ≡ 9) ⊎ (status ≡ 5) ⊎ (status ≡ 7)
 
 -- the status is none of those of a source that wasn't read to its end, and memory sufficed
 pub record WasRead (status : ℕ) : Type 0 where
@@ -50,6 +54,10 @@ WasUnread status = (status ≡ 2) ⊎ (status ≡ 3) ⊎ (status ≡ 9)
 abbrev pub WasIdle : ℕ → Type 0
 WasIdle status = WasUnread status ⊎ (status ≡ 6)
 
+-- the areas couldn't be read: the disk failed, or they are damaged
+abbrev pub WasUnopened : ℕ → Type 0
+WasUnopened status = (status ≡ 5) ⊎ (status ≡ 7)
+
 -- ---- faults
 
 -- A failed read is told by the status 3, and by no other.
@@ -63,6 +71,17 @@ pub record TellsWriteFault (before after status : ℕ) (WantedBefore : Type 0) :
   pub rose_at_4 : status ≡ 4 → Rose before after
   pub calm_at_0 : status ≡ 0 → after ≡ before
   pub calm_or_later_at_8 : status ≡ 8 → (after ≡ before) ⊎ WantedBefore
+
+-- ---- which state is opened
+
+-- Which state a run opened: the one that both areas hold. There is one where the script was run to its end, and none where
+-- nothing was run and memory sufficed. Where there is none nothing was done.
+pub record TellsState (kept : Option Durable) (seen : Option Contents) (status : ℕ) (h : List Entry) : Type 0 where
+  pub held : IsHeld kept seen
+  pub some_if_run : WasRun status → IsSome kept
+  pub none_if_idle : WasIdle status → kept ≡ None
+  pub none_if_unopened : WasUnopened status → kept ≡ None
+  pub nothing_if_none : kept ≡ None → h ≡ []
 
 -- ---- what is done
 
@@ -151,6 +170,20 @@ pub record WritesText (opened : Moment) (old new : Option (List ℕ)) (status : 
 abbrev pub Writes : Option (List ℕ) → Option (List ℕ) → ℕ → ℕ → List ℕ → Type 0
 Writes old new before after text = Gains old text new ⊎ (GainsFront old text new × Rose before after)
 
+-- the areas have this damage, and its line was written
+pub record WritesDamage (seen : Option Contents) (old new : Option (List ℕ)) (before after : ℕ) : Type 0 where
+  pub damage : Damage
+  pub is : IsDamage seen damage
+  pub line : Writes old new before after (damage_line damage)
+
+-- Where no state was opened nothing was done. What was written is the line of the status, which names the first damage where
+-- the areas are damaged.
+pub record TellsUnopened (kept : Option Durable) (seen : Option Contents) (old new : Option (List ℕ)) (before after status : ℕ) (h : List Entry) : Type 0 where
+  pub nothing : WasUnopened status → h ≡ []
+  pub line_at_5 : status ≡ 5 → Writes old new before after (status_line 5)
+  pub damage_at_7 : status ≡ 7 → WritesDamage seen old new before after
+  pub line_at_8 : kept ≡ None → status ≡ 8 → Writes old new before after (status_line 8)
+
 -- the source was read to its end, its bytes spell no script, and this is the text that names the first bad line
 pub record IsTextBad (old new : Option (List ℕ)) (written : List ℕ) : Type 0 where
   pub bytes : List ℕ
@@ -172,10 +205,12 @@ pub record ReadsNoMore (old new : Option (List ℕ)) (before after : Option ℕ)
 abbrev pub Judges : Option (List ℕ) → Option (List ℕ) → ℕ → Type 0
 Judges old new status = (bytes : List ℕ) × ReadsAll old new bytes × ((status ≡ 6) ↔ SpellsNone bytes)
 
--- where nothing failed and the bytes to read spell a script that isn't too long, it is run, or memory wants
-abbrev pub Completes : Option (List ℕ) → Type 0 → Type 0 → ℕ → Type 0
-Completes left ReadFailed WriteFailed status = (ReadFailed → ⊥) → (WriteFailed → ⊥)
-    → (bytes : List ℕ) (script : Script) → left ≡ Some bytes → length bytes ≤ longest → IsScript bytes script → (status ≡ 0) ⊎ (status ≡ 8)
+-- where nothing failed, the bytes to read spell a script that isn't too long and the areas have no damage, it is run, or
+-- memory wants
+abbrev pub Completes : Option (List ℕ) → Option Contents → Type 0 → Type 0 → Type 0 → ℕ → Type 0
+Completes left seen ReadFailed WriteFailed DiskFailed status = (ReadFailed → ⊥) → (WriteFailed → ⊥) → (DiskFailed → ⊥)
+    → (bytes : List ℕ) (script : Script) (both : Contents) → left ≡ Some bytes → length bytes ≤ longest → IsScript bytes script
+    → seen ≡ Some both → AreUndamaged both → (status ≡ 0) ⊎ (status ≡ 8)
 
 -- The source `left` what it had to read, and the sink went from `old` to `new`.
 pub record RunsScript (ms : Meanings) (opened : Moment) (left after_reading old new : Option (List ℕ)) (before after status : ℕ) (h : List Entry) : Type 0 where
@@ -186,10 +221,21 @@ pub record RunsScript (ms : Meanings) (opened : Moment) (left after_reading old 
   pub text : WritesText opened old new status h
   pub bad_line_at_6 : status ≡ 6 → (written : List ℕ) × IsTextBad left after_reading written × Writes old new before after written
 
--- the text was told, where no write failed, and nothing else was done
-pub record Tells (text : List ℕ) (old new : Option (List ℕ)) (before after status : ℕ) : Type 0 where
-  pub told : Writes old new before after text
-  pub ends : (status ≡ 0) ⊎ ((status ≡ 4) × Rose before after)
+-- the text was told; or a front of it, and then a write failed
+abbrev pub Tells : List ℕ → Option (List ℕ) → Option (List ℕ) → ℕ → ℕ → ℕ → Type 0
+Tells text old new before after status = ((status ≡ 0) × Gains old text new × (after ≡ before)) ⊎ ((status ≡ 4) × GainsFront old text new × Rose before after)
+
+-- both areas were looked at, and what they hold was told
+pub record TellsFound (seen : Option Contents) (old new : Option (List ℕ)) (before after status : ℕ) : Type 0 where
+  pub found : Found
+  pub held : IfSome seen (λ both. IsLookedAt both found)
+  pub told : Tells (check_text found) old new before after status
+
+-- What `check` tells: what both areas hold; or a status that says why it doesn't.
+pub record Checks (seen : Option Contents) (disk_before disk_after : ℕ) (old new : Option (List ℕ)) (before after status : ℕ) : Type 0 where
+  pub tells : TellsFound seen old new before after status ⊎ WasUnopened status ⊎ (status ≡ 8)
+  -- where nothing failed and the areas have no damage, they are told, or memory wants
+  pub complete : (Rose before after → ⊥) → (Rose disk_before disk_after → ⊥) → (both : Contents) → seen ≡ Some both → AreUndamaged both → (status ≡ 0) ⊎ (status ≡ 8)
 
 -- no read was made, and nothing was done
 pub record DoesNothing (old new : Option (List ℕ)) (reads_before reads_after : Option ℕ) (before after : ℕ) (h : List Entry) : Type 0 where
@@ -199,17 +245,24 @@ pub record DoesNothing (old new : Option (List ℕ)) (reads_before reads_after :
   pub nothing : h ≡ []
 
 -- What the program answers to words of a form, or of none.
-pub record EndsProgram (ms : Meanings) (opened : Moment) (form : Option Form) (left after_reading : Option (List ℕ)) (reads_before reads_after : Option ℕ) (reads_failed reads_fail : ℕ)
-    (old new : Option (List ℕ)) (before after status : ℕ) (h : List Entry) : Type 0 where
+pub record EndsProgram (ms : Meanings) (kept : Option Durable) (told : List Told) (form : Option Form) (left after_reading : Option (List ℕ)) (reads_before reads_after : Option ℕ) (reads_failed reads_fail : ℕ)
+    (seen : Option Contents) (disk_before disk_after : ℕ) (old new : Option (List ℕ)) (before after status : ℕ) (h : List Entry) : Type 0 where
   pub ends : IsStatus status
   pub usage : (status ≡ 2) ↔ (form ≡ None)
   pub read_fault : TellsReadFault reads_failed reads_fail status
-  pub write_fault : TellsWriteFault before after status (WasStopped ms opened left after_reading h)
-  pub complete : IsRun form → Completes left (Rose reads_failed reads_fail) (Rose before after) status
+  pub disk_fault : TellsDiskFault disk_before disk_after status
+  pub write_fault : TellsWriteFault before after status (WasStopped ms (opened_state kept told) left after_reading h)
+  pub damaged : Touches form → IfSome seen (λ both. FindsDamage both status)
+  pub complete : IsRun form → Completes left seen (Rose reads_failed reads_fail) (Rose before after) (Rose disk_before disk_after) status
   pub reads : ReadsNoMore left after_reading reads_before reads_after status
-  pub thread : IsOneThread opened h
-  pub runs : IsRun form → RunsScript ms opened left after_reading old new before after status h
+  pub opens : IsRun form → TellsState kept seen status h
+  pub none : (IsRun form → ⊥) → kept ≡ None
+  pub thread : IsOneThread (opened_state kept told) h
+  pub runs : IsRun form → RunsScript ms (opened_state kept told) left after_reading old new before after status h
+  pub calm : status ≢ 8 → IsCalm h
   pub line : WasUnread status → Writes old new before after (status_line status)
+  pub unopened : TellsUnopened kept seen old new before after status h
+  pub checks : IsCheck form → Checks seen disk_before disk_after old new before after status
   pub help : form ≡ Some Help → Tells help_text old new before after status
   pub version : form ≡ Some Version → Tells version_text old new before after status
   pub unread : (IsRun form → ⊥) → DoesNothing left after_reading reads_before reads_after reads_failed reads_fail h

@@ -1,5 +1,7 @@
 -- The text of a run.
 use Rattle.std.specs.Prelude.{ℕ, List, ◌++◌, codes, decimal}
+use Rattle.save_store.specs.declared.look.Found.{Found}
+use Rattle.area_text.specs.Looks.{found_text}
 use Rattle.delta_kind.specs.Deltas.{delta}
 use Rattle.core_event.specs.declared.entry.Entry.{Entry}
 use Rattle.report_text.specs.Deltas.{delta_lines}
@@ -24,3 +26,7 @@ text opened h n = report_from opened h ++ status_line n
 
 abbrev pub bad_line : ℕ → List ℕ
 bad_line line = codes "status " ++ decimal 6 ++ codes " line " ++ decimal line ++ codes "\n"
+
+-- the text of what was found in both areas
+abbrev pub check_text : Found → List ℕ
+check_text found = found_text found ++ status_line 0

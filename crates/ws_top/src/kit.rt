@@ -2,8 +2,15 @@
 
 use builder_api::{Builder, Builders};
 use save_parts::{Listener, Listeners};
+use ws_outside::Disk;
 
-/// What the caller of a run brings, and gets back with its outcome.
+/// The two areas that hold what a workspace keeps.
+#[derive(Drop)]
+pub struct Areas<D: Disk> {
+    pub disk: D,
+}
+
+/// What the caller of a run brings beside its areas, and gets back with its outcome.
 #[derive(Drop)]
 pub struct Kit<L: Listener, B: Builder> {
     /// They are called by the builds of commands. Of those of one name the first counts.

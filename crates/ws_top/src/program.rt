@@ -1,146 +1,160 @@
 //! The one call of the program.
-ghost use Rattle.std.specs.Prelude.{◌≡◌, ◌↔◌, ◌⊎◌, [], map, string_bytes, Some, None, IfOk, IfErr};
+ghost use Rattle.std.specs.Prelude.{◌≡◌, ◌↔◌, ◌⊎◌, ◌≢◌, [], map, string_bytes, Some, None, IfOk, IfErr, IfSome};
 ghost use Rattle.builder_api.specs.Told.{HaveMeanings};
+ghost use Rattle.phase_run.specs.Calm.{IsCalm};
+ghost use Rattle.ws_durable.specs.Saved.{saved};
+ghost use Rattle.ws_outside.specs.Disk.{LeavesOnly};
 ghost use Rattle.ws_outside.specs.Faults.{Rose};
-ghost use Rattle.ws_top.specs.Forms.{form_of, IsRun, help_text, version_text};
-ghost use Rattle.ws_top.specs.Inside.Parts.{unread_status, EndsRun};
+ghost use Rattle.ws_top.specs.Areas.{opened_state, FindsDamage, LeavesOpened, TellsDiskFault};
 ghost use Rattle.ws_top.specs.Builds.{MakesBuilds};
-ghost use Rattle.ws_top.specs.Outcomes.{opened_state, IsStatus, TellsReadFault, TellsWriteFault, WasStopped, Completes, ReadsNoMore, IsOneThread, HearsNotices, RunsScript, WasUnread, Writes, Tells, DoesNothing, EndsProgram};
+ghost use Rattle.ws_top.specs.Forms.{form_of, IsRun, IsCheck, Touches, help_text, version_text};
+ghost use Rattle.ws_top.specs.Inside.Opening.{OpensAreas};
+ghost use Rattle.ws_top.specs.Inside.Parts.{unread_status, EndsRun};
+ghost use Rattle.ws_top.specs.Outcomes.{IsStatus, TellsReadFault, TellsWriteFault, TellsState, TellsUnopened, WasStopped, Completes, ReadsNoMore, IsOneThread, HearsNotices, RunsScript, WasUnread, WasIdle, Checks, Writes, Tells, DoesNothing, EndsProgram};
 ghost use Rattle.ws_top.specs.Texts.{status_line};
 
 use crate::NoMemory;
-use crate::kit::Kit;
+use crate::checking::check;
+use crate::kit::{Areas, Kit};
 use crate::reading::{Unread, read_all};
-use crate::response::{Outcome, nothing_done, respond, stop};
+use crate::response::{Outcome, respond, stop, tell, want};
 use crate::words::{self, Form};
 use builder_api::{Builder, Meanings};
-use run_text::write_all;
 use save_parts::Listener;
 use std::alloc::Global;
-use ws_outside::{Sink, Source};
+use ws_outside::{Disk, Sink, Source};
 
 const HELP: &str =
-    "wsrun run A B\n\nRuns the script on standard input, with the area files A and B, and prints what was done.\n";
+    "wsrun run A B\n\nRuns the script on standard input, on the workspace that the area files A and B hold, and prints what was done.\n\nwsrun check A B\n\nPrints what the area files A and B hold.\n";
 
 const VERSION: &str = "wsrun 0.1.0\n";
 
-/// Runs the program: reads the script from the source, runs it on a fresh workspace by one worker, whose builds call the
-/// kit's builders, tells the listeners after each phase what it changed, and writes to the sink what was asked, answered
-/// and told.
+/// Runs the program: reads the script from the source, opens the areas, runs the script on the workspace that they hold by
+/// one worker, whose builds call the kit's builders, tells the listeners after each phase what it changed, and writes to
+/// the sink what was asked, answered and told. Or tells what the areas hold. Nothing is saved in them.
 ///
 /// The one condition: of the kit's builders, the first of each name for which `M` has a meaning has that meaning. A caller
 /// that claims nothing of its builders picks `Silent`.
-pub fn top<S: Source, K: Sink, L: Listener, B: Builder, M: Meanings>(
+pub fn top<S: Source, K: Sink, D: Disk, L: Listener, B: Builder, M: Meanings>(
     alloc: Global,
     words: &[String],
     source: &mut S,
     sink: &mut K,
+    areas: Areas<D>,
     kit: Kit<L, B>,
-) -> Outcome<L, B>
+) -> Outcome<D, L, B>
     requires means { HaveMeanings M.meaning (map (λ b. B.tells b) kit.builders) }
     // which status it is
     ensures status { IsStatus result.status }
     ensures usage { (result.status ≡ 2) ↔ (form_of (map string_bytes words.now) ≡ None) }
     ensures read_fault { TellsReadFault (S.faults source.old) (S.faults source.new) result.status }
-    ensures write_fault { TellsWriteFault (K.faults sink.old) (K.faults sink.new) result.status (WasStopped M.meaning (opened_state (map (λ b. B.tells b) kit.builders)) (S.left source.old) (S.left source.new) result.history) }
-    ensures complete { IsRun (form_of (map string_bytes words.now)) → Completes (S.left source.old) (Rose (S.faults source.old) (S.faults source.new)) (Rose (K.faults sink.old) (K.faults sink.new)) result.status }
-    // what is read
+    ensures disk_fault { TellsDiskFault (D.faults areas.disk) (D.faults result.areas.disk) result.status }
+    ensures write_fault { TellsWriteFault (K.faults sink.old) (K.faults sink.new) result.status (WasStopped M.meaning (opened_state result.kept (map (λ b. B.tells b) kit.builders)) (S.left source.old) (S.left source.new) result.history) }
+    ensures damaged { Touches (form_of (map string_bytes words.now)) → IfSome (D.seen areas.disk) (λ both. FindsDamage both result.status) }
+    ensures complete { IsRun (form_of (map string_bytes words.now)) → Completes (S.left source.old) (D.seen areas.disk) (Rose (S.faults source.old) (S.faults source.new)) (Rose (K.faults sink.old) (K.faults sink.new)) (Rose (D.faults areas.disk) (D.faults result.areas.disk)) result.status }
+    // what is read, and what is opened
     ensures reads { ReadsNoMore (S.left source.old) (S.left source.new) (S.reads source.old) (S.reads source.new) result.status }
+    ensures opens { IsRun (form_of (map string_bytes words.now)) → TellsState result.kept (D.seen areas.disk) result.status result.history }
+    ensures none { (IsRun (form_of (map string_bytes words.now)) → ⊥) → result.kept ≡ None }
     // what is done, and what of it is written
-    ensures thread { IsOneThread (opened_state (map (λ b. B.tells b) kit.builders)) result.history }
-    ensures runs { IsRun (form_of (map string_bytes words.now)) → RunsScript M.meaning (opened_state (map (λ b. B.tells b) kit.builders)) (S.left source.old) (S.left source.new) (K.written sink.old) (K.written sink.new) (K.faults sink.old) (K.faults sink.new) result.status result.history }
-    ensures heard { HearsNotices (opened_state (map (λ b. B.tells b) kit.builders)) result.status result.history (map (λ l. L.heard l) kit.listeners) (map (λ l. L.heard l) result.kit.listeners) }
-    ensures builds { MakesBuilds M.meaning (opened_state (map (λ b. B.tells b) kit.builders)) result.history (map (λ b. B.tells b) kit.builders) (map (λ b. B.tells b) result.kit.builders) }
+    ensures thread { IsOneThread (opened_state result.kept (map (λ b. B.tells b) kit.builders)) result.history }
+    ensures runs { IsRun (form_of (map string_bytes words.now)) → RunsScript M.meaning (opened_state result.kept (map (λ b. B.tells b) kit.builders)) (S.left source.old) (S.left source.new) (K.written sink.old) (K.written sink.new) (K.faults sink.old) (K.faults sink.new) result.status result.history }
+    ensures calm { result.status ≢ 8 → IsCalm result.history }
+    ensures heard { HearsNotices (opened_state result.kept (map (λ b. B.tells b) kit.builders)) result.status result.history (map (λ l. L.heard l) kit.listeners) (map (λ l. L.heard l) result.kit.listeners) }
+    ensures builds { MakesBuilds M.meaning (opened_state result.kept (map (λ b. B.tells b) kit.builders)) result.history (map (λ b. B.tells b) kit.builders) (map (λ b. B.tells b) result.kit.builders) }
     ensures line { WasUnread result.status → Writes (K.written sink.old) (K.written sink.new) (K.faults sink.old) (K.faults sink.new) (status_line result.status) }
-    // the two other forms write their text and do nothing
+    ensures unopened { TellsUnopened result.kept (D.seen areas.disk) (K.written sink.old) (K.written sink.new) (K.faults sink.old) (K.faults sink.new) result.status result.history }
+    // what becomes of the areas
+    ensures seen { D.seen result.areas.disk ≡ D.seen areas.disk }
+    ensures any_moment { LeavesOnly D.moment D.left_since D.may_leave areas.disk result.areas.disk (D.may_leave areas.disk) }
+    ensures leaves { IfSome result.kept (λ d. LeavesOpened D.moment D.left_since D.may_leave areas.disk result.areas.disk (saved d)) }
+    ensures untouched { (Touches (form_of (map string_bytes words.now)) → ⊥) ⊎ WasIdle result.status → result.areas.disk ≡ areas.disk }
+    // the other forms write their text and do nothing else
+    ensures checks { IsCheck (form_of (map string_bytes words.now)) → Checks (D.seen areas.disk) (D.faults areas.disk) (D.faults result.areas.disk) (K.written sink.old) (K.written sink.new) (K.faults sink.old) (K.faults sink.new) result.status }
     ensures help { form_of (map string_bytes words.now) ≡ Some Form.Help → Tells help_text (K.written sink.old) (K.written sink.new) (K.faults sink.old) (K.faults sink.new) result.status }
     ensures version { form_of (map string_bytes words.now) ≡ Some Form.Version → Tells version_text (K.written sink.old) (K.written sink.new) (K.faults sink.old) (K.faults sink.new) result.status }
     ensures unread { (IsRun (form_of (map string_bytes words.now)) → ⊥) → DoesNothing (S.left source.old) (S.left source.new) (S.reads source.old) (S.reads source.new) (S.faults source.old) (S.faults source.new) result.history }
 {
     match words::form_of(words) {
-        None => stop(alloc, sink, kit, 2, b"status 2\n"),
-        Some(Form::Help) => tell(alloc, sink, kit, HELP),
-        Some(Form::Version) => tell(alloc, sink, kit, VERSION),
-        Some(Form::Run) => run::<S, K, L, B, M>(alloc, source, sink, kit),
+        None => stop(alloc, sink, areas, kit, 2, b"status 2\n"),
+        Some(Form::Help) => tell(alloc, sink, areas, kit, HELP.as_bytes()),
+        Some(Form::Version) => tell(alloc, sink, areas, kit, VERSION.as_bytes()),
+        Some(Form::Check) => check(alloc, sink, areas, kit),
+        Some(Form::Run) => run::<S, K, D, L, B, M>(alloc, source, sink, areas, kit),
     }
 }
 
-/// Runs the program as `top` does, on the words with which it was called. Where memory wanted for these, the status is 8
-/// and nothing is read.
-pub fn answer<S: Source, K: Sink, L: Listener, B: Builder, M: Meanings>(
+/// Runs the program as `top` does, on the words with which it was called. Where memory wanted for these, the status is 8,
+/// nothing is read and the areas aren't touched.
+pub fn answer<S: Source, K: Sink, D: Disk, L: Listener, B: Builder, M: Meanings>(
     alloc: Global,
     words: Result<Vec<String>, NoMemory>,
     source: &mut S,
     sink: &mut K,
+    areas: Areas<D>,
     kit: Kit<L, B>,
-) -> Outcome<L, B>
+) -> Outcome<D, L, B>
     requires means { HaveMeanings M.meaning (map (λ b. B.tells b) kit.builders) }
-    ensures ends { IfOk words (λ given. EndsProgram M.meaning (opened_state (map (λ b. B.tells b) kit.builders)) (form_of (map string_bytes given.items)) (S.left source.old) (S.left source.new) (S.reads source.old) (S.reads source.new) (S.faults source.old) (S.faults source.new)
-        (K.written sink.old) (K.written sink.new) (K.faults sink.old) (K.faults sink.new) result.status result.history) }
-    ensures heard { HearsNotices (opened_state (map (λ b. B.tells b) kit.builders)) result.status result.history (map (λ l. L.heard l) kit.listeners) (map (λ l. L.heard l) result.kit.listeners) }
-    ensures builds { MakesBuilds M.meaning (opened_state (map (λ b. B.tells b) kit.builders)) result.history (map (λ b. B.tells b) kit.builders) (map (λ b. B.tells b) result.kit.builders) }
+    ensures ends { IfOk words (λ given. EndsProgram M.meaning result.kept (map (λ b. B.tells b) kit.builders) (form_of (map string_bytes given.items)) (S.left source.old) (S.left source.new) (S.reads source.old) (S.reads source.new) (S.faults source.old) (S.faults source.new)
+        (D.seen areas.disk) (D.faults areas.disk) (D.faults result.areas.disk) (K.written sink.old) (K.written sink.new) (K.faults sink.old) (K.faults sink.new) result.status result.history) }
+    ensures heard { HearsNotices (opened_state result.kept (map (λ b. B.tells b) kit.builders)) result.status result.history (map (λ l. L.heard l) kit.listeners) (map (λ l. L.heard l) result.kit.listeners) }
+    ensures builds { MakesBuilds M.meaning (opened_state result.kept (map (λ b. B.tells b) kit.builders)) result.history (map (λ b. B.tells b) kit.builders) (map (λ b. B.tells b) result.kit.builders) }
+    ensures seen { D.seen result.areas.disk ≡ D.seen areas.disk }
+    ensures any_moment { LeavesOnly D.moment D.left_since D.may_leave areas.disk result.areas.disk (D.may_leave areas.disk) }
+    ensures leaves { IfSome result.kept (λ d. LeavesOpened D.moment D.left_since D.may_leave areas.disk result.areas.disk (saved d)) }
+    ensures untouched { IfOk words (λ given. (Touches (form_of (map string_bytes given.items)) → ⊥) ⊎ WasIdle result.status → result.areas.disk ≡ areas.disk) }
+    // where memory wanted for the words
     ensures memory { IfErr words (λ _. result.status ≡ 8) }
     ensures unread { IfErr words (λ _. DoesNothing (S.left source.old) (S.left source.new) (S.reads source.old) (S.reads source.new) (S.faults source.old) (S.faults source.new) result.history) }
     ensures line { IfErr words (λ _. Writes (K.written sink.old) (K.written sink.new) (K.faults sink.old) (K.faults sink.new) (status_line 8)) }
+    ensures areas { IfErr words (λ _. result.areas.disk ≡ areas.disk) }
+    ensures none { IfErr words (λ _. result.kept ≡ None) }
 {
     match words {
-        Ok(words) => top::<S, K, L, B, M>(alloc, words.as_slice(), source, sink, kit),
-        Err(_) => stop(alloc, sink, kit, 8, b"status 8\n"),
-    }
-}
-
-/// Writes a text of the program's own, where nothing else is asked.
-fn tell<K: Sink, L: Listener, B: Builder>(
-    alloc: Global,
-    sink: &mut K,
-    kit: Kit<L, B>,
-    text: &str,
-) -> Outcome<L, B>
-    ensures tells { Tells text.now (K.written sink.old) (K.written sink.new) (K.faults sink.old) (K.faults sink.new) result.status }
-    ensures calm { result.status ≡ 0 → K.faults sink.new ≡ K.faults sink.old }
-    ensures nothing { result.history ≡ [] }
-    ensures kit { result.kit ≡ kit }
-{
-    match write_all(sink, text.as_bytes()) {
-        Ok(()) => nothing_done(alloc, kit, 0),
-        Err(_) => nothing_done(alloc, kit, 4),
+        Ok(words) => top::<S, K, D, L, B, M>(alloc, words.as_slice(), source, sink, areas, kit),
+        Err(_) => want(alloc, sink, areas, kit),
     }
 }
 
 /// Reads the script and runs it.
-fn run<S: Source, K: Sink, L: Listener, B: Builder, M: Meanings>(
+fn run<S: Source, K: Sink, D: Disk, L: Listener, B: Builder, M: Meanings>(
     alloc: Global,
     source: &mut S,
     sink: &mut K,
+    areas: Areas<D>,
     kit: Kit<L, B>,
-) -> Outcome<L, B>
+) -> Outcome<D, L, B>
     requires means { HaveMeanings M.meaning (map (λ b. B.tells b) kit.builders) }
-    ensures ends { EndsRun M.meaning (opened_state (map (λ b. B.tells b) kit.builders)) (S.left source.old) (S.left source.new) (S.reads source.old) (S.reads source.new) (S.faults source.old) (S.faults source.new)
-        (K.written sink.old) (K.written sink.new) (K.faults sink.old) (K.faults sink.new) result.status result.history }
-    ensures heard { HearsNotices (opened_state (map (λ b. B.tells b) kit.builders)) result.status result.history (map (λ l. L.heard l) kit.listeners) (map (λ l. L.heard l) result.kit.listeners) }
-    ensures builds { MakesBuilds M.meaning (opened_state (map (λ b. B.tells b) kit.builders)) result.history (map (λ b. B.tells b) kit.builders) (map (λ b. B.tells b) result.kit.builders) }
+    ensures ends { EndsRun M.meaning (opened_state result.kept (map (λ b. B.tells b) kit.builders)) (S.left source.old) (S.left source.new) (S.reads source.old) (S.reads source.new) (S.faults source.old) (S.faults source.new)
+        (D.seen areas.disk) (D.faults areas.disk) (D.faults result.areas.disk) (K.written sink.old) (K.written sink.new) (K.faults sink.old) (K.faults sink.new) result.status result.history }
+    ensures areas { OpensAreas D.moment D.left_since D.may_leave D.seen D.faults areas.disk result.areas.disk (K.written sink.old) (K.written sink.new) (K.faults sink.old) (K.faults sink.new) result.kept result.status result.history }
+    ensures heard { HearsNotices (opened_state result.kept (map (λ b. B.tells b) kit.builders)) result.status result.history (map (λ l. L.heard l) kit.listeners) (map (λ l. L.heard l) result.kit.listeners) }
+    ensures builds { MakesBuilds M.meaning (opened_state result.kept (map (λ b. B.tells b) kit.builders)) result.history (map (λ b. B.tells b) kit.builders) (map (λ b. B.tells b) result.kit.builders) }
 {
     match read_all(alloc, source) {
-        Ok(bytes) => respond::<K, L, B, M>(alloc, sink, kit, bytes),
-        Err(error) => stop_unread(alloc, sink, kit, error),
+        Ok(bytes) => respond::<K, D, L, B, M>(alloc, sink, areas, kit, bytes),
+        Err(error) => stop_unread(alloc, sink, areas, kit, error),
     }
 }
 
 /// Tells why the source was not read to its end.
-fn stop_unread<K: Sink, L: Listener, B: Builder>(
+fn stop_unread<K: Sink, D: Disk, L: Listener, B: Builder>(
     alloc: Global,
     sink: &mut K,
+    areas: Areas<D>,
     kit: Kit<L, B>,
     error: Unread,
-) -> Outcome<L, B>
+) -> Outcome<D, L, B>
     ensures status { result.status ≡ unread_status error }
-    ensures nothing { result.history ≡ [] }
-    ensures kit { result.kit ≡ kit }
     ensures line { Writes (K.written sink.old) (K.written sink.new) (K.faults sink.old) (K.faults sink.new) (status_line (unread_status error)) }
+    ensures nothing { result.history ≡ [] }
+    ensures none { result.kept ≡ None }
+    ensures areas { result.areas ≡ areas }
+    ensures kit { result.kit ≡ kit }
 {
     match error {
-        Unread::Fault => stop(alloc, sink, kit, 3, b"status 3\n"),
-        Unread::TooLong => stop(alloc, sink, kit, 9, b"status 9\n"),
-        Unread::Memory => stop(alloc, sink, kit, 8, b"status 8\n"),
+        Unread::Fault => stop(alloc, sink, areas, kit, 3, b"status 3\n"),
+        Unread::TooLong => stop(alloc, sink, areas, kit, 9, b"status 9\n"),
+        Unread::Memory => want(alloc, sink, areas, kit),
     }
 }

@@ -1,12 +1,14 @@
 //! The forms of words that the program takes.
 ghost use Rattle.std.specs.Prelude.{◌≡◌, ◌∷◌, [], map, string_bytes};
-ghost use Rattle.ws_top.specs.Forms.{form_of};
+ghost use Rattle.ws_top.specs.Forms.{areas_form, form_of};
 
 /// A form of words.
 #[derive(Clone, Copy, Debug, PartialEq, Eq)]
 pub enum Form {
     /// `run A B` with two names that differ.
     Run,
+    /// `check A B` with two names that differ.
+    Check,
     /// `--help` alone.
     Help,
     /// `--version` alone.
@@ -39,9 +41,21 @@ fn of_one(word: &str) -> Option<Form>
 fn of_three(word: &str, left: &str, right: &str) -> Option<Form>
     ensures { result ≡ form_of (word.now ∷ left.now ∷ right.now ∷ []) }
 {
-    if word == "run" && left != right {
-        Some(Form::Run)
-    } else {
-        None
+    if left == right {
+        return None;
     }
+    of_areas(word)
+}
+
+/// The form of a word before the names of two areas.
+fn of_areas(word: &str) -> Option<Form>
+    ensures { result ≡ areas_form word.now }
+{
+    if word == "run" {
+        return Some(Form::Run);
+    }
+    if word == "check" {
+        return Some(Form::Check);
+    }
+    None
 }

@@ -1,18 +1,21 @@
 -- What the parts of a run answer.
 use Rattle.std.specs.Prelude.{◌≡◌, ◌≢◌, ◌⊎◌, ℕ, List, [], Option, Result, MatchResult}
+use Rattle.ws_outside.specs.declared.contents.Contents.{Contents}
 use Rattle.ws_outside.specs.Faults.{Rose}
 use Rattle.ws_outside.specs.Streams.{Gains, GainsFront}
-use Rattle.script_lang.specs.Scripts.{IsFirstBad}
+use Rattle.script_lang.specs.declared.script.Script.{Script}
+use Rattle.script_lang.specs.Scripts.{IsScript, IsFirstBad}
 use Rattle.core_event.specs.declared.entry.Entry.{Entry}
 use Rattle.builder_api.specs.Meanings.{Meanings}
 use Rattle.run_text.specs.declared.writing.Unwritten.{Unwritten}
 use Rattle.run_text.specs.declared.writing.Unwritten.TheVariants.{Fault, Memory}
 use Rattle.run_text.specs.Printing.{IsCause}
+use Rattle.phase_run.specs.Calm.{IsCalm}
 use Rattle.ws_core.specs.States.{Moment}
 use Rattle.ws_top.specs.declared.reading.Unread.{Unread}
 use Rattle.ws_top.specs.declared.reading.Unread.TheVariants as unread
 use Rattle.ws_top.specs.Limits.{ReadsShort, ReadsLong}
-use Rattle.ws_top.specs.Outcomes.{IsStatus, WasRun, WasUnread, TellsReadFault, TellsWriteFault, SpellsNone, Shuffle, CutShuffle, StoppedShuffle, Spelled, WasStopped, IsOneThread, DoesScript, WritesText, Writes, ReadsNoMore, Completes, RunsScript}
+use Rattle.ws_top.specs.Outcomes.{IsStatus, WasRun, WasUnread, WasUnopened, TellsReadFault, TellsWriteFault, SpellsNone, Shuffle, CutShuffle, StoppedShuffle, Spelled, WasStopped, IsOneThread, DoesScript, WritesText, Writes, ReadsNoMore, Completes, RunsScript}
 use Rattle.ws_top.specs.Texts.{report_from, text, status_line, bad_line}
 
 -- ---- reading
@@ -75,6 +78,22 @@ pub record Performs (All Front Stopped : List Entry → Type 0) (opened : Moment
   pub done : DoesScript All Front status h
   pub thread : IsOneThread opened h
   pub text : WritesText opened old new status h
+  pub calm : status ≢ 8 → IsCalm h
+
+-- the line that is the first bad one was written, or memory wanted for it
+abbrev pub SaysBadLine : ℕ → Option (List ℕ) → Option (List ℕ) → ℕ → ℕ → ℕ → Type 0
+SaysBadLine line old new before after status = ((status ≡ 6) × Writes old new before after (bad_line line)) ⊎ ((status ≡ 8) × Writes old new before after (status_line 8))
+
+-- no state was opened, and nothing was done
+pub record IsRefused (status : ℕ) (h : List Entry) : Type 0 where
+  pub ends : WasUnopened status
+  pub nothing : h ≡ []
+
+-- the bytes spell a script, and no state was opened for it
+pub record IsUnopenedFor (bytes : List ℕ) (status : ℕ) (h : List Entry) : Type 0 where
+  pub script : Script
+  pub spelled : IsScript bytes script
+  pub refused : IsRefused status h
 
 -- The bytes spell no script: nothing was done, and the line that is the first bad one was written.
 pub record TellsBadLine (bytes : List ℕ) (old new : Option (List ℕ)) (before after status : ℕ) (h : List Entry) : Type 0 where
@@ -90,16 +109,18 @@ abbrev pub Responds : Meanings → Moment → List ℕ → Option (List ℕ) →
 Responds ms opened bytes old new before after status h =
     Performs (Spelled (Shuffle ms opened) bytes) (Spelled (CutShuffle ms opened) bytes) (Spelled (StoppedShuffle ms opened) bytes) opened old new before after status h
     ⊎ TellsBadLine bytes old new before after status h
+    ⊎ IsUnopenedFor bytes status h
 
 -- the source was read, and what its bytes ask for was done
 pub record EndsRun (ms : Meanings) (opened : Moment) (left after_reading : Option (List ℕ)) (reads_before reads_after : Option ℕ) (reads_failed reads_fail : ℕ)
-    (old new : Option (List ℕ)) (before after status : ℕ) (h : List Entry) : Type 0 where
+    (seen : Option Contents) (disk_before disk_after : ℕ) (old new : Option (List ℕ)) (before after status : ℕ) (h : List Entry) : Type 0 where
   pub ends : IsStatus status
   pub usage : status ≢ 2
   pub read_fault : TellsReadFault reads_failed reads_fail status
   pub write_fault : TellsWriteFault before after status (WasStopped ms opened left after_reading h)
-  pub complete : Completes left (Rose reads_failed reads_fail) (Rose before after) status
+  pub complete : Completes left seen (Rose reads_failed reads_fail) (Rose before after) (Rose disk_before disk_after) status
   pub reads : ReadsNoMore left after_reading reads_before reads_after status
   pub thread : IsOneThread opened h
   pub runs : RunsScript ms opened left after_reading old new before after status h
+  pub calm : status ≢ 8 → IsCalm h
   pub line : WasUnread status → Writes old new before after (status_line status)

@@ -1,0 +1,67 @@
+-- What becomes of the two areas, and which state is opened from them.
+use Rattle.std.specs.Prelude.{◌≡◌, ◌≢◌, ◌⊎◌, ◌≤◌, ℕ, List, map, Option, Some, None, IfSome}
+use Rattle.ws_outside.specs.declared.contents.Contents.{Contents}
+use Rattle.ws_outside.specs.Disk.{Each, LeavesOnly}
+use Rattle.ws_outside.specs.Faults.{Rose}
+use Rattle.disk_area.specs.declared.damage.Damage.{Damage}
+use Rattle.ws_durable.specs.declared.durable.Durable.{Durable}
+use Rattle.ws_durable.specs.Saved.{Saved, saved}
+use Rattle.save_store.specs.Damages.{IsDamaged}
+use Rattle.save_store.specs.States.{fresh, Holds}
+use Rattle.builder_api.specs.Told.{Told}
+use Rattle.ws_core.specs.Opened.{opened_of}
+use Rattle.ws_core.specs.States.{Moment}
+
+-- ---- which state is opened
+
+-- the state that was opened; where none was, that of the fresh workspace stands in its place, on which nothing is done
+abbrev pub kept_state : Option Durable → Saved
+kept_state None = fresh
+kept_state (Some d) = saved d
+
+-- the workspace that is opened from what was kept, with builders of these names
+abbrev pub opened_state : Option Durable → List Told → Moment
+opened_state kept told = opened_of (kept_state kept) (map (λ b. b.named) told)
+
+-- both areas hold the state that was opened
+abbrev pub IsHeld : Option Durable → Option Contents → Type 0
+IsHeld kept seen = IfSome kept (λ d. IfSome seen (λ both. Holds both (saved d)))
+
+-- ---- what is wrong with the areas
+
+-- the areas have this damage, their first one
+abbrev pub IsDamage : Option Contents → Damage → Type 0
+IsDamage seen damage = IfSome seen (λ both. IsDamaged both damage)
+
+-- the areas have no damage
+abbrev pub AreUndamaged : Contents → Type 0
+AreUndamaged both = (damage : Damage) → IsDamaged both damage → ⊥
+
+-- damaged areas end a run or a check with the status 7, with one whose cause came earlier, or with 8
+abbrev pub EndsDamaged : ℕ → Type 0
+EndsDamaged status = (status ≡ 7) ⊎ (status ≡ 3) ⊎ (status ≡ 9) ⊎ (status ≡ 6) ⊎ (status ≡ 5) ⊎ (status ≡ 8)
+
+-- the areas have no damage, or it ends the run
+abbrev pub FindsDamage : Contents → ℕ → Type 0
+FindsDamage both status = (damage : Damage) → IsDamaged both damage → EndsDamaged status
+
+-- A failed call on the disk is told by the status 5, and by no other.
+pub record TellsDiskFault (before after status : ℕ) : Type 0 where
+  pub rose_at_5 : status ≡ 5 → Rose before after
+  pub calm_else : status ≢ 5 → after ≡ before
+
+-- ---- what a crash leaves
+
+-- The areas hold what they held, and at each moment since the start a crash leaves what one at the start could have left.
+pub record StaysAsItWas {D : Type 0} (moment : D → ℕ) (left_since : D → ℕ → Contents → Type 0) (may_leave : D → Contents → Type 0) (seen : D → Option Contents) (old new : D) : Type 0 where
+  pub contents : seen new ≡ seen old
+  pub any_moment : LeavesOnly moment left_since may_leave old new (may_leave old)
+
+-- There is a moment, that at which opening had brought both areas to the device, since which each crash leaves areas that
+-- hold the opened state.
+pub record LeavesOpened {D : Type 0} (moment : D → ℕ) (left_since : D → ℕ → Contents → Type 0) (may_leave : D → Contents → Type 0) (old new : D) (d : Saved) : Type 0 where
+  pub since : ℕ
+  pub later : moment old ≤ since
+  pub passed : since ≤ moment new
+  pub each : Each (left_since new since) (λ c. Holds c d)
+  pub now : Each (may_leave new) (λ c. Holds c d)

@@ -1,0 +1,69 @@
+//! What the areas hold is told.
+ghost use Rattle.std.specs.Prelude.{◌≡◌, [], None, IfOk};
+ghost use Rattle.ws_top.specs.Inside.Opening.{TellsHeld, LeavesAreas};
+ghost use Rattle.ws_top.specs.Outcomes.{Checks, Tells};
+ghost use Rattle.ws_top.specs.Texts.{check_text};
+
+use crate::NoMemory;
+use crate::kit::{Areas, Kit};
+use crate::refusal::refuse;
+use crate::response::{Outcome, tell, want};
+use area_text::put_found;
+use builder_api::Builder;
+use report_text::put_text;
+use save_parts::Listener;
+use save_store::{Found, Store};
+use std::alloc::Global;
+use ws_outside::{Disk, Sink};
+
+/// Tells what both areas hold, or why that couldn't be read. They are not brought to the device, and hold what they held.
+pub fn check<K: Sink, D: Disk, L: Listener, B: Builder>(
+    alloc: Global,
+    sink: &mut K,
+    areas: Areas<D>,
+    kit: Kit<L, B>,
+) -> Outcome<D, L, B>
+    ensures checks { Checks (D.seen areas.disk) (D.faults areas.disk) (D.faults result.areas.disk) (K.written sink.old) (K.written sink.new) (K.faults sink.old) (K.faults sink.new) result.status }
+    ensures areas { LeavesAreas D.moment D.left_since D.may_leave D.seen D.faults areas.disk result.areas.disk (K.written sink.old) (K.written sink.new) (K.faults sink.old) (K.faults sink.new) result.kept result.status result.history }
+    ensures nothing { result.history ≡ [] }
+    ensures none { result.kept ≡ None }
+    ensures kit { result.kit ≡ kit }
+{
+    let Areas { mut disk } = areas;
+    let looked = Store::check(alloc, &mut disk);
+    let areas = Areas { disk };
+    match looked {
+        Ok(found) => tell_found(alloc, sink, areas, kit, found),
+        Err(fault) => refuse(alloc, sink, areas, kit, fault),
+    }
+}
+
+/// Tells what was found in both areas.
+fn tell_found<K: Sink, D: Disk, L: Listener, B: Builder>(
+    alloc: Global,
+    sink: &mut K,
+    areas: Areas<D>,
+    kit: Kit<L, B>,
+    found: Found,
+) -> Outcome<D, L, B>
+    ensures tells { TellsHeld found (K.written sink.old) (K.written sink.new) (K.faults sink.old) (K.faults sink.new) result.status }
+    ensures nothing { result.history ≡ [] }
+    ensures none { result.kept ≡ None }
+    ensures areas { result.areas ≡ areas }
+    ensures kit { result.kit ≡ kit }
+{
+    match text_of(alloc, found) {
+        Ok(text) => tell(alloc, sink, areas, kit, text.as_slice()),
+        Err(_) => want(alloc, sink, areas, kit),
+    }
+}
+
+/// The text of what was found, with the status behind it.
+fn text_of(alloc: Global, found: Found) -> Result<Vec<u8>, NoMemory>
+    ensures { IfOk result (λ text. text.items ≡ check_text found) }
+{
+    let mut text = Vec::new(alloc);
+    put_found(&mut text, found)?;
+    put_text(&mut text, "status 0\n")?;
+    Ok(text)
+}
