@@ -1,6 +1,6 @@
 -- The worker's commands, and the end of its job.
 use Rattle.std.proofs.Common.{◌≡◌, ◌≤◌, ◌<◌, ◌+◌, ℕ, true, List, [], ◌∷◌, ◌++◌, length, take, get_or, is_some, None, refl, ap, sym, ◌∙◌, subst, arith, append_assoc, append-nil}
-use Rattle.std.specs.Prelude.{Result, Ok, Err, MatchResult}
+use Rattle.std.specs.Prelude.{Result, Ok, Err, MatchResult, OnOk}
 use Rattle.std.proofs.lemmas.List.{take_all}
 use Rattle.core_event.specs.declared.entry.Entry.{Entry}
 use Rattle.core_event.specs.declared.event.Event.{Event}
@@ -24,7 +24,9 @@ use Rattle.run_order.proofs.Written.{written_more, command_made, finish_tried}
 use Rattle.build_host.specs.Hosts.{Goes, IsServed}
 use Rattle.build_host.specs.Hosts as host
 use Rattle.build_host.proofs.Keeping.{served_ready}
+use Rattle.phase_run.specs.Calm.{IsCalm}
 use Rattle.phase_run.specs.Inside.Doing.{IsAsked, IsReady, IsAtWork, Stops, Works, Ends}
+use Rattle.phase_run.proofs.Calm.{calm_written, command_calm}
 
 pub ready_there : (s : Moment) → IsReady s → has_entered 1 s ≡ true
 ready_there s r = ap is_some r.idle.there
@@ -46,6 +48,7 @@ did_event e a b asked o s h w =
     record {
       opened = o;
       grew = subst (Grew (CommandEntries 1 e) a.history) (sym h) (command_made (λ x. x) a.state e a.history asked.command w.busy.single);
+      calm = calm_written a.history b.history (entry_of a.state 1 e) h (command_calm e asked.command);
       at_work = subst IsAtWork (sym s) (record { zeroth = zeroth_stays a.state e w.zeroth; name = w.name; busy = command_keeps a.state e w.name asked.command w.busy });
       left = omega (arith, le, none, now);
     }
@@ -60,10 +63,11 @@ not_begun P a b some same w = subst (Stops (Cut P) a) (sym same) (record {
 
 -- a build was made
 pub did_build : (P : List Entry → Type 0) (a b : Session) → Grew P a.history b.history → (a.state.manager.passes.services ≡ None → b.state.manager.passes.services ≡ None)
-    → Goes a b → IsAtWork a.state → Works P a b
-did_build P a b grew home goes w = record {
+    → Goes a b → (IsCalm a.history → IsCalm b.history) → IsAtWork a.state → Works P a b
+did_build P a b grew home goes calm w = record {
   opened = goes.opened;
   grew = grew;
+  calm = calm;
   at_work = record {
     zeroth = goes.keeps.zeroth w.zeroth;
     name = w.name;
@@ -78,9 +82,10 @@ stopped_build P a b grew goes w = record { opened = goes.opened; grew = grew; th
 
 -- it was made, and the run goes on or is to stop after it
 pub ended_build : {X E : Type 0} (P : List Entry → Type 0) (r : Result X E) (a b : Session) → Grew P a.history b.history
-    → (a.state.manager.passes.services ≡ None → b.state.manager.passes.services ≡ None) → Goes a b → IsAtWork a.state → MatchResult r (λ _. Works P a b) (λ _. Stops (Cut P) a b)
-ended_build P (Ok x) a b grew home goes w = did_build P a b grew home goes w
-ended_build P (Err e) a b grew home goes w = stopped_build (Cut P) a b (grew.0, grew.1, ([], subst P (sym (append-nil grew.0)) grew.2)) goes w
+    → (a.state.manager.passes.services ≡ None → b.state.manager.passes.services ≡ None) → Goes a b → OnOk r (IsCalm a.history → IsCalm b.history) → IsAtWork a.state
+    → MatchResult r (λ _. Works P a b) (λ _. Stops (Cut P) a b)
+ended_build P (Ok x) a b grew home goes calm w = did_build P a b grew home goes calm w
+ended_build P (Err e) a b grew home goes calm w = stopped_build (Cut P) a b (grew.0, grew.1, ([], subst P (sym (append-nil grew.0)) grew.2)) goes w
 
 -- the worker that runs a job and is served is ready to build
 pub ready_to_build : (ms : Meanings) (a : Session) (told : List Told) → IsServed ms a.opened told → a.state ≡ replay a.opened a.history → IsAtWork a.state → host.IsReady ms a told
@@ -90,7 +95,7 @@ module _ (Make : Making Command) (some : (c : Command) → (l : List Entry) × M
   -- ---- commands in order
 
   pub works_none : (commands : List Command) (a : Session) → IsAtWork a.state → Works (InTurn (Make 1) (take 0 commands)) a a
-  works_none commands a w = record { opened = refl; grew = ([], sym (append-nil a.history), refl); at_work = w; left = omega arith }
+  works_none commands a w = record { opened = refl; grew = ([], sym (append-nil a.history), refl); calm = λ h. h; at_work = w; left = omega arith }
 
   pub works_next : (commands : List Command) (i : ℕ) (d : Command) (a b c : Session) → i < length commands → Works (InTurn (Make 1) (take i commands)) a b → Works (Make 1 (get_or commands i d)) b c
       → Works (InTurn (Make 1) (take (i + 1) commands)) a c
@@ -101,6 +106,7 @@ module _ (Make : Making Command) (some : (c : Command) → (l : List Entry) × M
         opened = v.opened ∙ w.opened;
         grew = grew_on (InTurn (Make 1) (take i commands)) (Make 1 (get_or commands i d)) (InTurn (Make 1) (take (i + 1) commands)) a.history b.history c.history
             (λ x y p q. turn_next (Make 1) commands i d x y lt p q) w.grew v.grew;
+        calm = λ h. v.calm (w.calm h);
         at_work = v.at_work;
         left = omega (arith, le, more);
       }
@@ -137,6 +143,7 @@ module _ (Make : Making Command) (some : (c : Command) → (l : List Entry) × M
             (h ∙ written_more b.history x (finish_tried b.state 1)) ∙ (ap (λ l. l ++ x ∷ []) w.grew.1 ∙ append_assoc a.history w.grew.0 (x ∷ [])),
             record { body = w.grew.0; finished = x.reply; are = refl; made = w.grew.2 },
           );
+          calm = λ before. calm_written b.history c.history x h refl (w.calm before);
           ready = subst IsReady (sym s) (record { zeroth = zeroth_stays b.state Finish w.at_work.zeroth; idle = finish_idles b.state w.at_work.name w.at_work.busy });
         };
         left = omega (arith, le, before, now);

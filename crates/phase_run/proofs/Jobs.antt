@@ -19,8 +19,10 @@ use Rattle.run_order.proofs.Parts.{part_cut, parts_none, parts_more, parts_cut, 
 use Rattle.run_order.proofs.Idle.{take_gives}
 use Rattle.run_order.proofs.Taken.{step_left}
 use Rattle.run_order.proofs.Written.{written_more, written_none, taken_tried, untaken_tried}
+use Rattle.phase_run.specs.Calm.{IsCalm}
 use Rattle.phase_run.specs.Plans.{jobs_plan}
 use Rattle.phase_run.specs.Inside.Doing.{IsReady, IsAtWork, Makes, Stops, Ends, IsOver, Takes, TakesOne, TakesNone, job_given}
+use Rattle.phase_run.proofs.Calm.{calm_entry}
 use Rattle.phase_run.proofs.Commanded.{ready_there, zeroth_stays}
 
 -- ---- Take
@@ -64,7 +66,7 @@ module _ (Make : Making Command) where
   -- ---- parts
 
   pub made_none : (jobs : List Job) (a : Session) → IsReady a.state → Makes (Parts Make (jobs_plan jobs) 1) a a
-  made_none jobs a r = record { opened = refl; grew = ([], sym (append-nil a.history), parts_none Make (jobs_plan jobs) 1); ready = r }
+  made_none jobs a r = record { opened = refl; grew = ([], sym (append-nil a.history), parts_none Make (jobs_plan jobs) 1); calm = λ h. h; ready = r }
 
   -- one more job is done
   pub made_more : (jobs : List Job) (a b c d : Session) (name : List ℕ) (commands : List Command) → Makes (Parts Make (jobs_plan jobs) 1) a b → TakesOne name b c
@@ -76,6 +78,7 @@ module _ (Make : Making Command) where
       taken_on a b c d name m.grew.0 e.made.grew.0 t m.grew.1 e.made.grew.1,
       parts_more Make (jobs_plan jobs) 1 name m.grew.0 (entry 1 Take t.taken ∷ e.made.grew.0) m.grew.2 part,
     );
+    calm = λ h. e.made.calm (calm_entry b.history c.history (entry 1 Take t.taken) t.history refl (m.calm h));
     ready = e.made.ready;
   }
     where
@@ -113,4 +116,7 @@ module _ (Make : Making Command) where
 
   -- no other is there
   pub made_all : (jobs : List Job) (a b c : Session) → Makes (Parts Make (jobs_plan jobs) 1) a b → TakesNone b c → Makes (Parts Make (jobs_plan jobs) 1) a c × IsOver c
-  made_all jobs a b c m t = (record { opened = t.opened ∙ m.opened; grew = (m.grew.0, t.history ∙ m.grew.1, m.grew.2); ready = t.ready }, t.over)
+  made_all jobs a b c m t = (
+    record { opened = t.opened ∙ m.opened; grew = (m.grew.0, t.history ∙ m.grew.1, m.grew.2); calm = λ h. subst IsCalm (sym t.history) (m.calm h); ready = t.ready },
+    t.over,
+  )

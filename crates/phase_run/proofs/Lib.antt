@@ -1,4 +1,6 @@
 pub mod Results
+pub mod Calm
+pub mod Builds
 pub mod Commands
 pub mod Commanded
 pub mod Jobs

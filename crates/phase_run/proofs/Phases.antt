@@ -29,6 +29,7 @@ use Rattle.run_order.proofs.Idle.{schedule_keeps, cancel_keeps}
 use Rattle.run_order.proofs.Written.{schedule_tried, cancel_tried, act_made}
 use Rattle.phase_run.specs.Plans.{job_plan, jobs_plan}
 use Rattle.phase_run.specs.Inside.Doing.{IsReady, Makes, Stops, IsOver}
+use Rattle.phase_run.proofs.Calm.{calm_written}
 use Rattle.phase_run.proofs.Commanded.{ready_there}
 
 -- ---- jobs are scheduled
@@ -41,6 +42,7 @@ did_schedule job a b e is o s h r =
       opened = o;
       grew = subst (Grew (λ h. acts h ≡ scheduled (job_plan job) ∷ []) a.history) (sym (h ∙ ap (λ v. written a.history (entry_of a.state 0 v)) is))
           (act_made a.state 0 event a.history (schedule_tried a.state 0 job.name (priority_number job.priority) job.rule job.asleep));
+      calm = calm_written a.history b.history (entry_of a.state 0 event) (h ∙ ap (λ v. written a.history (entry_of a.state 0 v)) is) refl;
       ready = subst IsReady (sym (s ∙ ap (λ v. (step a.state 0 v).0) is)) (record {
         zeroth = step_stays a.state 0 event 0 (λ leaves. absurd (not_leave leaves)) r.zeroth;
         idle = schedule_keeps a.state 0 job.name (priority_number job.priority) job.rule job.asleep r.idle;
@@ -54,7 +56,7 @@ abbrev pub Scheduled : List (JobPlan Command) → List Entry → Type 0
 Scheduled plans h = acts h ≡ map scheduled plans
 
 pub schedule_none : (jobs : List Job) (a : Session) → IsReady a.state → Makes (Scheduled (take 0 (jobs_plan jobs))) a a
-schedule_none jobs a r = record { opened = refl; grew = ([], sym (append-nil a.history), refl); ready = r }
+schedule_none jobs a r = record { opened = refl; grew = ([], sym (append-nil a.history), refl); calm = λ h. h; ready = r }
 
 pub schedule_next : (jobs : List Job) (i : ℕ) (d : Job) (a b c : Session) → i < length jobs → Makes (Scheduled (take i (jobs_plan jobs))) a b
     → Makes (λ h. acts h ≡ scheduled (job_plan (get_or jobs i d)) ∷ []) b c → Makes (Scheduled (take (i + 1) (jobs_plan jobs))) a c
@@ -66,6 +68,7 @@ schedule_next jobs i d a b c lt m n =
       opened = n.opened ∙ m.opened;
       grew = grew_on (Scheduled (take i js)) (λ h. acts h ≡ scheduled (job_plan (get_or jobs i d)) ∷ []) (Scheduled (take (i + 1) js)) a.history b.history c.history
           (λ x y p q. acts_next scheduled js i (job_plan d) x y few p (q ∙ ap (λ p. scheduled p ∷ []) (sym at))) m.grew n.grew;
+      calm = λ h. n.calm (m.calm h);
       ready = n.ready;
     }
 
@@ -92,6 +95,7 @@ did_cancel job t a b asleep o s h r =
     record {
       opened = o;
       grew = (made.0, h ∙ made.1, made.2 ∙ sym one);
+      calm = calm_written a.history b.history (entry_of a.state 0 (Cancel job.name)) h refl;
       ready = subst IsReady (sym s) (record { zeroth = step_stays a.state 0 (Cancel job.name) 0 (λ leaves. absurd (not_leave leaves)) r.zeroth; idle = cancel_keeps a.state 0 job.name r.idle });
     }
   where
@@ -102,6 +106,7 @@ pub did_not_cancel : (job : Job) (t : Moment) (a : Session) → sleeps t job.nam
 did_not_cancel job t a awake r = record {
   opened = refl;
   grew = ([], sym (append-nil a.history), sym (ap (λ (b : Bool). map cancelled (if b then job_plan job ∷ [] else [])) awake));
+  calm = λ h. h;
   ready = r;
 }
 
@@ -115,7 +120,7 @@ own_names [] own = tt
 own_names (job ∷ jobs) own = (all_other job jobs own.0, own_names jobs own.1)
 
 pub cancel_none : (jobs : List Job) (a : Session) → IsReady a.state → Makes (Cancelled (replay a.opened a.history) (take 0 (jobs_plan jobs))) a a
-cancel_none jobs a r = record { opened = refl; grew = ([], sym (append-nil a.history), refl); ready = r }
+cancel_none jobs a r = record { opened = refl; grew = ([], sym (append-nil a.history), refl); calm = λ h. h; ready = r }
 
 -- where the history has gone on, so has what it leads to
 led : (a b : Session) (l : List Entry) → b.opened ≡ a.opened → b.history ≡ a.history ++ l → replay b.opened b.history ≡ replay (replay a.opened a.history) l
@@ -138,6 +143,7 @@ cancel_next jobs i d a b c lt own m n =
         n.grew.1 ∙ (ap (λ l. l ++ n.grew.0) m.grew.1 ∙ append_assoc a.history m.grew.0 n.grew.0),
         cancels_one js i (job_plan d) s m.grew.0 n.grew.0 few (own_names jobs own) m.grew.2 (n.grew.2 ∙ same),
       );
+      calm = λ h. n.calm (m.calm h);
       ready = n.ready;
     }
 
@@ -225,5 +231,6 @@ module _ (Make : Making Command) (one : MadeByOne Make) where
         phase_alone Make one (jobs_plan jobs) (replay a.opened a.history) m.grew.0 n.grew.0 o.grew.0 m.grew.2 n.grew.2
             (subst (λ (t : Moment). live t.manager.jobs ≡ 0) done_at over) (subst (λ t. Cancelled t (jobs_plan jobs) o.grew.0) done_at o.grew.2),
       );
+      calm = λ h. o.calm (n.calm (m.calm h));
       ready = o.ready;
     }

@@ -8,17 +8,18 @@ use Rattle.std.proofs.lemmas.Cmp.{nat_cmp_total}
 use Rattle.job_queue.proofs.Found.{itself}
 use Rattle.std.specs.Ordering.{nat_cmp}
 use Rattle.pass_table.specs.declared.pass.Pass.{Pass}
-use Rattle.pass_table.specs.Passes.{idle}
+use Rattle.pass_table.specs.Passes.{has_pass, idle}
 use Rattle.core_event.specs.declared.entry.Entry.{Entry}
 use Rattle.core_event.specs.declared.event.Event.TheVariants.{Enter, Leave}
 use Rattle.script_lang.specs.declared.script.Command.{Command}
 use Rattle.script_lang.specs.declared.script.Phase as script
 use Rattle.ws_core.specs.Steps.{step}
 use Rattle.ws_core.specs.States.{Moment}
-use Rattle.builder_api.specs.Meanings.{Meanings}
-use Rattle.builder_api.specs.Told.{HaveMeanings, Told}
-use Rattle.build_host.specs.Hosts.{IsServed}
-use Rattle.ws_core.specs.Histories.{entry_of, fresh_for, has_entered, replay, written}
+use Rattle.job_manager.specs.declared.manager.JobManager.{JobManager}
+use Rattle.job_manager.specs.Effects.{outcome}
+use Rattle.job_manager.specs.Managers.{first_manager}
+use Rattle.ws_core.specs.Histories.{entry_of, fresh, has_entered, replay, written}
+use Rattle.ws_core.proofs.Roomy.{step_manager}
 use Rattle.ws_core.specs.Sessions.{Session}
 use Rattle.run_order.specs.Lists.{acts, Cut, Grew}
 use Rattle.run_order.specs.Plans.{Phase}
@@ -34,35 +35,37 @@ use Rattle.run_order.proofs.Whole.{run_whole, shuffle_of, cut_entering, cut_shuf
 use Rattle.save_parts.specs.Heard.{Heard}
 use Rattle.phase_run.specs.Plans.{phase_plan, phases_plan}
 use Rattle.phase_run.specs.Inside.Doing.{IsReady, Makes}
-use Rattle.phase_run.specs.Inside.Running.{IsFresh, RunsPhase, CutsPhase, RunsPhases, CutsPhases}
+use Rattle.phase_run.specs.Inside.Running.{RunsPhase, CutsPhase, RunsPhases, CutsPhases}
+use Rattle.phase_run.proofs.Calm.{calm_written}
 use Rattle.phase_run.proofs.Heard.{tells_none, tells_on, tells_stop}
 
 -- ---- the worker enters and leaves
 
-pub zeroth_there : (s : Moment) → IsFresh s → has_entered 0 s ≡ true
-zeroth_there s f = ap (has_entered 0) f.1 ∙ ap is_some (get-insert nat_cmp_total none 0 idle 0 ∙ ap (λ b. cond b (Some idle) (get none 0)) (itself nat_cmp_total 0))
+pub zeroth_there : (s : Moment) → s.manager ≡ first_manager → has_entered 0 s ≡ true
+zeroth_there s first = ap (λ (m : JobManager). has_pass m.passes 0) first ∙ ap is_some (get-insert nat_cmp_total none 0 idle 0 ∙ ap (λ b. cond b (Some idle) (get none 0)) (itself nat_cmp_total 0))
   where
     none : FinMap nat_cmp Pass
     none = empty
 
-pub did_enter : (a b : Session) → a.state ≡ a.opened → IsFresh a.opened → b.opened ≡ a.opened → b.state ≡ (step a.state 0 Enter).0 → b.history ≡ written a.history (entry_of a.state 0 Enter) → Makes (λ h. acts h ≡ (0, Enter) ∷ []) a b
+-- once the worker was let in, it has nothing
+entered : (s : Moment) → s.manager ≡ first_manager → IsIdle (step s 0 Enter).0.manager
+entered s first = subst IsIdle (sym (step_manager s 0 Enter refl ∙ ap (λ m. (outcome m 0 Enter).0) first ∙ sym (step_manager fresh 0 Enter refl))) (entered_idle [])
+
+pub did_enter : (a b : Session) → a.state ≡ a.opened → a.opened.manager ≡ first_manager → b.opened ≡ a.opened → b.state ≡ (step a.state 0 Enter).0 → b.history ≡ written a.history (entry_of a.state 0 Enter) → Makes (λ h. acts h ≡ (0, Enter) ∷ []) a b
 did_enter a b at f o s h =
     let made = act_made a.state 0 Enter a.history (enter_tried a.state 0) in
     record {
       opened = o;
       grew = (made.0, h ∙ made.1, made.2);
+      calm = calm_written a.history b.history (entry_of a.state 0 Enter) h refl;
       ready = subst IsReady (sym s) (record {
         zeroth = step_stays a.state 0 Enter 0 (λ leaves. absurd (not_leave leaves)) (ap (has_entered 0) at ∙ zeroth_there a.opened f);
-        idle = subst (λ m. IsIdle (step m 0 Enter).0.manager) (sym (at ∙ f.1)) (entered_idle f.0);
+        idle = entered a.state (ap (λ (m : Moment). m.manager) at ∙ f);
       });
     }
   where
     not_leave : Enter ≡ Leave → ⊥
     not_leave h = cc
-
--- the builders of a fresh workspace whose names it has
-pub served_fresh : (ms : Meanings) (s : Moment) (told : List Told) → s ≡ fresh_for (map (λ b. b.named) told) → HaveMeanings ms told → IsServed ms s told
-served_fresh ms s told is means = record { named = ap (λ (m : Moment). m.desk.builders) is; means = means }
 
 pub did_leave : (a b : Session) → b.history ≡ written a.history (entry_of a.state 1 Leave) → Grew (λ h. acts h ≡ (1, Leave) ∷ []) a.history b.history
 did_leave a b h = let made = act_made a.state 1 Leave a.history (leave_tried a.state 1) in (made.0, h ∙ made.1, made.2)
@@ -71,7 +74,7 @@ module _ (Make : Making Command) where
   -- ---- phases
 
   pub runs_none : (plans : List (Phase Command)) (a : Session) (u : List Heard) → IsReady a.state → RunsPhases Make (take 0 plans) a a u u
-  runs_none plans a u r = record { opened = refl; run = refl; ready = r; told = tells_none a.history u }
+  runs_none plans a u r = record { opened = refl; run = refl; calm = λ h. h; ready = r; told = tells_none a.history u }
 
   plan_at : (phases : List script.Phase) (i : ℕ) (d : script.Phase) → i < length phases → get_or (phases_plan phases) i (phase_plan d) ≡ phase_plan (get_or phases i d)
   plan_at phases i d lt = get_or-map phase_plan phases i d (phase_plan d) lt
@@ -85,6 +88,7 @@ module _ (Make : Making Command) where
     opened = p.made.opened ∙ r.opened;
     run = subst (Phases Make 1 a.opened (take (i + 1) (phases_plan phases)) a.history) (sym p.made.grew.1)
         (phases_next Make 1 a.opened (phases_plan phases) i (phase_plan d) a.history b.history p.made.grew.0 (plans_few phases i lt) r.run made);
+    calm = λ h. p.made.calm (r.calm h);
     ready = p.made.ready;
     told = tells_on a.history b.history c.history u v w r.told p.told;
   }

@@ -1,3 +1,4 @@
 pub mod Plans
 pub mod Runs
+pub mod Calm
 pub mod Inside

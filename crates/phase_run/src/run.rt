@@ -1,15 +1,16 @@
 //! The worker enters, the phases are run one after another, and it leaves.
 ghost use Rattle.std.specs.Prelude.{◌≡◌, ◌⊎◌, ◌∷◌, [], true, map, MatchResult, OnOk, OnErr};
 ghost use Rattle.core_event.specs.declared.event.Event.TheVariants.{Enter, Leave};
-ghost use Rattle.builder_api.specs.Told.{HaveMeanings};
 ghost use Rattle.build_host.specs.Hosts.{IsServed, Serves};
-ghost use Rattle.ws_core.specs.Histories.{fresh_for, has_entered, replay};
+ghost use Rattle.job_manager.specs.Managers.{first_manager};
+ghost use Rattle.ws_core.specs.Histories.{has_entered, replay};
 ghost use Rattle.run_order.specs.Lists.{acts, Grew};
 ghost use Rattle.run_order.specs.Orders.{Shuffle, CutShuffle};
+ghost use Rattle.phase_run.specs.Calm.{IsCalm};
 ghost use Rattle.phase_run.specs.Plans.{Made, phases_plan};
 ghost use Rattle.phase_run.specs.Runs.{HeardAll, HeardFront};
 ghost use Rattle.phase_run.specs.Inside.Doing.{IsReady, Makes};
-ghost use Rattle.phase_run.specs.Inside.Running.{IsFresh, Tells, RunsPhase, CutsPhase, RunsPhases, CutsPhases};
+ghost use Rattle.phase_run.specs.Inside.Running.{Tells, RunsPhase, CutsPhase, RunsPhases, CutsPhases};
 
 use crate::NoMemory;
 use crate::phase::run_phase;
@@ -29,8 +30,8 @@ fn enter<L: Listener>(
     alloc: Global,
     listeners: &mut Listeners<L>,
 ) -> Result<(), NoMemory>
+    requires opened { core.old.opened.manager ≡ first_manager }
     requires state { core.old.state ≡ core.old.opened }
-    requires fresh { IsFresh core.old.opened }
     ensures made { OnOk result (Makes (λ h. acts h ≡ (0, Enter) ∷ []) core.old core.new) }
     ensures told { OnOk result (Tells core.old.history core.new.history (map (λ l. L.heard l) listeners.old) (map (λ l. L.heard l) listeners.new)) }
     ensures same { OnErr result (core.new ≡ core.old) }
@@ -91,6 +92,7 @@ fn leave<L: Listener>(
     requires { IsReady core.old.state }
     ensures opened { core.new.opened ≡ core.old.opened }
     ensures made { OnOk result (Grew (λ h. acts h ≡ (1, Leave) ∷ []) core.old.history core.new.history) }
+    ensures calm { OnOk result (IsCalm core.old.history → IsCalm core.new.history) }
     ensures told { OnOk result (Tells core.old.history core.new.history (map (λ l. L.heard l) listeners.old) (map (λ l. L.heard l) listeners.new)) }
     ensures same { OnErr result (core.new ≡ core.old) }
     ensures quiet { OnErr result (listeners.new ≡ listeners.old) }
@@ -109,14 +111,15 @@ fn run_all<L: Listener, B: Builder, M: Meanings>(
     listeners: &mut Listeners<L>,
     phases: &[Phase],
 ) -> Result<(), NoMemory>
+    requires opened { core.old.opened.manager ≡ first_manager }
     requires state { core.old.state ≡ core.old.opened }
     requires history { core.old.history ≡ [] }
-    requires fresh { IsFresh core.old.opened }
     requires served { IsServed M.meaning core.old.opened (map (λ b. B.tells b) builders.old) }
     ensures opened { core.new.opened ≡ core.old.opened }
     ensures whole { OnOk result (Shuffle (Made M.meaning) core.old.opened (phases_plan phases.now) 1 core.new.history) }
     ensures cut { OnErr result (CutShuffle (Made M.meaning) core.old.opened (phases_plan phases.now) 1 core.new.history) }
     ensures there { OnErr result ((core.new.history ≡ []) ⊎ (has_entered 1 core.new.state ≡ true)) }
+    ensures calm { OnOk result (IsCalm core.new.history) }
     ensures told { OnOk result (HeardAll core.new.history (map (λ l. L.heard l) listeners.old) (map (λ l. L.heard l) listeners.new)) }
     ensures told_some { OnErr result (HeardFront core.new.history (map (λ l. L.heard l) listeners.old) (map (λ l. L.heard l) listeners.new)) }
     ensures serves { Serves M.meaning core.old core.new (map (λ b. B.tells b) builders.old) (map (λ b. B.tells b) builders.new) }
@@ -129,10 +132,12 @@ fn run_all<L: Listener, B: Builder, M: Meanings>(
     leave(core, alloc, listeners)
 }
 
-/// Runs the phases of a script on a workspace that was just opened, by one worker, and tells listeners after each phase
-/// what it told. The workspace has the names of the builders, which its builds call. Without a phase nothing is done.
-/// Where memory wants the run stops where it is: the worker is still there, if it had entered, and the listeners were
-/// told what some beginning of the history tells. The builders are the same ones, and mean what they meant.
+/// Runs the phases of a script on a workspace that was just opened, a fresh one or one from what was kept, by one worker,
+/// and tells listeners after each phase what it told. The workspace has the names of the builders, which its builds call,
+/// and they mean what is told of them. Without a phase nothing is done. The run stops where it is where memory wants, and
+/// after a build that ended for want of memory, so that in a run that came to its end no build did: the worker is still
+/// there, if it had entered, and the listeners were told what some beginning of the history tells. The builders are the
+/// same ones, and mean what they meant.
 ///
 /// A phase costs n log n steps for its n jobs, beside what their commands cost.
 pub fn run_phases<L: Listener, B: Builder, M: Meanings>(
@@ -142,14 +147,15 @@ pub fn run_phases<L: Listener, B: Builder, M: Meanings>(
     listeners: &mut Listeners<L>,
     phases: &[Phase],
 ) -> Result<(), NoMemory>
-    requires opened { core.old.opened ≡ fresh_for (map (λ b. b.named) (map (λ b. B.tells b) builders.old)) }
+    requires opened { core.old.opened.manager ≡ first_manager }
     requires state { core.old.state ≡ core.old.opened }
     requires history { core.old.history ≡ [] }
-    requires means { HaveMeanings M.meaning (map (λ b. B.tells b) builders.old) }
+    requires served { IsServed M.meaning core.old.opened (map (λ b. B.tells b) builders.old) }
     ensures opened { core.new.opened ≡ core.old.opened }
     ensures whole { OnOk result (Shuffle (Made M.meaning) core.old.opened (phases_plan phases.now) 1 core.new.history) }
     ensures cut { OnErr result (CutShuffle (Made M.meaning) core.old.opened (phases_plan phases.now) 1 core.new.history) }
     ensures there { OnErr result ((core.new.history ≡ []) ⊎ (has_entered 1 (replay core.new.opened core.new.history) ≡ true)) }
+    ensures calm { OnOk result (IsCalm core.new.history) }
     ensures told { OnOk result (HeardAll core.new.history (map (λ l. L.heard l) listeners.old) (map (λ l. L.heard l) listeners.new)) }
     ensures told_some { OnErr result (HeardFront core.new.history (map (λ l. L.heard l) listeners.old) (map (λ l. L.heard l) listeners.new)) }
     ensures serves { Serves M.meaning core.old core.new (map (λ b. B.tells b) builders.old) (map (λ b. B.tells b) builders.new) }

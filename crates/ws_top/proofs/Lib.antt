@@ -3,7 +3,10 @@ pub mod Fronts
 pub mod Taken
 pub mod Named
 pub mod Told
+pub mod Statuses
+pub mod Opened
 pub mod Performed
 pub mod Responded
+pub mod Checked
 pub mod Answered
 pub mod Built

@@ -15,6 +15,9 @@ line_2 = line_of 2 (lit< tt)
 pub line_3 : codes "status 3\n" ≡ status_line 3
 line_3 = line_of 3 (lit< tt)
 
+pub line_5 : codes "status 5\n" ≡ status_line 5
+line_5 = line_of 5 (lit< tt)
+
 pub line_8 : codes "status 8\n" ≡ status_line 8
 line_8 = line_of 8 (lit< tt)
 

@@ -27,7 +27,7 @@ use Rattle.ws_top.specs.declared.words.Form.TheVariants.{Help, Version}
 use Rattle.ws_top.specs.Areas.{opened_state, IsHeld, IsDamage, AreUndamaged, FindsDamage, TellsDiskFault}
 use Rattle.ws_top.specs.Forms.{IsRun, IsCheck, Touches, help_text, version_text}
 use Rattle.ws_top.specs.Limits.{longest, Reads, ReadsAll, ReadsShort, ReadsLong}
-use Rattle.ws_top.specs.Texts.{text, status_line, bad_line, check_text}
+use Rattle.ws_top.specs.Texts.{text, cut_text, status_line, bad_line, check_text}
 
 -- ---- statuses
 
@@ -149,22 +149,12 @@ pub record DoesScript (All Front : List Entry → Type 0) (status : ℕ) (h : Li
 
 -- ---- what is written
 
--- the text of a want of memory: of what was done and the status, or the status alone where nothing was opened
-abbrev pub IsTextCut : Moment → List Entry → List ℕ → Type 0
-IsTextCut opened h written = (written ≡ text opened h 8) ⊎ ((h ≡ []) × (written ≡ status_line 8))
-
--- some front of that text was written
-pub record WritesCut (opened : Moment) (old new : Option (List ℕ)) (h : List Entry) : Type 0 where
-  pub written : List ℕ
-  pub is_cut : IsTextCut opened h written
-  pub front : GainsFront old written new
-
 -- What was written is the text of what was done: all of it, a front of it where a write failed, or a front of the text of
 -- a want of memory.
-pub record WritesText (opened : Moment) (old new : Option (List ℕ)) (status : ℕ) (h : List Entry) : Type 0 where
+pub record WritesText (kept : Option Durable) (opened : Moment) (old new : Option (List ℕ)) (status : ℕ) (h : List Entry) : Type 0 where
   pub all_at_0 : status ≡ 0 → Gains old (text opened h 0) new
   pub front_at_4 : status ≡ 4 → GainsFront old (text opened h 0) new
-  pub front_at_8 : status ≡ 8 → WritesCut opened old new h
+  pub front_at_8 : status ≡ 8 → GainsFront old (cut_text kept opened h) new
 
 -- the text was written; or a front of it, and then a write failed
 abbrev pub Writes : Option (List ℕ) → Option (List ℕ) → ℕ → ℕ → List ℕ → Type 0
@@ -213,12 +203,12 @@ Completes left seen ReadFailed WriteFailed DiskFailed status = (ReadFailed → �
     → seen ≡ Some both → AreUndamaged both → (status ≡ 0) ⊎ (status ≡ 8)
 
 -- The source `left` what it had to read, and the sink went from `old` to `new`.
-pub record RunsScript (ms : Meanings) (opened : Moment) (left after_reading old new : Option (List ℕ)) (before after status : ℕ) (h : List Entry) : Type 0 where
+pub record RunsScript (ms : Meanings) (kept : Option Durable) (opened : Moment) (left after_reading old new : Option (List ℕ)) (before after status : ℕ) (h : List Entry) : Type 0 where
   pub to_its_end : WasRead status → IsAtEnd after_reading
   pub judged : WasRead status → Judges left after_reading status
   pub nothing_if_idle : WasIdle status → h ≡ []
   pub done : DoesScript (RanAll ms opened left after_reading) (RanSome ms opened left after_reading) status h
-  pub text : WritesText opened old new status h
+  pub text : WritesText kept opened old new status h
   pub bad_line_at_6 : status ≡ 6 → (written : List ℕ) × IsTextBad left after_reading written × Writes old new before after written
 
 -- the text was told; or a front of it, and then a write failed
@@ -258,7 +248,7 @@ pub record EndsProgram (ms : Meanings) (kept : Option Durable) (told : List Told
   pub opens : IsRun form → TellsState kept seen status h
   pub none : (IsRun form → ⊥) → kept ≡ None
   pub thread : IsOneThread (opened_state kept told) h
-  pub runs : IsRun form → RunsScript ms (opened_state kept told) left after_reading old new before after status h
+  pub runs : IsRun form → RunsScript ms kept (opened_state kept told) left after_reading old new before after status h
   pub calm : status ≢ 8 → IsCalm h
   pub line : WasUnread status → Writes old new before after (status_line status)
   pub unopened : TellsUnopened kept seen old new before after status h

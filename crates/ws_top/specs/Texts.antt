@@ -1,5 +1,6 @@
 -- The text of a run.
-use Rattle.std.specs.Prelude.{ℕ, List, ◌++◌, codes, decimal}
+use Rattle.std.specs.Prelude.{ℕ, List, ◌++◌, Option, Some, None, codes, decimal}
+use Rattle.ws_durable.specs.declared.durable.Durable.{Durable}
 use Rattle.save_store.specs.declared.look.Found.{Found}
 use Rattle.area_text.specs.Looks.{found_text}
 use Rattle.delta_kind.specs.Deltas.{delta}
@@ -23,6 +24,11 @@ status_line n = codes "status " ++ decimal n ++ codes "\n"
 -- the text of a run: what was done since the state was opened, what changed, and the status
 abbrev pub text : Moment → List Entry → ℕ → List ℕ
 text opened h n = report_from opened h ++ status_line n
+
+-- the text of a want of memory: of what was done, as above, or the status alone where no state was opened
+abbrev pub cut_text : Option Durable → Moment → List Entry → List ℕ
+cut_text None opened h = status_line 8
+cut_text (Some d) opened h = text opened h 8
 
 abbrev pub bad_line : ℕ → List ℕ
 bad_line line = codes "status " ++ decimal 6 ++ codes " line " ++ decimal line ++ codes "\n"

@@ -1,8 +1,8 @@
 //! What the areas hold is told.
-ghost use Rattle.std.specs.Prelude.{◌≡◌, [], None, IfOk};
+ghost use Rattle.std.specs.Prelude.{◌≡◌, ◌++◌, [], None, IfOk, OnOk};
 ghost use Rattle.ws_top.specs.Inside.Opening.{TellsHeld, LeavesAreas};
-ghost use Rattle.ws_top.specs.Outcomes.{Checks, Tells};
-ghost use Rattle.ws_top.specs.Texts.{check_text};
+ghost use Rattle.ws_top.specs.Outcomes.{Checks};
+ghost use Rattle.ws_top.specs.Texts.{check_text, status_line};
 
 use crate::NoMemory;
 use crate::kit::{Areas, Kit};
@@ -10,7 +10,7 @@ use crate::refusal::refuse;
 use crate::response::{Outcome, tell, want};
 use area_text::put_found;
 use builder_api::Builder;
-use report_text::put_text;
+use report_text::{put_counted, put_text};
 use save_parts::Listener;
 use save_store::{Found, Store};
 use std::alloc::Global;
@@ -64,6 +64,14 @@ fn text_of(alloc: Global, found: Found) -> Result<Vec<u8>, NoMemory>
 {
     let mut text = Vec::new(alloc);
     put_found(&mut text, found)?;
-    put_text(&mut text, "status 0\n")?;
+    put_status(&mut text, 0)?;
     Ok(text)
+}
+
+/// Appends the line of a status.
+fn put_status(out: &mut Vec<u8>, status: u64) -> Result<(), NoMemory>
+    ensures { OnOk result (out.new.items ≡ out.old.items ++ status_line status) }
+{
+    put_counted(out, "status ", status)?;
+    put_text(out, "\n")
 }

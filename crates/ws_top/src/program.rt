@@ -58,7 +58,7 @@ pub fn top<S: Source, K: Sink, D: Disk, L: Listener, B: Builder, M: Meanings>(
     ensures none { (IsRun (form_of (map string_bytes words.now)) → ⊥) → result.kept ≡ None }
     // what is done, and what of it is written
     ensures thread { IsOneThread (opened_state result.kept (map (λ b. B.tells b) kit.builders)) result.history }
-    ensures runs { IsRun (form_of (map string_bytes words.now)) → RunsScript M.meaning (opened_state result.kept (map (λ b. B.tells b) kit.builders)) (S.left source.old) (S.left source.new) (K.written sink.old) (K.written sink.new) (K.faults sink.old) (K.faults sink.new) result.status result.history }
+    ensures runs { IsRun (form_of (map string_bytes words.now)) → RunsScript M.meaning result.kept (opened_state result.kept (map (λ b. B.tells b) kit.builders)) (S.left source.old) (S.left source.new) (K.written sink.old) (K.written sink.new) (K.faults sink.old) (K.faults sink.new) result.status result.history }
     ensures calm { result.status ≢ 8 → IsCalm result.history }
     ensures heard { HearsNotices (opened_state result.kept (map (λ b. B.tells b) kit.builders)) result.status result.history (map (λ l. L.heard l) kit.listeners) (map (λ l. L.heard l) result.kit.listeners) }
     ensures builds { MakesBuilds M.meaning (opened_state result.kept (map (λ b. B.tells b) kit.builders)) result.history (map (λ b. B.tells b) kit.builders) (map (λ b. B.tells b) result.kit.builders) }
@@ -125,7 +125,7 @@ fn run<S: Source, K: Sink, D: Disk, L: Listener, B: Builder, M: Meanings>(
     kit: Kit<L, B>,
 ) -> Outcome<D, L, B>
     requires means { HaveMeanings M.meaning (map (λ b. B.tells b) kit.builders) }
-    ensures ends { EndsRun M.meaning (opened_state result.kept (map (λ b. B.tells b) kit.builders)) (S.left source.old) (S.left source.new) (S.reads source.old) (S.reads source.new) (S.faults source.old) (S.faults source.new)
+    ensures ends { EndsRun M.meaning result.kept (opened_state result.kept (map (λ b. B.tells b) kit.builders)) (S.left source.old) (S.left source.new) (S.reads source.old) (S.reads source.new) (S.faults source.old) (S.faults source.new)
         (D.seen areas.disk) (D.faults areas.disk) (D.faults result.areas.disk) (K.written sink.old) (K.written sink.new) (K.faults sink.old) (K.faults sink.new) result.status result.history }
     ensures areas { OpensAreas D.moment D.left_since D.may_leave D.seen D.faults areas.disk result.areas.disk (K.written sink.old) (K.written sink.new) (K.faults sink.old) (K.faults sink.new) result.kept result.status result.history }
     ensures heard { HearsNotices (opened_state result.kept (map (λ b. B.tells b) kit.builders)) result.status result.history (map (λ l. L.heard l) kit.listeners) (map (λ l. L.heard l) result.kit.listeners) }

@@ -1,5 +1,5 @@
 //! A script is run on what the areas hold, and what was done is written.
-ghost use Rattle.std.specs.Prelude.{◌≡◌, ◌⊎◌, ◌++◌, ℕ, [], map, take, None, IfOk, OnOk};
+ghost use Rattle.std.specs.Prelude.{◌≡◌, ◌⊎◌, ◌++◌, ℕ, [], map, take, None, IsSome, OnOk};
 ghost use Rattle.sched_rules.specs.Atoms.{atom_contains, atom_conflicts};
 ghost use Rattle.rule_table.specs.Tables.{IsApart};
 ghost use Rattle.builder_api.specs.Told.{HaveMeanings};
@@ -59,7 +59,7 @@ pub fn respond<K: Sink, D: Disk, L: Listener, B: Builder, M: Meanings>(
     bytes: Vec<u8>,
 ) -> Outcome<D, L, B>
     requires means { HaveMeanings M.meaning (map (λ b. B.tells b) kit.builders) }
-    ensures responds { Responds M.meaning (opened_state result.kept (map (λ b. B.tells b) kit.builders)) bytes.items (K.written sink.old) (K.written sink.new) (K.faults sink.old) (K.faults sink.new) result.status result.history }
+    ensures responds { Responds M.meaning result.kept (opened_state result.kept (map (λ b. B.tells b) kit.builders)) bytes.items (K.written sink.old) (K.written sink.new) (K.faults sink.old) (K.faults sink.new) result.status result.history }
     ensures areas { OpensAreas D.moment D.left_since D.may_leave D.seen D.faults areas.disk result.areas.disk (K.written sink.old) (K.written sink.new) (K.faults sink.old) (K.faults sink.new) result.kept result.status result.history }
     ensures heard { HearsNotices (opened_state result.kept (map (λ b. B.tells b) kit.builders)) result.status result.history (map (λ l. L.heard l) kit.listeners) (map (λ l. L.heard l) result.kit.listeners) }
     ensures builds { MakesBuilds M.meaning (opened_state result.kept (map (λ b. B.tells b) kit.builders)) result.history (map (λ b. B.tells b) kit.builders) (map (λ b. B.tells b) result.kit.builders) }
@@ -79,7 +79,7 @@ fn respond_to<K: Sink, D: Disk, L: Listener, B: Builder, M: Meanings>(
     text: Bytes,
 ) -> Outcome<D, L, B>
     requires means { HaveMeanings M.meaning (map (λ b. B.tells b) kit.builders) }
-    ensures responds { Responds M.meaning (opened_state result.kept (map (λ b. B.tells b) kit.builders)) text (K.written sink.old) (K.written sink.new) (K.faults sink.old) (K.faults sink.new) result.status result.history }
+    ensures responds { Responds M.meaning result.kept (opened_state result.kept (map (λ b. B.tells b) kit.builders)) text (K.written sink.old) (K.written sink.new) (K.faults sink.old) (K.faults sink.new) result.status result.history }
     ensures areas { OpensAreas D.moment D.left_since D.may_leave D.seen D.faults areas.disk result.areas.disk (K.written sink.old) (K.written sink.new) (K.faults sink.old) (K.faults sink.new) result.kept result.status result.history }
     ensures heard { HearsNotices (opened_state result.kept (map (λ b. B.tells b) kit.builders)) result.status result.history (map (λ l. L.heard l) kit.listeners) (map (λ l. L.heard l) result.kit.listeners) }
     ensures builds { MakesBuilds M.meaning (opened_state result.kept (map (λ b. B.tells b) kit.builders)) result.history (map (λ b. B.tells b) kit.builders) (map (λ b. B.tells b) result.kit.builders) }
@@ -130,7 +130,7 @@ fn perform<K: Sink, D: Disk, L: Listener, B: Builder, M: Meanings>(
     script: Script,
 ) -> Outcome<D, L, B>
     requires means { HaveMeanings M.meaning (map (λ b. B.tells b) kit.builders) }
-    ensures performs { Performs (Shuffle M.meaning (opened_state result.kept (map (λ b. B.tells b) kit.builders)) script) (CutShuffle M.meaning (opened_state result.kept (map (λ b. B.tells b) kit.builders)) script) (StoppedShuffle M.meaning (opened_state result.kept (map (λ b. B.tells b) kit.builders)) script) (opened_state result.kept (map (λ b. B.tells b) kit.builders)) (K.written sink.old) (K.written sink.new) (K.faults sink.old) (K.faults sink.new) result.status result.history ⊎ IsRefused result.status result.history }
+    ensures performs { Performs (Shuffle M.meaning (opened_state result.kept (map (λ b. B.tells b) kit.builders)) script) (CutShuffle M.meaning (opened_state result.kept (map (λ b. B.tells b) kit.builders)) script) (StoppedShuffle M.meaning (opened_state result.kept (map (λ b. B.tells b) kit.builders)) script) result.kept (opened_state result.kept (map (λ b. B.tells b) kit.builders)) (K.written sink.old) (K.written sink.new) (K.faults sink.old) (K.faults sink.new) result.status result.history ⊎ IsRefused result.status result.history }
     ensures areas { OpensAreas D.moment D.left_since D.may_leave D.seen D.faults areas.disk result.areas.disk (K.written sink.old) (K.written sink.new) (K.faults sink.old) (K.faults sink.new) result.kept result.status result.history }
     ensures heard { HearsNotices (opened_state result.kept (map (λ b. B.tells b) kit.builders)) result.status result.history (map (λ l. L.heard l) kit.listeners) (map (λ l. L.heard l) result.kit.listeners) }
     ensures builds { MakesBuilds M.meaning (opened_state result.kept (map (λ b. B.tells b) kit.builders)) result.history (map (λ b. B.tells b) kit.builders) (map (λ b. B.tells b) result.kit.builders) }
@@ -153,7 +153,7 @@ fn perform_from<K: Sink, D: Disk, L: Listener, B: Builder, M: Meanings>(
 ) -> Outcome<D, L, B>
     requires valid { Valid (saved durable) }
     requires means { HaveMeanings M.meaning (map (λ b. B.tells b) kit.builders) }
-    ensures performs { Performs (Shuffle M.meaning (opened_state result.kept (map (λ b. B.tells b) kit.builders)) script) (CutShuffle M.meaning (opened_state result.kept (map (λ b. B.tells b) kit.builders)) script) (StoppedShuffle M.meaning (opened_state result.kept (map (λ b. B.tells b) kit.builders)) script) (opened_state result.kept (map (λ b. B.tells b) kit.builders)) (K.written sink.old) (K.written sink.new) (K.faults sink.old) (K.faults sink.new) result.status result.history }
+    ensures performs { Performs (Shuffle M.meaning (opened_state result.kept (map (λ b. B.tells b) kit.builders)) script) (CutShuffle M.meaning (opened_state result.kept (map (λ b. B.tells b) kit.builders)) script) (StoppedShuffle M.meaning (opened_state result.kept (map (λ b. B.tells b) kit.builders)) script) result.kept (opened_state result.kept (map (λ b. B.tells b) kit.builders)) (K.written sink.old) (K.written sink.new) (K.faults sink.old) (K.faults sink.new) result.status result.history }
     ensures from { RunsFrom durable result.kept (K.written sink.old) (K.written sink.new) (K.faults sink.old) (K.faults sink.new) result.status result.history }
     ensures heard { HearsNotices (opened_state result.kept (map (λ b. B.tells b) kit.builders)) result.status result.history (map (λ l. L.heard l) kit.listeners) (map (λ l. L.heard l) result.kit.listeners) }
     ensures builds { MakesBuilds M.meaning (opened_state result.kept (map (λ b. B.tells b) kit.builders)) result.history (map (λ b. B.tells b) kit.builders) (map (λ b. B.tells b) result.kit.builders) }
@@ -177,11 +177,12 @@ fn perform_on<K: Sink, D: Disk, L: Listener, B: Builder, M: Meanings>(
     kept: Kept,
     script: Script,
 ) -> Outcome<D, L, B>
+    requires some { IsSome kept }
     requires opened { core.opened ≡ opened_state kept (map (λ b. B.tells b) kit.builders) }
     requires state { core.state ≡ core.opened }
     requires history { core.history ≡ [] }
     requires means { HaveMeanings M.meaning (map (λ b. B.tells b) kit.builders) }
-    ensures performs { Performs (Shuffle M.meaning core.opened script) (CutShuffle M.meaning core.opened script) (StoppedShuffle M.meaning core.opened script) core.opened (K.written sink.old) (K.written sink.new) (K.faults sink.old) (K.faults sink.new) result.status result.history }
+    ensures performs { Performs (Shuffle M.meaning core.opened script) (CutShuffle M.meaning core.opened script) (StoppedShuffle M.meaning core.opened script) result.kept core.opened (K.written sink.old) (K.written sink.new) (K.faults sink.old) (K.faults sink.new) result.status result.history }
     ensures heard { HearsNotices core.opened result.status result.history (map (λ l. L.heard l) kit.listeners) (map (λ l. L.heard l) result.kit.listeners) }
     ensures builds { MakesBuilds M.meaning core.opened result.history (map (λ b. B.tells b) kit.builders) (map (λ b. B.tells b) result.kit.builders) }
     ensures kept { result.kept ≡ kept }
@@ -213,8 +214,9 @@ fn report<K: Sink, D: Disk, L: Listener, B: Builder>(
     core: Core<LayerTree>,
     kept: Kept,
 ) -> Outcome<D, L, B>
+    requires some { IsSome kept }
     requires calm { IsCalm core.history }
-    ensures performs { Performs (Same core.history) (Same core.history) Nothing core.opened (K.written sink.old) (K.written sink.new) (K.faults sink.old) (K.faults sink.new) result.status result.history }
+    ensures performs { Performs (Same core.history) (Same core.history) Nothing result.kept core.opened (K.written sink.old) (K.written sink.new) (K.faults sink.old) (K.faults sink.new) result.status result.history }
     ensures history { result.history ≡ core.history }
     ensures kept { result.kept ≡ kept }
     ensures areas { result.areas ≡ areas }
@@ -236,7 +238,8 @@ fn report_cut<K: Sink, D: Disk, L: Listener, B: Builder>(
     core: Core<LayerTree>,
     kept: Kept,
 ) -> Outcome<D, L, B>
-    ensures performs { Performs Nothing (Same core.history) (Same core.history) core.opened (K.written sink.old) (K.written sink.new) (K.faults sink.old) (K.faults sink.new) result.status result.history }
+    requires some { IsSome kept }
+    ensures performs { Performs Nothing (Same core.history) (Same core.history) result.kept core.opened (K.written sink.old) (K.written sink.new) (K.faults sink.old) (K.faults sink.new) result.status result.history }
     ensures status { result.status ≡ 8 }
     ensures history { result.history ≡ core.history }
     ensures kept { result.kept ≡ kept }

@@ -15,6 +15,7 @@ use Rattle.run_order.specs.Lists.{entry, Grew, InTurn}
 use Rattle.run_order.specs.Parts.{Making}
 use Rattle.run_order.specs.Alone.{IsIdle, IsBusy, IsCommand}
 use Rattle.run_order.specs.Counts.{left, scheduling}
+use Rattle.phase_run.specs.Calm.{IsCalm}
 use Rattle.phase_run.specs.declared.plan.Asked.{Asked}
 use Rattle.phase_run.specs.declared.plan.Asked.TheVariants.{One, Build}
 
@@ -29,10 +30,11 @@ pub record IsAtWork (s : Moment) : Type 0 where
   pub name : List ℕ
   pub busy : IsBusy name s.manager
 
--- the history went on by such entries, and the worker is ready for more
+-- the history went on by such entries, of which no build ended for want of memory, and the worker is ready for more
 pub record Makes (P : List Entry → Type 0) (old new : Session) : Type 0 where
   pub opened : new.opened ≡ old.opened
   pub grew : Grew P old.history new.history
+  pub calm : IsCalm old.history → IsCalm new.history
   pub ready : IsReady new.state
 
 -- it went on by such entries until memory wanted, and the worker is still there
@@ -41,10 +43,11 @@ pub record Stops (P : List Entry → Type 0) (old new : Session) : Type 0 where
   pub grew : Grew P old.history new.history
   pub there : has_entered 1 new.state ≡ true
 
--- it went on by such entries, the worker still runs a job, and no more jobs are left than before
+-- it went on by such entries, of which no build ended so, the worker still runs a job, and no more jobs are left than before
 pub record Works (P : List Entry → Type 0) (old new : Session) : Type 0 where
   pub opened : new.opened ≡ old.opened
   pub grew : Grew P old.history new.history
+  pub calm : IsCalm old.history → IsCalm new.history
   pub at_work : IsAtWork new.state
   pub left : left new.state ≤ left old.state
 

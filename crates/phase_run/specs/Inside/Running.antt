@@ -3,20 +3,15 @@ use Rattle.std.specs.Prelude.{◌≡◌, ◌<◌, ℕ, true, List, ◌++◌, len
 use Rattle.core_event.specs.declared.entry.Entry.{Entry}
 use Rattle.script_lang.specs.declared.script.Command.{Command}
 use Rattle.script_lang.specs.declared.script.Phase as script
-use Rattle.res_path.specs.Paths.{Names}
-use Rattle.ws_core.specs.States.{Moment}
-use Rattle.ws_core.specs.Histories.{fresh_for, has_entered, replay, told_of}
+use Rattle.ws_core.specs.Histories.{has_entered, replay, told_of}
 use Rattle.ws_core.specs.Sessions.{Session}
 use Rattle.save_parts.specs.Heard.{Heard, HeardMore}
 use Rattle.run_order.specs.Plans.{Phase}
 use Rattle.run_order.specs.Parts.{Making}
 use Rattle.run_order.specs.Orders.{IsPhase, IsCutPhase, Phases}
+use Rattle.phase_run.specs.Calm.{IsCalm}
 use Rattle.phase_run.specs.Plans.{phase_plan}
 use Rattle.phase_run.specs.Inside.Doing.{IsReady, Makes, Stops}
-
--- the workspace is a fresh one, of some builders
-abbrev pub IsFresh : Moment → Type 0
-IsFresh s = (builders : Names) × (s ≡ fresh_for builders)
 
 -- each listener was told what the history told on the way from one to the other
 abbrev pub Tells : List Entry → List Entry → List Heard → List Heard → Type 0
@@ -36,10 +31,11 @@ pub record CutsPhase (Make : Making Command) (phase : script.Phase) (a b : Sessi
   pub stopped : Stops (IsCutPhase Make 1 (phase_plan phase) (replay a.opened a.history)) a b
   pub quiet : new ≡ old
 
--- phases were run, one after another, and told
+-- phases were run, one after another, and told, and none of their builds ended for want of memory
 pub record RunsPhases (Make : Making Command) (phases : List (Phase Command)) (a b : Session) (old new : List Heard) : Type 0 where
   pub opened : b.opened ≡ a.opened
   pub run : Phases Make 1 a.opened phases a.history b.history
+  pub calm : IsCalm a.history → IsCalm b.history
   pub ready : IsReady b.state
   pub told : Tells a.history b.history old new
 

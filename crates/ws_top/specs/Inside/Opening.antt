@@ -1,5 +1,5 @@
 -- What is left where areas are opened or looked at.
-use Rattle.std.specs.Prelude.{◌≡◌, ◌⊎◌, ℕ, List, [], Option, Some, None, Result, IfSome, IfOk, IfErr, MatchResult}
+use Rattle.std.specs.Prelude.{◌≡◌, ◌⊎◌, ℕ, List, [], Option, Some, None, Result, IfSome, IfOk, IfErr}
 use Rattle.ws_outside.specs.declared.contents.Contents.{Contents}
 use Rattle.ws_outside.specs.Disk.{Each}
 use Rattle.disk_area.specs.declared.damage.Damage.{Damage}

@@ -3,6 +3,7 @@ use Rattle.std.specs.Prelude.{◌≡◌, ◌≢◌, ◌⊎◌, ℕ, List, [], Op
 use Rattle.ws_outside.specs.declared.contents.Contents.{Contents}
 use Rattle.ws_outside.specs.Faults.{Rose}
 use Rattle.ws_outside.specs.Streams.{Gains, GainsFront}
+use Rattle.ws_durable.specs.declared.durable.Durable.{Durable}
 use Rattle.script_lang.specs.declared.script.Script.{Script}
 use Rattle.script_lang.specs.Scripts.{IsScript, IsFirstBad}
 use Rattle.core_event.specs.declared.entry.Entry.{Entry}
@@ -72,12 +73,12 @@ Same done h = h ≡ done
 
 -- A script was run, as far as memory sufficed, and what was done was written: `All` says that it is all of the script,
 -- `Front` that it is a front of it, `Stopped` that at least one call was not made.
-pub record Performs (All Front Stopped : List Entry → Type 0) (opened : Moment) (old new : Option (List ℕ)) (before after status : ℕ) (h : List Entry) : Type 0 where
+pub record Performs (All Front Stopped : List Entry → Type 0) (kept : Option Durable) (opened : Moment) (old new : Option (List ℕ)) (before after status : ℕ) (h : List Entry) : Type 0 where
   pub ends : WasRun status ⊎ (status ≡ 8)
   pub fault : TellsWriteFault before after status ((h ≡ []) ⊎ Stopped h)
   pub done : DoesScript All Front status h
   pub thread : IsOneThread opened h
-  pub text : WritesText opened old new status h
+  pub text : WritesText kept opened old new status h
   pub calm : status ≢ 8 → IsCalm h
 
 -- the line that is the first bad one was written, or memory wanted for it
@@ -105,14 +106,14 @@ pub record TellsBadLine (bytes : List ℕ) (old new : Option (List ℕ)) (before
   pub written : Writes old new before after (bad_line line)
 
 -- what the bytes ask for was done
-abbrev pub Responds : Meanings → Moment → List ℕ → Option (List ℕ) → Option (List ℕ) → ℕ → ℕ → ℕ → List Entry → Type 0
-Responds ms opened bytes old new before after status h =
-    Performs (Spelled (Shuffle ms opened) bytes) (Spelled (CutShuffle ms opened) bytes) (Spelled (StoppedShuffle ms opened) bytes) opened old new before after status h
+abbrev pub Responds : Meanings → Option Durable → Moment → List ℕ → Option (List ℕ) → Option (List ℕ) → ℕ → ℕ → ℕ → List Entry → Type 0
+Responds ms kept opened bytes old new before after status h =
+    Performs (Spelled (Shuffle ms opened) bytes) (Spelled (CutShuffle ms opened) bytes) (Spelled (StoppedShuffle ms opened) bytes) kept opened old new before after status h
     ⊎ TellsBadLine bytes old new before after status h
     ⊎ IsUnopenedFor bytes status h
 
 -- the source was read, and what its bytes ask for was done
-pub record EndsRun (ms : Meanings) (opened : Moment) (left after_reading : Option (List ℕ)) (reads_before reads_after : Option ℕ) (reads_failed reads_fail : ℕ)
+pub record EndsRun (ms : Meanings) (kept : Option Durable) (opened : Moment) (left after_reading : Option (List ℕ)) (reads_before reads_after : Option ℕ) (reads_failed reads_fail : ℕ)
     (seen : Option Contents) (disk_before disk_after : ℕ) (old new : Option (List ℕ)) (before after status : ℕ) (h : List Entry) : Type 0 where
   pub ends : IsStatus status
   pub usage : status ≢ 2
@@ -121,6 +122,6 @@ pub record EndsRun (ms : Meanings) (opened : Moment) (left after_reading : Optio
   pub complete : Completes left seen (Rose reads_failed reads_fail) (Rose before after) (Rose disk_before disk_after) status
   pub reads : ReadsNoMore left after_reading reads_before reads_after status
   pub thread : IsOneThread opened h
-  pub runs : RunsScript ms opened left after_reading old new before after status h
+  pub runs : RunsScript ms kept opened left after_reading old new before after status h
   pub calm : status ≢ 8 → IsCalm h
   pub line : WasUnread status → Writes old new before after (status_line status)

@@ -1,10 +1,16 @@
-use Rattle.std.proofs.Common.{map}
+use Rattle.std.proofs.Common.{map, refl}
+use Rattle.core_event.specs.declared.event.Event.TheVariants.{Leave}
+use Rattle.ws_core.specs.Histories.{entry_of}
+use Rattle.phase_run.proofs.Calm.{calm_written}
 use Rattle.phase_run.proofs.Heard.{tells_from}
 use Rattle.phase_run.proofs.Runs.{did_leave}
 use Rattle.phase_run.proofs.run.leave.Goals as goal
 
 pub returns-clause-made : goal.returns-clause-made
 returns-clause-made g c = let e = c.in_ok-perform.ensures in did_leave c.args.core.now c.perform.new.self e.history
+
+pub returns-clause-calm : goal.returns-clause-calm
+returns-clause-calm g c = calm_written c.args.core.now.history c.perform.new.self.history (entry_of c.args.core.now.state 1 Leave) c.in_ok-perform.ensures.history refl
 
 pub returns-clause-told : goal.returns-clause-told
 returns-clause-told g c = let e = c.in_ok-perform.ensures in let made = did_leave c.args.core.now c.perform.new.self e.history in

@@ -4,6 +4,7 @@ use Rattle.build_host.proofs.Keeping.{still_served}
 use Rattle.std.proofs.Common.{map, sym, ap, ◌∙◌, subst}
 use Rattle.ws_core.specs.Sessions.{Session}
 use Rattle.run_order.specs.Orders.{CutShuffle}
+use Rattle.phase_run.specs.Calm.{IsCalm}
 use Rattle.phase_run.specs.Plans.{Made, phases_plan}
 use Rattle.phase_run.specs.Runs.{HeardFront}
 use Rattle.phase_run.proofs.Results.{ok_on, err_on, err_both, err_holds}
@@ -39,6 +40,12 @@ pub returns-clause-cut : goal.returns-clause-cut
 returns-clause-cut g c = err_on c.leave.result
     (λ same. subst (λ (x : Session). CutShuffle (Made g.M.Meanings.meaning) c.args.core.now.opened (phases_plan c.args.phases.now) 1 x.history) (sym same)
     (run_left (Made g.M.Meanings.meaning) (phases_plan c.args.phases.now) (some_phases (Made g.M.Meanings.meaning) c.args.phases.now c.if-is_empty.ensures) c.args.core.now c.enter.new.core c.run_each.new.core c.requires.history c.in_ok-enter.ensures.made (map (λ l. g.L.Listener.heard l) c.enter.new.listeners) (map (λ l. g.L.Listener.heard l) c.run_each.new.listeners) c.in_ok-run_each.ensures.done)) c.leave.ensures.same
+
+pub returns-then-is_empty-clause-calm : goal.returns-then-is_empty-clause-calm
+returns-then-is_empty-clause-calm g c = subst IsCalm (sym c.requires.history) tt
+
+pub returns-clause-calm : goal.returns-clause-calm
+returns-clause-calm g c = ok_on c.leave.result (λ left. left (c.in_ok-run_each.ensures.done.calm (c.in_ok-enter.ensures.made.calm (subst IsCalm (sym c.requires.history) tt)))) c.leave.ensures.calm
 
 pub returns-clause-told : goal.returns-clause-told
 returns-clause-told g c = ok_on c.leave.result

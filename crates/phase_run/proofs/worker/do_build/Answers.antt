@@ -2,7 +2,8 @@ use Rattle.std.proofs.Common.{map}
 use Rattle.std.specs.Option.{option_copied}
 use Rattle.run_order.specs.Lists.{Cut}
 use Rattle.build_host.specs.Builds.{IsBuild}
-use Rattle.phase_run.proofs.Results.{on_err}
+use Rattle.phase_run.proofs.Builds.{build_calm}
+use Rattle.phase_run.proofs.Results.{on_err, ok_on}
 use Rattle.phase_run.proofs.Commanded.{ended_build, ready_to_build, stopped_build}
 use Rattle.phase_run.proofs.worker.do_build.Goals as goal
 
@@ -14,4 +15,8 @@ returns-in_err-answer-clause-done g c = on_err _ _ c.from_residual.result c.from
     (stopped_build (Cut (IsBuild g.M.Meanings.meaning 1 c.args.kind (option_copied c.args.project))) c.args.core.now c.build.new.core c.in_err-answer.ensures.cut c.in_err-answer.ensures.goes c.requires.work)
 
 pub returns-clause-done : goal.returns-clause-done
-returns-clause-done g c = ended_build (IsBuild g.M.Meanings.meaning 1 c.args.kind (option_copied c.args.project)) c.ended.result c.args.core.now c.build.new.core c.in_ok-answer.ensures.made c.in_ok-answer.ensures.home c.in_ok-answer.ensures.goes c.requires.work
+returns-clause-done g c = ended_build (IsBuild g.M.Meanings.meaning 1 c.args.kind (option_copied c.args.project)) c.ended.result c.args.core.now c.build.new.core c.in_ok-answer.ensures.made c.in_ok-answer.ensures.home c.in_ok-answer.ensures.goes
+    (ok_on c.ended.result
+    (build_calm g.M.Meanings.meaning c.args.kind (option_copied c.args.project) c.args.core.now c.build.new.core 0 c.in_ok-answer.ensures.answered.0 (map (λ b. g.B.Builder.tells b) c.args.builders.now) c.in_ok-answer.ensures.answered.1
+    (map (λ b. g.B.Builder.tells b) c.args.builders.now) (map (λ b. g.B.Builder.tells b) c.build.new.builders) c.in_ok-answer.ensures.goes c.settle.ensures.placed c.in_ok-answer.answer c.in_ok-answer.ensures.answered.2) c.ended.ensures.other)
+    c.requires.work

@@ -1,4 +1,4 @@
-use Rattle.ws_top.proofs.Lines.{line_3, line_8, line_9}
+use Rattle.ws_top.proofs.Lines.{line_3, line_9}
 use Rattle.ws_top.proofs.program.stop_unread.Goals as goal
 
 pub stop-requires : goal.stop-requires
@@ -6,6 +6,3 @@ stop-requires g c = line_3
 
 pub stop-requires-in-TooLong : goal.stop-requires-in-TooLong
 stop-requires-in-TooLong g c = line_9
-
-pub stop-requires-in-Memory : goal.stop-requires-in-Memory
-stop-requires-in-Memory g c = line_8
