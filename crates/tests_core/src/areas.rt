@@ -36,7 +36,7 @@ fn left_of(rt: &(impl Abort + AllocGlobal), disk: &MemDisk) -> Vec<u8> {
 /// An open gate, and zeros for the rest of a head.
 fn no_head(rt: &(impl Abort + AllocGlobal)) -> Vec<u8> {
     let mut bytes = must(rt, vec![in rt.alloc(); 0u8; 57]);
-    if let Some(gate) = bytes.first_mut() {
+    if let Some(gate) = bytes.get_mut(0) {
         *gate = 1;
     }
     bytes
@@ -64,7 +64,15 @@ fn ended(
     let disk = disk(rt, left, b"").failing_at(calls(rt, failing));
     let (builders, listeners) = (Vec::new(rt.alloc()), Vec::new(rt.alloc()));
     let outcome = run_over(rt, asked, &mut source, &mut sink, disk, builders, listeners);
-    let Outcome { status, areas, .. } = outcome;
+    let Outcome {
+        status,
+        history,
+        areas,
+        kit,
+        ..
+    } = outcome;
+    let_go(history);
+    let_go(kit);
     let mut out = Vec::new(rt.alloc());
     must(rt, put_counted(&mut out, "", u64::from(status)));
     must(rt, put_text(&mut out, "|"));
