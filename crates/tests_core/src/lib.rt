@@ -10,8 +10,11 @@
 //! - `operations`: operations over a tree, and the way back before each.
 //! - `scripts`: scripts read, copied and printed.
 //! - `runs`: the program over sources and sinks that fail at each call.
+//! - `areas`: the program over disks that fail at each call.
 #![tactic(auto)]
 
+#[cfg(test)]
+mod areas;
 #[cfg(test)]
 mod asserting;
 #[cfg(test)]

@@ -8,7 +8,7 @@ use delta_kind::Delta;
 use report_text::delta_lines;
 use std::alloc::Global;
 use std::process::Abort;
-use ws_outside::MemSink;
+use ws_outside::{MemDisk, MemSink};
 use ws_top::{Listener, Outcome};
 
 /// A listener that writes down what it is told, as far as memory suffices.
@@ -30,7 +30,7 @@ impl Listener for Note {
 }
 
 /// What comes of the script, where two listen.
-pub fn heard(rt: &(impl Abort + AllocGlobal), script: &str) -> Outcome<Note, Asked> {
+pub fn heard(rt: &(impl Abort + AllocGlobal), script: &str) -> Outcome<MemDisk, Note, Asked> {
     let mut listeners = Vec::new(rt.alloc());
     for _ in 0..2_u64 {
         let note = Note {

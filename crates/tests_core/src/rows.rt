@@ -20,6 +20,11 @@ pub fn number(text: &str) -> u64 {
     }
 }
 
+/// The text, in which `/` ends a line.
+pub fn lines_of(rt: &(impl Abort + AllocGlobal), text: &str) -> String {
+    must(rt, text.replace(rt.alloc(), "/", "\n"))
+}
+
 pub fn script(rt: &(impl Abort + AllocGlobal), text: &str) -> Script {
     let text = must(rt, Bytes::copy_from_slice(rt.alloc(), text.as_bytes()));
     must(rt, parse_shared(rt.alloc(), text))

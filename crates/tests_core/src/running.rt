@@ -4,10 +4,10 @@ use crate::builders::Asked;
 use crate::listening::Note;
 use builder_api::{Builders, Silent};
 use std::process::Abort;
-use ws_outside::{MemSink, MemSource};
-use ws_top::{Kit, Listeners, Outcome, top};
+use ws_outside::{Contents, MemDisk, MemSink, MemSource, Octets};
+use ws_top::{Areas, Kit, Listeners, Outcome, top};
 
-/// What comes of a run with these words, builders and listeners. Nothing is claimed of the builders.
+/// What comes of a run over empty areas, with these words, builders and listeners. Nothing is claimed of the builders.
 pub fn run(
     rt: &(impl Abort + AllocGlobal),
     asked: &str,
@@ -15,7 +15,21 @@ pub fn run(
     sink: &mut MemSink,
     builders: Vec<Asked>,
     listeners: Vec<Note>,
-) -> Outcome<Note, Asked> {
+) -> Outcome<MemDisk, Note, Asked> {
+    let disk = disk(rt, b"", b"");
+    run_over(rt, asked, source, sink, disk, builders, listeners)
+}
+
+/// The same over the areas of this disk.
+pub fn run_over(
+    rt: &(impl Abort + AllocGlobal),
+    asked: &str,
+    source: &mut MemSource,
+    sink: &mut MemSink,
+    disk: MemDisk,
+    builders: Vec<Asked>,
+    listeners: Vec<Note>,
+) -> Outcome<MemDisk, Note, Asked> {
     let mut words = Vec::new(rt.alloc());
     for word in asked.split(' ') {
         must(rt, words.push(must(rt, String::from_str(rt.alloc(), word))));
@@ -24,7 +38,24 @@ pub fn run(
         builders: Builders::of(builders),
         listeners: Listeners::of(listeners),
     };
-    top::<MemSource, MemSink, Note, Asked, Silent>(rt.alloc(), words.as_slice(), source, sink, kit)
+    let areas = Areas { disk };
+    top::<MemSource, MemSink, MemDisk, Note, Asked, Silent>(
+        rt.alloc(),
+        words.as_slice(),
+        source,
+        sink,
+        areas,
+        kit,
+    )
+}
+
+/// A disk that holds these bytes.
+pub fn disk(rt: &(impl Abort + AllocGlobal), left: &[u8], right: &[u8]) -> MemDisk {
+    let first = Contents {
+        left: must(rt, Octets::of(rt.alloc(), left)),
+        right: must(rt, Octets::of(rt.alloc(), right)),
+    };
+    must(rt, MemDisk::new(rt.alloc(), first))
 }
 
 /// A source of the text.

@@ -1,6 +1,6 @@
 //! The program over sources and sinks in memory.
 use crate::asserting::{let_go, must, reads};
-use crate::rows::{cut, number};
+use crate::rows::{cut, lines_of, number};
 use crate::running;
 use report_text::{put_counted, put_text};
 use std::process::Abort;
@@ -29,14 +29,12 @@ run a b|phase/|9|1|6 0 2 2|status 6 line\u{20}
 run a b|phase/|1|0|3 0 2 1|
 run a a|phase/|0|9|2 0 0 1|status 2/
 run a|phase/|0|0|2 0 0 1|
---help|phase/|0|9|0 0 0 8|wsrun run A B//Runs the script on standard input, with the area files A and B, and prints what was done./
+check a b|phase/|0|9|0 0 0 5|left closed/right closed/chosen none/elements 1/status 0/
+check a b|phase/|0|1|4 0 0 2|left closed/ri
+check a a|phase/|0|9|2 0 0 1|status 2/
+--help|phase/|0|9|0 0 0 14|wsrun run A B//Runs the script on standard input, on the workspace that the area files A and B hold, and prints what was done.//wsrun check A B//Prints what the area files A and B hold./
 --version|phase/|0|9|0 0 0 1|wsrun 0.1.0/
 --version|phase/|0|0|4 0 0 1|";
-
-/// The text, in which `/` ends a line.
-fn lines_of(rt: &(impl Abort + AllocGlobal), text: &str) -> String {
-    must(rt, text.replace(rt.alloc(), "/", "\n"))
-}
 
 /// The call of this number is to fail.
 fn call(rt: &(impl Abort + AllocGlobal), number_text: &str) -> Vec<u64> {

@@ -1,5 +1,5 @@
-//! The program: its words, standard input, standard output and the standard builders go to `answer`, with whose status it
-//! ends.
+//! The program: its words, standard input, standard output, the area files and the standard builders go to `answer`, with
+//! whose status it ends.
 #![tactic(auto)]
 
 ghost use Rattle.std.specs.Prelude.{◌≡◌, map, None};
@@ -14,8 +14,11 @@ use std::alloc::{AllocError, Global};
 use std::process::ExitCode;
 use std::{env, io, mem};
 use std_builders::{Standard, StandardBuilder, standard_builders};
-use ws_outside::{StdSink, StdSource};
-use ws_top::{Kit, Listener, Listeners, Outcome, answer};
+use ws_outside::{FileDisk, StdSink, StdSource};
+use ws_top::{Areas, Kit, Listener, Listeners, Outcome, answer};
+
+/// The two area files.
+type Files = FileDisk<HostRuntime>;
 
 /// A listener that keeps nothing. The program has none.
 #[derive(Drop)]
@@ -32,15 +35,20 @@ fn main(rt: HostRuntime) -> ExitCode {
     let mut source = StdSource::new(rt.stdin());
     let mut sink = StdSink::new(rt.stdout());
     let (builders, words) = brought(&rt, alloc);
+    let (words, left, right) = named(alloc, words);
+    let areas = Areas {
+        disk: FileDisk::new(rt, left, right),
+    };
     let kit = Kit {
         builders,
         listeners: Listeners::<Nobody>::of(Vec::new(alloc)),
     };
-    ended(answer::<StdSource, StdSink, Nobody, StandardBuilder, Standard>(
+    ended(answer::<StdSource, StdSink, Files, Nobody, StandardBuilder, Standard>(
         alloc,
         words,
         &mut source,
         &mut sink,
+        areas,
         kit,
     ))
 }
@@ -61,7 +69,7 @@ fn brought(
 
 /// The status with which the program ends. What was done is not let go entry by entry: the system takes the memory back
 /// at once.
-fn ended(outcome: Outcome<Nobody, StandardBuilder>) -> ExitCode
+fn ended(outcome: Outcome<Files, Nobody, StandardBuilder>) -> ExitCode
     ensures { exit_status result ≡ outcome.status }
 {
     let Outcome {
@@ -71,6 +79,36 @@ fn ended(outcome: Outcome<Nobody, StandardBuilder>) -> ExitCode
     } = outcome;
     mem::forget(history);
     ExitCode::from(code)
+}
+
+/// The words, and the names of the area files. Where memory wants for the names, it wants for the words too.
+fn named(
+    alloc: Global,
+    words: Result<Vec<String>, AllocError>,
+) -> (Result<Vec<String>, AllocError>, String, String) {
+    match names_in(alloc, words) {
+        Ok((words, left, right)) => (Ok(words), left, right),
+        Err(wanted) => (Err(wanted), String::new(alloc), String::new(alloc)),
+    }
+}
+
+/// The words, and of those behind the first one the two that name the area files.
+fn names_in(
+    alloc: Global,
+    words: Result<Vec<String>, AllocError>,
+) -> Result<(Vec<String>, String, String), AllocError> {
+    let words = words?;
+    let left = word_at(alloc, words.as_slice(), 1)?;
+    let right = word_at(alloc, words.as_slice(), 2)?;
+    Ok((words, left, right))
+}
+
+/// The word at this place, empty where there are fewer: no area is opened then.
+fn word_at(alloc: Global, words: &[String], at: usize) -> Result<String, AllocError> {
+    match words.get(at) {
+        Some(word) => String::from_str(alloc, word.as_str()),
+        None => Ok(String::new(alloc)),
+    }
 }
 
 /// The words that the program was called with, without its name: none where one of them is no UTF-8.
