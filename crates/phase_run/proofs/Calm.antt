@@ -8,15 +8,15 @@ use Rattle.run_order.specs.Alone.{IsCommand}
 use Rattle.build_history.proofs.Lists.{all_append}
 use Rattle.phase_run.specs.Calm.{IsCalm, wants_memory}
 
--- by entries that are calm
+-- one stays so where calm entries are added
 pub calm_more : (h h' l : List Entry) → h' ≡ h ++ l → IsCalm l → IsCalm h → IsCalm h'
 calm_more h h' l is more calm = subst IsCalm (sym is) (all_append (λ (x : Entry). wants_memory x.event ≡ false) h l calm more)
 
--- by one of them
+-- where one is
 pub calm_entry : (h h' : List Entry) (x : Entry) → h' ≡ h ++ x ∷ [] → wants_memory x.event ≡ false → IsCalm h → IsCalm h'
 calm_entry h h' x is none calm = calm_more h h' (x ∷ []) is (none, tt) calm
 
--- by one that is written, unless it is an attempt
+-- and where one is written, which an attempt isn't
 pub calm_written : (h h' : List Entry) (x : Entry) → h' ≡ written h x → wants_memory x.event ≡ false → IsCalm h → IsCalm h'
 calm_written h h' x is none calm = subst IsCalm (sym is) (by (only_tried x))
   where
