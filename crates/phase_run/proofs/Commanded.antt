@@ -143,7 +143,7 @@ module _ (Make : Making Command) (some : (c : Command) → (l : List Entry) × M
             (h ∙ written_more b.history x (finish_tried b.state 1)) ∙ (ap (λ l. l ++ x ∷ []) w.grew.1 ∙ append_assoc a.history w.grew.0 (x ∷ [])),
             record { body = w.grew.0; finished = x.reply; are = refl; made = w.grew.2 },
           );
-          calm = λ before. calm_written b.history c.history x h refl (w.calm before);
+          calm = λ calm. calm_written b.history c.history x h refl (w.calm calm);
           ready = subst IsReady (sym s) (record { zeroth = zeroth_stays b.state Finish w.at_work.zeroth; idle = finish_idles b.state w.at_work.name w.at_work.busy });
         };
         left = omega (arith, le, before, now);

@@ -48,8 +48,8 @@ zeroth_there s first = ap (λ (m : JobManager). has_pass m.passes 0) first ∙ a
     none = empty
 
 -- once the worker was let in, it has nothing
-entered : (s : Moment) → s.manager ≡ first_manager → IsIdle (step s 0 Enter).0.manager
-entered s first = subst IsIdle (sym (step_manager s 0 Enter refl ∙ ap (λ m. (outcome m 0 Enter).0) first ∙ sym (step_manager fresh 0 Enter refl))) (entered_idle [])
+worker_idle : (s : Moment) → s.manager ≡ first_manager → IsIdle (step s 0 Enter).0.manager
+worker_idle s first = subst IsIdle (sym (step_manager s 0 Enter refl ∙ ap (λ (m : JobManager). (outcome m 0 Enter).0) first ∙ sym (step_manager fresh 0 Enter refl))) (entered_idle [])
 
 pub did_enter : (a b : Session) → a.state ≡ a.opened → a.opened.manager ≡ first_manager → b.opened ≡ a.opened → b.state ≡ (step a.state 0 Enter).0 → b.history ≡ written a.history (entry_of a.state 0 Enter) → Makes (λ h. acts h ≡ (0, Enter) ∷ []) a b
 did_enter a b at f o s h =
@@ -60,7 +60,7 @@ did_enter a b at f o s h =
       calm = calm_written a.history b.history (entry_of a.state 0 Enter) h refl;
       ready = subst IsReady (sym s) (record {
         zeroth = step_stays a.state 0 Enter 0 (λ leaves. absurd (not_leave leaves)) (ap (has_entered 0) at ∙ zeroth_there a.opened f);
-        idle = entered a.state (ap (λ (m : Moment). m.manager) at ∙ f);
+        idle = worker_idle a.state (ap (λ (m : Moment). m.manager) at ∙ f);
       });
     }
   where

@@ -132,12 +132,13 @@ fn run_all<L: Listener, B: Builder, M: Meanings>(
     leave(core, alloc, listeners)
 }
 
-/// Runs the phases of a script on a workspace that was just opened, a fresh one or one from what was kept, by one worker,
-/// and tells listeners after each phase what it told. The workspace has the names of the builders, which its builds call,
-/// and they mean what is told of them. Without a phase nothing is done. The run stops where it is where memory wants, and
-/// after a build that ended for want of memory, so that in a run that came to its end no build did: the worker is still
-/// there, if it had entered, and the listeners were told what some beginning of the history tells. The builders are the
-/// same ones, and mean what they meant.
+/// Runs the phases of a script by one worker, on a workspace that was just opened: a fresh one, or one from what was
+/// kept. Listeners are told after each phase what it told. The workspace has the names of the builders, which its
+/// builds call, and these have the meanings that are claimed for them. Without a phase nothing is done.
+///
+/// The run stops where memory wants, and behind a build that ended for want of memory: so in a run that came to its
+/// end no build did. Where it stopped the worker is still there, if it had entered, and the listeners were told what
+/// some beginning of the history tells. The builders are the same ones, and mean what they meant.
 ///
 /// A phase costs n log n steps for its n jobs, beside what their commands cost.
 pub fn run_phases<L: Listener, B: Builder, M: Meanings>(

@@ -45,7 +45,7 @@ pub returns-then-is_empty-clause-calm : goal.returns-then-is_empty-clause-calm
 returns-then-is_empty-clause-calm g c = subst IsCalm (sym c.requires.history) tt
 
 pub returns-clause-calm : goal.returns-clause-calm
-returns-clause-calm g c = ok_on c.leave.result (λ left. left (c.in_ok-run_each.ensures.done.calm (c.in_ok-enter.ensures.made.calm (subst IsCalm (sym c.requires.history) tt)))) c.leave.ensures.calm
+returns-clause-calm g c = ok_on c.leave.result (λ (left : IsCalm c.run_each.new.core.history → IsCalm c.leave.new.core.history). left (c.in_ok-run_each.ensures.done.calm (c.in_ok-enter.ensures.made.calm (subst IsCalm (sym c.requires.history) tt)))) c.leave.ensures.calm
 
 pub returns-clause-told : goal.returns-clause-told
 returns-clause-told g c = ok_on c.leave.result
