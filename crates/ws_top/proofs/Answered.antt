@@ -267,7 +267,7 @@ none_touches form e (inr k) = not_none form Check k e
 
 -- what the words ask touches the areas, or the status says that it didn't come to that
 pub touched_idle : {D : Type 0} {x y : D} (form : Option Form) (n : ℕ) → Touches form → (WasIdle n → x ≡ y) → (Touches form → ⊥) ⊎ WasIdle n → x ≡ y
-touched_idle form n touches idle (inl no) = absurd (no touches)
+touched_idle form n touches idle (inl untouched) = absurd (untouched touches)
 touched_idle form n touches idle (inr w) = idle w
 
 -- the words ask for a run

@@ -15,7 +15,7 @@ use Rattle.ws_top.specs.Texts.{check_text}
 
 -- a text whose writing didn't fail was told whole
 told_well : (text : List ℕ) (a b : Option (List ℕ)) (f g n : ℕ) → Tells text a b f g n → (Rose f g → ⊥) → (n ≡ 0) ⊎ (n ≡ 8)
-told_well text a b f g n (inl (e, _)) good = inl e
+told_well text a b f g n (inl (e, _, _)) good = inl e
 told_well text a b f g n (inr (_, _, rose)) good = absurd (good rose)
 
 -- what was found was told, or memory wanted

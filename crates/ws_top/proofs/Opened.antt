@@ -60,12 +60,12 @@ unopened_never kept seen a b f g n s h e five seven eight = record {
     none (inr k) = apart n s 7 e k seven
 
 pub told_status : (text : List ℕ) (a b : Option (List ℕ)) (f g n : ℕ) → Tells text a b f g n → WasRun n
-told_status text a b f g n (inl (e, _)) = inl e
-told_status text a b f g n (inr (e, _)) = inr e
+told_status text a b f g n (inl (e, _, _)) = inl e
+told_status text a b f g n (inr (e, _, _)) = inr e
 
 pub told_unopened : (text : List ℕ) (kept : Option Durable) (seen : Option Contents) (a b : Option (List ℕ)) (f g n : ℕ) (h : List Entry) → Tells text a b f g n → TellsUnopened kept seen a b f g n h
-told_unopened text kept seen a b f g n h (inl (e, _)) = unopened_never kept seen a b f g n 0 h e (λ k. omega (arith, k)) (λ k. omega (arith, k)) (λ k. omega (arith, k))
-told_unopened text kept seen a b f g n h (inr (e, _)) = unopened_never kept seen a b f g n 4 h e (λ k. omega (arith, k)) (λ k. omega (arith, k)) (λ k. omega (arith, k))
+told_unopened text kept seen a b f g n h (inl (e, _, _)) = unopened_never kept seen a b f g n 0 h e (λ k. omega (arith, k)) (λ k. omega (arith, k)) (λ k. omega (arith, k))
+told_unopened text kept seen a b f g n h (inr (e, _, _)) = unopened_never kept seen a b f g n 4 h e (λ k. omega (arith, k)) (λ k. omega (arith, k)) (λ k. omega (arith, k))
 
 refused_ends : (e : OpenFault) (a b : Option (List ℕ)) (f g n : ℕ) → Refuses e a b f g n → WasUnopened n ⊎ (n ≡ 8)
 refused_ends Disk a b f g n (five, w) = inl (inl five)

@@ -1,5 +1,5 @@
 -- What a response tells of the bytes that were read.
-use Rattle.std.proofs.Common.{◌≡◌, ◌⊎◌, inl, inr, ℕ, true, List, [], Option, sym, subst}
+use Rattle.std.proofs.Common.{◌≡◌, ◌⊎◌, inl, inr, ℕ, true, List, [], Option, None, sym, subst}
 use Rattle.std.specs.Prelude.{Result, Err, MatchResult}
 use Rattle.script_lang.specs.declared.script.Script.{Script}
 use Rattle.script_words.specs.declared.error.ScriptError.{ScriptError}
@@ -46,28 +46,28 @@ responds_script ms kept opened bytes script a b f g n h spelled (inr r) = inr (i
 -- memory wanted before anything was done
 pub responds_nothing : (ms : Meanings) (kept : Option Durable) (told : List Told) (bytes : List ℕ) (a b : Option (List ℕ)) (f g n : ℕ) (h : List Entry) → n ≡ 8 → h ≡ [] → kept ≡ None → Writes a b f g (status_line 8)
     → Responds ms kept (opened_state kept told) bytes a b f g n h
-responds_nothing ms kept told bytes a b f g n h e z no w = let opened = opened_state kept told in
-    inl (performs_none (Spelled (Shuffle ms opened) bytes) (Spelled (CutShuffle ms opened) bytes) (Spelled (StoppedShuffle ms opened) bytes) kept opened a b f g n h (performs_nothing kept told a b f g n h e z no w))
+responds_nothing ms kept told bytes a b f g n h e z unkept w = let opened = opened_state kept told in
+    inl (performs_none (Spelled (Shuffle ms opened) bytes) (Spelled (CutShuffle ms opened) bytes) (Spelled (StoppedShuffle ms opened) bytes) kept opened a b f g n h (performs_nothing kept told a b f g n h e z unkept w))
 
 -- the first bad line was told, or memory wanted for it
 pub responds_bad : (ms : Meanings) (kept : Option Durable) (told : List Told) (bytes : List ℕ) (line : ℕ) (a b : Option (List ℕ)) (f g n : ℕ) (h : List Entry) → SpellsNone bytes → IsFirstBad bytes line
     → SaysBadLine line a b f g n → h ≡ [] → kept ≡ None → Responds ms kept (opened_state kept told) bytes a b f g n h
-responds_bad ms kept told bytes line a b f g n h none place (inl (e, w)) z no = inr (inl (record { ends = e; none = none; nothing = z; line = line; place = place; written = w }))
-responds_bad ms kept told bytes line a b f g n h none place (inr (e, w)) z no = responds_nothing ms kept told bytes a b f g n h e z no w
+responds_bad ms kept told bytes line a b f g n h none place (inl (e, w)) z unkept = inr (inl (record { ends = e; none = none; nothing = z; line = line; place = place; written = w }))
+responds_bad ms kept told bytes line a b f g n h none place (inr (e, w)) z unkept = responds_nothing ms kept told bytes a b f g n h e z unkept w
 
 -- memory wanted before a script that is one was run
 pub performs_wanted : (ms : Meanings) (kept : Option Durable) (told : List Told) (script : Script) (a b : Option (List ℕ)) (f g n : ℕ) (h : List Entry) → n ≡ 8 → h ≡ [] → kept ≡ None → Writes a b f g (status_line 8)
     → Performs (Shuffle ms (opened_state kept told) script) (CutShuffle ms (opened_state kept told) script) (StoppedShuffle ms (opened_state kept told) script) kept (opened_state kept told) a b f g n h
-performs_wanted ms kept told script a b f g n h e z no w = let opened = opened_state kept told in
-    performs_none (Shuffle ms opened script) (CutShuffle ms opened script) (StoppedShuffle ms opened script) kept opened a b f g n h (performs_nothing kept told a b f g n h e z no w)
+performs_wanted ms kept told script a b f g n h e z unkept w = let opened = opened_state kept told in
+    performs_none (Shuffle ms opened script) (CutShuffle ms opened script) (StoppedShuffle ms opened script) kept opened a b f g n h (performs_nothing kept told a b f g n h e z unkept w)
 
 -- the areas couldn't be read, or memory wanted
 pub performs_refused : (ms : Meanings) (kept : Option Durable) (told : List Told) (script : Script) (e : OpenFault) (a b : Option (List ℕ)) (f g n : ℕ) (h : List Entry) → Refuses e a b f g n → h ≡ [] → kept ≡ None
     → Performs (Shuffle ms (opened_state kept told) script) (CutShuffle ms (opened_state kept told) script) (StoppedShuffle ms (opened_state kept told) script) kept (opened_state kept told) a b f g n h ⊎ IsRefused n h
-performs_refused ms kept told script fault.Disk a b f g n h (five, w) z no = inr (record { ends = inl five; nothing = z })
-performs_refused ms kept told script (fault.Damaged damage) a b f g n h (inl (seven, w)) z no = inr (record { ends = inr seven; nothing = z })
-performs_refused ms kept told script (fault.Damaged damage) a b f g n h (inr (eight, w)) z no = inl (performs_wanted ms kept told script a b f g n h eight z no w)
-performs_refused ms kept told script fault.Memory a b f g n h (eight, w) z no = inl (performs_wanted ms kept told script a b f g n h eight z no w)
+performs_refused ms kept told script fault.Disk a b f g n h (five, w) z unkept = inr (record { ends = inl five; nothing = z })
+performs_refused ms kept told script (fault.Damaged damage) a b f g n h (inl (seven, w)) z unkept = inr (record { ends = inr seven; nothing = z })
+performs_refused ms kept told script (fault.Damaged damage) a b f g n h (inr (eight, w)) z unkept = inl (performs_wanted ms kept told script a b f g n h eight z unkept w)
+performs_refused ms kept told script fault.Memory a b f g n h (eight, w) z unkept = inl (performs_wanted ms kept told script a b f g n h eight z unkept w)
 
 -- the whole script was run
 pub performed : (ms : Meanings) (kept : Option Durable) (opened : Moment) (new : Session) (script : Script) (a b : Option (List ℕ)) (f g n : ℕ) (h : List Entry) → new.opened ≡ opened → Shuffle ms opened script new.history
