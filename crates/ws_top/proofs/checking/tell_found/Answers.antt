@@ -6,5 +6,5 @@ pub returns-in-Ok-clause-tells : goal.returns-in-Ok-clause-tells
 returns-in-Ok-clause-tells g c = inl (subst (λ text. Tells text (g.K.Sink.written c.args.sink.now) (g.K.Sink.written c.tell.new.sink) (g.K.Sink.faults c.args.sink.now) (g.K.Sink.faults c.tell.new.sink) c.tell.result.status)
     (c.as_slice.ensures.value ∙ c.in-Ok.ensures) c.tell.ensures.tells)
 
-pub returns-clause-tells : goal.returns-clause-tells
-returns-clause-tells g c = inr (c.want.ensures.status, c.want.ensures.line)
+pub returns-in-Err-clause-tells : goal.returns-in-Err-clause-tells
+returns-in-Err-clause-tells g c = inr (c.want.ensures.status, c.want.ensures.line)

@@ -1,7 +1,6 @@
-use Rattle.std.proofs.Common.{sym, ◌∙◌}
 use Rattle.ws_durable.specs.Saved.{saved}
 use Rattle.open_laws.proofs.Opens.{valid_opens}
 use Rattle.ws_top.proofs.opening.with_builders.Goals as goal
 
-pub of-core-requires : goal.of-core-requires
-of-core-requires g c = valid_opens (saved c.args.durable) c.requires.valid
+pub of-requires : goal.of-requires
+of-requires c = valid_opens (saved c.args.durable) c.requires.valid
