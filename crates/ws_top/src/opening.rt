@@ -20,10 +20,7 @@ use ws_durable::Durable;
 use ws_outside::Disk;
 
 /// Opens the areas, and gives the state that they hold. They are brought to the device, and hold what they held.
-pub fn open_areas<D: Disk>(
-    alloc: Global,
-    areas: Areas<D>,
-) -> (Result<Durable, OpenFault>, Areas<D>)
+pub fn open_areas<D: Disk>(alloc: Global, areas: Areas<D>) -> (Result<Durable, OpenFault>, Areas<D>)
     ensures opens { Opens D.moment D.left_since D.may_leave D.seen D.faults areas.disk result.1.disk result.0 }
     ensures valid { IfOk result.0 (λ d. Valid (saved d)) }
 {

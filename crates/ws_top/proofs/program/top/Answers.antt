@@ -20,8 +20,8 @@ returns-in-None g c =
     let same = ap (λ areas. areas.disk) out.ensures.areas in
     let stays = stays_same g.D.Disk.moment g.D.Disk.left_since g.D.Disk.may_leave g.D.Disk.seen g.met.D.Disk.only_now c.args.areas.disk out.result.areas.disk same in
     let p = program_usage g.M.Meanings.meaning out.result.kept (map (λ b. g.B.Builder.tells b) c.args.kit.builders) (form_of (map string_bytes c.args.words.now)) (g.S.Source.left c.args.source.now) (g.S.Source.reads c.args.source.now) (g.S.Source.faults c.args.source.now)
-        (g.D.Disk.seen c.args.areas.disk) (g.D.Disk.faults c.args.areas.disk) (g.D.Disk.faults c.stop.result.areas.disk) (g.K.Sink.written c.args.sink.now) (g.K.Sink.written c.stop.new.sink) (g.K.Sink.faults c.args.sink.now) (g.K.Sink.faults c.stop.new.sink) out.result.status out.result.history
-        (sym c.form_of.ensures ∙ c.in-None.is) (ap g.D.Disk.faults same) out.ensures.none out.ensures.status out.ensures.nothing out.ensures.line in record {
+    (g.D.Disk.seen c.args.areas.disk) (g.D.Disk.faults c.args.areas.disk) (g.D.Disk.faults c.stop.result.areas.disk) (g.K.Sink.written c.args.sink.now) (g.K.Sink.written c.stop.new.sink) (g.K.Sink.faults c.args.sink.now) (g.K.Sink.faults c.stop.new.sink) out.result.status out.result.history
+    (sym c.form_of.ensures ∙ c.in-None.is) (ap g.D.Disk.faults same) out.ensures.none out.ensures.status out.ensures.nothing out.ensures.line in record {
       status = p.ends;
       usage = p.usage;
       read_fault = p.read_fault;
@@ -55,8 +55,8 @@ returns-in-Some-Help g c =
     let same = ap (λ areas. areas.disk) out.ensures.areas in
     let stays = stays_same g.D.Disk.moment g.D.Disk.left_since g.D.Disk.may_leave g.D.Disk.seen g.met.D.Disk.only_now c.args.areas.disk out.result.areas.disk same in
     let p = program_help g.M.Meanings.meaning out.result.kept (map (λ b. g.B.Builder.tells b) c.args.kit.builders) (form_of (map string_bytes c.args.words.now)) (g.S.Source.left c.args.source.now) (g.S.Source.reads c.args.source.now) (g.S.Source.faults c.args.source.now)
-        (g.D.Disk.seen c.args.areas.disk) (g.D.Disk.faults c.args.areas.disk) (g.D.Disk.faults c.tell.result.areas.disk) (g.K.Sink.written c.args.sink.now) (g.K.Sink.written c.tell.new.sink) (g.K.Sink.faults c.args.sink.now) (g.K.Sink.faults c.tell.new.sink) out.result.status out.result.history
-        (sym c.form_of.ensures ∙ c.in-Some-Help.is ∙ ap Some c.in-Some-Help.field-0-is) (ap g.D.Disk.faults same) out.ensures.none (subst (λ text. Tells text (g.K.Sink.written c.args.sink.now) (g.K.Sink.written c.tell.new.sink) (g.K.Sink.faults c.args.sink.now) (g.K.Sink.faults c.tell.new.sink) c.tell.result.status) c.as_bytes.ensures.value c.tell.ensures.tells) out.ensures.nothing in record {
+    (g.D.Disk.seen c.args.areas.disk) (g.D.Disk.faults c.args.areas.disk) (g.D.Disk.faults c.tell.result.areas.disk) (g.K.Sink.written c.args.sink.now) (g.K.Sink.written c.tell.new.sink) (g.K.Sink.faults c.args.sink.now) (g.K.Sink.faults c.tell.new.sink) out.result.status out.result.history
+    (sym c.form_of.ensures ∙ c.in-Some-Help.is ∙ ap Some c.in-Some-Help.field-0-is) (ap g.D.Disk.faults same) out.ensures.none (subst (λ text. Tells text (g.K.Sink.written c.args.sink.now) (g.K.Sink.written c.tell.new.sink) (g.K.Sink.faults c.args.sink.now) (g.K.Sink.faults c.tell.new.sink) c.tell.result.status) c.as_bytes.ensures.value c.tell.ensures.tells) out.ensures.nothing in record {
       status = p.ends;
       usage = p.usage;
       read_fault = p.read_fault;
@@ -90,8 +90,8 @@ returns-in-Some-Version g c =
     let same = ap (λ areas. areas.disk) out.ensures.areas in
     let stays = stays_same g.D.Disk.moment g.D.Disk.left_since g.D.Disk.may_leave g.D.Disk.seen g.met.D.Disk.only_now c.args.areas.disk out.result.areas.disk same in
     let p = program_version g.M.Meanings.meaning out.result.kept (map (λ b. g.B.Builder.tells b) c.args.kit.builders) (form_of (map string_bytes c.args.words.now)) (g.S.Source.left c.args.source.now) (g.S.Source.reads c.args.source.now) (g.S.Source.faults c.args.source.now)
-        (g.D.Disk.seen c.args.areas.disk) (g.D.Disk.faults c.args.areas.disk) (g.D.Disk.faults c.tell-in-Some-Version.result.areas.disk) (g.K.Sink.written c.args.sink.now) (g.K.Sink.written c.tell-in-Some-Version.new.sink) (g.K.Sink.faults c.args.sink.now) (g.K.Sink.faults c.tell-in-Some-Version.new.sink) out.result.status out.result.history
-        (sym c.form_of.ensures ∙ c.in-Some-Version.is ∙ ap Some c.in-Some-Version.field-0-is) (ap g.D.Disk.faults same) out.ensures.none (subst (λ text. Tells text (g.K.Sink.written c.args.sink.now) (g.K.Sink.written c.tell-in-Some-Version.new.sink) (g.K.Sink.faults c.args.sink.now) (g.K.Sink.faults c.tell-in-Some-Version.new.sink) c.tell-in-Some-Version.result.status) c.as_bytes-in-Some-Version.ensures.value c.tell-in-Some-Version.ensures.tells) out.ensures.nothing in record {
+    (g.D.Disk.seen c.args.areas.disk) (g.D.Disk.faults c.args.areas.disk) (g.D.Disk.faults c.tell-in-Some-Version.result.areas.disk) (g.K.Sink.written c.args.sink.now) (g.K.Sink.written c.tell-in-Some-Version.new.sink) (g.K.Sink.faults c.args.sink.now) (g.K.Sink.faults c.tell-in-Some-Version.new.sink) out.result.status out.result.history
+    (sym c.form_of.ensures ∙ c.in-Some-Version.is ∙ ap Some c.in-Some-Version.field-0-is) (ap g.D.Disk.faults same) out.ensures.none (subst (λ text. Tells text (g.K.Sink.written c.args.sink.now) (g.K.Sink.written c.tell-in-Some-Version.new.sink) (g.K.Sink.faults c.args.sink.now) (g.K.Sink.faults c.tell-in-Some-Version.new.sink) c.tell-in-Some-Version.result.status) c.as_bytes-in-Some-Version.ensures.value c.tell-in-Some-Version.ensures.tells) out.ensures.nothing in record {
       status = p.ends;
       usage = p.usage;
       read_fault = p.read_fault;
@@ -125,8 +125,8 @@ returns-in-Some-Check g c =
     let is = sym c.form_of.ensures ∙ c.in-Some-Check.is ∙ ap Some c.in-Some-Check.field-0-is in
     let areas = out.ensures.areas in
     let p = program_check g.M.Meanings.meaning out.result.kept (map (λ b. g.B.Builder.tells b) c.args.kit.builders) (form_of (map string_bytes c.args.words.now)) (g.S.Source.left c.args.source.now) (g.S.Source.reads c.args.source.now) (g.S.Source.faults c.args.source.now)
-        (g.D.Disk.seen c.args.areas.disk) (g.D.Disk.faults c.args.areas.disk) (g.D.Disk.faults c.check.result.areas.disk) (g.K.Sink.written c.args.sink.now) (g.K.Sink.written c.check.new.sink) (g.K.Sink.faults c.args.sink.now) (g.K.Sink.faults c.check.new.sink) out.result.status out.result.history
-        is areas.fault areas.unopened areas.damaged out.ensures.none out.ensures.checks out.ensures.nothing in record {
+    (g.D.Disk.seen c.args.areas.disk) (g.D.Disk.faults c.args.areas.disk) (g.D.Disk.faults c.check.result.areas.disk) (g.K.Sink.written c.args.sink.now) (g.K.Sink.written c.check.new.sink) (g.K.Sink.faults c.args.sink.now) (g.K.Sink.faults c.check.new.sink) out.result.status out.result.history
+    is areas.fault areas.unopened areas.damaged out.ensures.none out.ensures.checks out.ensures.nothing in record {
       status = p.ends;
       usage = p.usage;
       read_fault = p.read_fault;
@@ -160,8 +160,8 @@ returns-in-Some-Run g c =
     let is = sym c.form_of.ensures ∙ c.in-Some-Run.is ∙ ap Some c.in-Some-Run.field-0-is in
     let areas = out.ensures.areas.areas in
     let p = program_run g.M.Meanings.meaning out.result.kept (map (λ b. g.B.Builder.tells b) c.args.kit.builders) (form_of (map string_bytes c.args.words.now)) (g.S.Source.left c.args.source.now) (g.S.Source.left c.run.new.source) (g.S.Source.reads c.args.source.now) (g.S.Source.reads c.run.new.source) (g.S.Source.faults c.args.source.now) (g.S.Source.faults c.run.new.source)
-        (g.D.Disk.seen c.args.areas.disk) (g.D.Disk.faults c.args.areas.disk) (g.D.Disk.faults c.run.result.areas.disk) (g.K.Sink.written c.args.sink.now) (g.K.Sink.written c.run.new.sink) (g.K.Sink.faults c.args.sink.now) (g.K.Sink.faults c.run.new.sink) out.result.status out.result.history
-        is out.ensures.ends areas.fault areas.unopened areas.damaged out.ensures.areas.state in record {
+    (g.D.Disk.seen c.args.areas.disk) (g.D.Disk.faults c.args.areas.disk) (g.D.Disk.faults c.run.result.areas.disk) (g.K.Sink.written c.args.sink.now) (g.K.Sink.written c.run.new.sink) (g.K.Sink.faults c.args.sink.now) (g.K.Sink.faults c.run.new.sink) out.result.status out.result.history
+    is out.ensures.ends areas.fault areas.unopened areas.damaged out.ensures.areas.state in record {
       status = p.ends;
       usage = p.usage;
       read_fault = p.read_fault;
