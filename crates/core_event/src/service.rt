@@ -3,12 +3,15 @@ ghost use Rattle.std.specs.Prelude.{◌≡◌, IfOk};
 
 use builder_api::{BuildKind, BuildOutcome, Edits};
 use res_path::{Name, NoMemory};
+use save_kind::{PartStates, SaveAnswer, SaveKind};
 
 /// For what a pass takes the services.
 #[derive(Drop)]
 pub enum Purpose {
     /// A build of this kind: of the project of this name, or of the whole workspace (`IProject.build`, `IWorkspace.build`).
     Build(BuildKind, Option<Name>),
+    /// A save of this kind (`IWorkspace.save`).
+    Save(SaveKind),
 }
 
 impl Purpose {
@@ -18,6 +21,7 @@ impl Purpose {
     {
         match self {
             Purpose::Build(kind, project) => Ok(Purpose::Build(*kind, project.clone()?)),
+            Purpose::Save(kind) => Ok(Purpose::Save(*kind)),
         }
     }
 }
@@ -26,6 +30,7 @@ impl Purpose {
 #[derive(Drop)]
 pub enum Outcomes {
     Build(BuildOutcome),
+    Save(SaveAnswer),
 }
 
 impl Outcomes {
@@ -35,14 +40,16 @@ impl Outcomes {
     {
         match self {
             Outcomes::Build(outcome) => Ok(Outcomes::Build(outcome.copy()?)),
+            Outcomes::Save(answer) => Ok(Outcomes::Save(answer.copy()?)),
         }
     }
 }
 
-/// What a pass may ask that concerns the services: the builders, which one pass at a time has.
+/// What a pass may ask that concerns the services: the builders, who takes part in saves and where saves go, which one pass
+/// at a time has.
 #[derive(Drop)]
 pub enum ServiceEvent {
-    /// The pass takes the services, for a build in the order that it is answered.
+    /// The pass takes the services, for a build in the order that it is answered, or for a save.
     Checkout(Purpose),
     /// The pass gives the services back, and tells how it went.
     CheckIn(Outcomes),
@@ -54,6 +61,9 @@ pub enum ServiceEvent {
     /// What the command of this number, from 0, of the project has made goes, and what is remembered of it
     /// (`IncrementalProjectBuilder.clean`).
     Clean(Name, u16),
+    /// These states of participants are kept from now on, each in the place of what its participant kept before, and each
+    /// with the tree as it is where it asks for what changes. What other participants keep stays.
+    Saving(PartStates),
 }
 
 impl ServiceEvent {
@@ -71,6 +81,7 @@ impl ServiceEvent {
             ServiceEvent::Clean(project, index) => {
                 Ok(ServiceEvent::Clean(project.copy()?, *index))
             }
+            ServiceEvent::Saving(states) => Ok(ServiceEvent::Saving(states.copy()?)),
         }
     }
 }

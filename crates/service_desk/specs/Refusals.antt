@@ -1,5 +1,5 @@
 -- Why what concerns the services is refused.
-use Rattle.std.specs.Prelude.{ℕ, Bool, not, nat_le, List, [], ◌∷◌, ◌++◌, length, Option, Some, None, slice_get, unwrap_or}
+use Rattle.std.specs.Prelude.{ℕ, Bool, not, ◌&&◌, nat_le, List, [], ◌∷◌, ◌++◌, length, Option, Some, None, slice_get, unwrap_or}
 use Rattle.std.specs.Option.{option_map}
 use Rattle.std.specs.List.{list_any}
 use Rattle.std.specs.Str.{bytes_eq}
@@ -20,6 +20,8 @@ use Rattle.op_kind.specs.Places.{is_shut}
 use Rattle.core_event.specs.declared.reply.Refusal.{Refusal}
 use Rattle.core_event.specs.declared.reply.Refusal.TheVariants.{NotContained, NotServices, NoBuilder, NoCommand, Operation, ServicesOut}
 use Rattle.build_plan.specs.Descriptions.{desc_at}
+use Rattle.service_desk.specs.declared.desk.Desk.{Desk}
+use Rattle.service_desk.specs.Desks.{is_building}
 
 -- the rule of the root
 abbrev pub root_rule : List WsAtom
@@ -36,9 +38,9 @@ unrooted held pass = unless_contained (unwrap_or (outer_rule pass held) [])
 abbrev pub services_out : Passes WsAtom → Option Refusal
 services_out passes = option_map ServicesOut passes.services
 
--- this pass hasn't them
-abbrev pub not_serving : Passes WsAtom → ℕ → Option Refusal
-not_serving passes pass = when (not (serves passes pass)) (NotServices passes.services)
+-- this pass hasn't them, or not for this
+abbrev pub not_serving : Passes WsAtom → Bool → ℕ → Option Refusal
+not_serving passes fits pass = when (not (serves passes pass && fits)) (NotServices passes.services)
 
 -- no project of this name is there, or it is closed
 abbrev pub project_causes : Tree → List ℕ → List (Option Refusal)
@@ -68,6 +70,6 @@ command_causes t builders project index =
     when (nat_le (length commands) index) (NoCommand (length commands)) ∷ no_builder builders (slice_get commands index) ∷ []
 
 -- why the command of this number of the project is neither built nor cleaned
-abbrev pub site_causes : Passes WsAtom → Tree → Names → ℕ → List ℕ → ℕ → List (Option Refusal)
-site_causes passes t builders pass project index =
-    not_serving passes pass ∷ unrooted passes.rules pass ∷ project_causes t project ++ command_causes t builders project index
+abbrev pub site_causes : Passes WsAtom → Tree → Desk → ℕ → List ℕ → ℕ → List (Option Refusal)
+site_causes passes t d pass project index =
+    not_serving passes (is_building d.serving) pass ∷ unrooted passes.rules pass ∷ project_causes t project ++ command_causes t d.builders project index

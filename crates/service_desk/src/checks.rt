@@ -6,10 +6,11 @@ ghost use Rattle.op_kind.specs.Places.{has_closed};
 ghost use Rattle.op_kind.specs.declared.refusal.OpRefusal.TheVariants.{ProjectClosed};
 ghost use Rattle.core_event.specs.declared.reply.Refusal.TheVariants as refusals;
 ghost use Rattle.service_desk.specs.Judging.{Judges};
+ghost use Rattle.service_desk.specs.Desks.{is_building};
 ghost use Rattle.service_desk.specs.Refusals.{command_causes, no_builder, not_serving, project_causes, scope_causes, services_out, site_causes, unless_contained, unrooted};
 ghost use Rattle.service_desk.specs.Sites.{site_in};
 
-use crate::desk::BuilderNames;
+use crate::desk::{BuilderNames, Desk};
 use crate::{NoMemory, ServiceError};
 use build_due::Site;
 use build_plan::description;
@@ -57,11 +58,15 @@ pub fn check_home(passes: &Passes<WsAtom>) -> Result<(), ServiceError>
     }
 }
 
-/// Refused where the pass hasn't the services.
-pub fn check_serving(passes: &Passes<WsAtom>, pass: u64) -> Result<(), ServiceError>
-    ensures { Judges (not_serving passes.now pass) result }
+/// Refused where the pass hasn't the services, or hasn't taken them for what it asks.
+pub fn check_serving(
+    passes: &Passes<WsAtom>,
+    fits: bool,
+    pass: u64,
+) -> Result<(), ServiceError>
+    ensures { Judges (not_serving passes.now fits pass) result }
 {
-    if passes.serves(pass) {
+    if passes.serves(pass) && fits {
         return Ok(());
     }
     refused(Refusal::NotServices(passes.services()))
@@ -128,24 +133,24 @@ pub fn site_in<T: TreeRep>(
 }
 
 /// The command of this number of the project, for a pass that is to have it built or cleaned. Refused where the pass hasn't
-/// the services, where it hasn't the rule of the root, where no such project is there or it is closed, where it has no such
+/// the services for a build, where it hasn't the rule of the root, where no such project is there or it is closed, where it has no such
 /// command, and where there is no builder for it.
 pub fn site_for<T: TreeRep>(
     alloc: Global,
     passes: &Passes<WsAtom>,
     tree: &T,
-    builders: &BuilderNames,
+    desk: &Desk,
     pass: u64,
     project: &Name,
     index: u16,
 ) -> Result<Site, ServiceError>
-    ensures judged { Judges (first_cause (site_causes passes.now (T.tree tree.now) builders.now pass project.now index)) result }
+    ensures judged { Judges (first_cause (site_causes passes.now (T.tree tree.now) desk.now pass project.now index)) result }
     ensures site { IfOk result (λ site. site_in (T.tree tree.now) project.now index ≡ Some site) }
 {
-    check_serving(passes, pass)?;
+    check_serving(passes, desk.is_building(), pass)?;
     check_rooted(alloc, passes, pass)?;
     check_project(alloc, tree, project)?;
-    command_for(alloc, tree, builders, project, index)
+    command_for(alloc, tree, &desk.builders, project, index)
 }
 
 /// The command of this number of the project. Refused where it has none such, and where there is no builder for it.

@@ -1,15 +1,17 @@
-//! The builders' names, and the command under way.
+//! The builders' names, the command under way, and what the services were taken for.
 ghost use Rattle.std.specs.Prelude.{◌≡◌, ◌∷◌, [], IfOk};
 ghost use Rattle.std.specs.List.{list_any};
 ghost use Rattle.std.specs.Str.{bytes_eq};
 ghost use Rattle.res_path.specs.Paths.{path_eq};
-ghost use Rattle.service_desk.specs.Desks.{desk_of, idle, left, site_of, stops, under_way};
+ghost use Rattle.service_desk.specs.Desks.{desk_of, has_kept, home, idle, is_building, is_saving, left, may_end, out_for, site_of, stops, taken_for, under_way, with_states};
 
 use crate::NoMemory;
 use crate::checks::site_in;
 use build_due::Site;
+use core_event::{Outcomes, Purpose};
 use op_kind::Op;
 use res_path::{Name, Path};
+use save_kind::SaveAnswer;
 use std::alloc::Global;
 use std::marker::Model;
 use ws_elem::TreeRep;
@@ -67,21 +69,101 @@ pub struct UnderWay {
     pub index: u16,
 }
 
-/// The names of the builders, and the command under way, if one is.
+/// For what a pass has taken the services.
+#[derive(Clone, Copy, Debug, PartialEq, Eq)]
+pub enum Serving {
+    Build,
+    /// A save, and whether states of participants were kept since it began.
+    Save(bool),
+}
+
+impl Serving {
+    /// As the services are taken for the purpose.
+    fn of(purpose: &Purpose) -> Serving
+        ensures { result ≡ taken_for purpose.now }
+    {
+        match purpose {
+            Purpose::Build(_, _) => Serving::Build,
+            Purpose::Save(_) => Serving::Save(false),
+        }
+    }
+}
+
+/// The names of the builders, the command under way, if one is, and what the services were taken for, where a pass has them.
 #[derive(Drop)]
 pub struct Desk {
     pub builders: BuilderNames,
     pub under: Option<UnderWay>,
+    pub serving: Option<Serving>,
 }
 
 impl Desk {
-    /// These builders, and no command under way. It takes no memory.
+    /// These builders, no command under way, and the services at home. It takes no memory.
     pub fn of(builders: BuilderNames) -> Desk
         ensures { result ≡ desk_of builders }
     {
         Desk {
             builders,
             under: None,
+            serving: None,
+        }
+    }
+
+    /// The services are taken for the purpose.
+    pub fn take_out(&mut self, purpose: &Purpose)
+        ensures { self.new ≡ out_for self.old purpose.now }
+    {
+        self.serving = Some(Serving::of(purpose));
+    }
+
+    /// In the save under way states are kept.
+    pub fn keep_states(&mut self)
+        ensures { self.new ≡ with_states self.old }
+    {
+        self.serving = Some(Serving::Save(true));
+    }
+
+    /// The services are at home again, and no command is under way.
+    pub fn put_back(&mut self)
+        ensures { self.new ≡ home self.old }
+    {
+        self.under = None;
+        self.serving = None;
+    }
+
+    /// Whether the services were taken for a build.
+    pub fn is_building(&self) -> bool
+        ensures { result ≡ is_building self.now.serving }
+    {
+        matches!(self.serving, Some(Serving::Build))
+    }
+
+    /// Whether the services were taken for a save.
+    pub fn is_saving(&self) -> bool
+        ensures { result ≡ is_saving self.now.serving }
+    {
+        matches!(self.serving, Some(Serving::Save(_)))
+    }
+
+    /// Whether the services were taken for a save, in which states were kept.
+    fn has_kept(&self) -> bool
+        ensures { result ≡ has_kept self.now.serving }
+    {
+        match self.serving {
+            Some(Serving::Save(kept)) => kept,
+            Some(Serving::Build) | None => false,
+        }
+    }
+
+    /// Whether the services may be given back so: a build ends as a build and a save as a save, and as saved only where
+    /// states were kept in it.
+    pub fn may_end(&self, outcome: &Outcomes) -> bool
+        ensures { result ≡ may_end self.now.serving outcome.now }
+    {
+        match outcome {
+            Outcomes::Build(_) => self.is_building(),
+            Outcomes::Save(SaveAnswer::Saved) => self.has_kept(),
+            Outcomes::Save(_) => self.is_saving(),
         }
     }
 

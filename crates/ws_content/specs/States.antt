@@ -1,11 +1,13 @@
 -- What is there, and what is remembered beside it.
-use Rattle.std.specs.Prelude.{List, map}
+use Rattle.std.specs.Prelude.{List, map, Option}
 use Rattle.std.specs.FinMap.{from_entries}
+use Rattle.std.specs.Option.{option_map}
 use Rattle.ws_elem.specs.declared.elem_map.ElemMap.{ElemMap}
 use Rattle.ws_elem.specs.Trees.{Tree}
 use Rattle.op_kind.specs.Resources.{Resources}
 use Rattle.ws_marks.specs.declared.record.Record.{Record}
-use Rattle.ws_marks.specs.Places.{Records, place_of}
+use Rattle.ws_marks.specs.declared.state.State.{State}
+use Rattle.ws_marks.specs.Places.{Records, States, place_of}
 
 -- the trees that are remembered
 pub record Remembered : Type 0 where
@@ -15,6 +17,10 @@ pub record Remembered : Type 0 where
   pub told : Tree
   -- what was built last, by project and by command, each with the tree after that
   pub built : Records Tree
+  -- what participants keep, by their names, each with the tree of that time where it asked for what changes
+  pub kept : States Tree
+  -- while a save is under way, what they kept when it began
+  pub before : Option (States Tree)
 
 -- what is there, and what it was
 pub record Contents : Type 0 where
@@ -33,6 +39,14 @@ with_built r built = record r { built = built }
 -- the record with its tree, the room aside
 abbrev pub shown_built : Record ElemMap → Record Tree
 shown_built r = record { project = r.project; index = r.index; command = r.command; references = r.references; tree = r.tree.map }
+
+-- the state with its tree, the room aside
+abbrev pub shown_kept : State ElemMap → State Tree
+shown_kept s = record { participant = s.participant; bytes = s.bytes; tree = option_map (λ t. t.map) s.tree }
+
+-- states, each under its participant's name; of several of one name the first
+abbrev pub at_names : List (State Tree) → States Tree
+at_names ss = from_entries (map (λ s. (s.participant, s)) ss)
 
 -- records, each at its place
 abbrev pub at_places : List (Record Tree) → Records Tree

@@ -9,17 +9,21 @@ use Rattle.pass_table.specs.Rows.{checked_in, checked_out}
 use Rattle.core_event.specs.declared.event.Event.{Event}
 use Rattle.core_event.specs.declared.reply.Answer.{Answer}
 use Rattle.core_event.specs.declared.reply.Answer.TheVariants as answers
-use Rattle.core_event.specs.declared.service.Purpose.TheVariants.{Build}
+use Rattle.core_event.specs.declared.service.Outcomes.{Outcomes}
+use Rattle.core_event.specs.declared.service.Purpose.{Purpose}
+use Rattle.core_event.specs.declared.service.Purpose.TheVariants.{Build, Save}
 use Rattle.core_event.specs.declared.service.ServiceEvent.{ServiceEvent}
-use Rattle.core_event.specs.declared.service.ServiceEvent.TheVariants.{Checkout, CheckIn, Handed, Commit, Clean}
+use Rattle.core_event.specs.declared.service.ServiceEvent.TheVariants.{Checkout, CheckIn, Handed, Commit, Clean, Saving}
 use Rattle.core_event.specs.Events.{operation_of, service_of}
 use Rattle.job_manager.specs.declared.manager.JobManager.{JobManager}
 use Rattle.job_manager.specs.Effects as managers
-use Rattle.service_desk.specs.Desks.{idle, left, under_way}
+use Rattle.save_kind.specs.declared.state.PartState.{PartState}
+use Rattle.service_desk.specs.Desks.{home, idle, left, out_for, under_way, with_states}
 use Rattle.service_desk.specs.Sites.{site_in}
 use Rattle.ws_content.specs.States.{with_built}
 use Rattle.ws_content.specs.Deeds.{Deed, clean, commit, operation}
 use Rattle.ws_content.specs.Handing.{handing}
+use Rattle.ws_content.specs.Saves.{ended, save_begun, states_kept}
 use Rattle.ws_core.specs.Refusals.{current}
 use Rattle.ws_core.specs.States.{Moment, contents_of}
 
@@ -33,13 +37,22 @@ operate s op = let d = operation (contents_of s) op in (record (changed s d) { d
 
 -- ---- what concerns the services
 
--- the pass has the services, for a build by this plan
-abbrev pub check_out : Moment → ℕ → Option (List ℕ) → Moment × Answer
-check_out s pass scope = (record s { manager = record (s.manager) { passes = checked_out s.manager.passes pass } }, answers.Plan (plan s.resources.tree scope))
+-- the pass has the services for this
+abbrev pub taken_out : Moment → ℕ → Purpose → Moment
+taken_out s pass purpose = record s { manager = record (s.manager) { passes = checked_out s.manager.passes pass }; desk = out_for s.desk purpose }
 
--- no pass has the services, and no command is under way
-abbrev pub check_in : Moment → Moment × Answer
-check_in s = (record s { manager = record (s.manager) { passes = checked_in s.manager.passes }; desk = idle s.desk }, answers.Done)
+-- for a build, by this plan; or for a save, which is under way
+abbrev pub check_out : Moment → ℕ → Purpose → Moment × Answer
+check_out s pass (Build kind scope) = (taken_out s pass (Build kind scope), answers.Plan (plan s.resources.tree scope))
+check_out s pass (Save kind) = (record (taken_out s pass (Save kind)) { remembered = save_begun s.remembered }, answers.Done)
+
+-- no pass has the services, no command and no save is under way
+abbrev pub check_in : Moment → Outcomes → Moment × Answer
+check_in s outcome = (record s { remembered = ended outcome s.remembered; manager = record (s.manager) { passes = checked_in s.manager.passes }; desk = home s.desk }, answers.Done)
+
+-- the states are kept, with the tree as it is
+abbrev pub keep_states : Moment → List (List ℕ × PartState) → Moment × Answer
+keep_states s states = (record s { remembered = states_kept s.resources.tree s.remembered states; desk = with_states s.desk }, answers.Done)
 
 -- the command, if it is one, is under way, and what is due is handed for it
 abbrev pub hand : Moment → Option Site → BuildKind → Moment × Answer
@@ -57,11 +70,12 @@ clean_for s None = (s, answers.Done)
 clean_for s (Some site) = let d = clean (contents_of s) site in (record (changed s d) { desk = idle s.desk }, d.answer)
 
 abbrev pub serve : Moment → ℕ → ServiceEvent → Moment × Answer
-serve s pass (Checkout (Build kind scope)) = check_out s pass scope
-serve s pass (CheckIn outcome) = check_in s
+serve s pass (Checkout purpose) = check_out s pass purpose
+serve s pass (CheckIn outcome) = check_in s outcome
 serve s pass (Handed project index kind) = hand s (site_in s.resources.tree project index) kind
 serve s pass (Commit edits) = commit_for s (current s) edits
 serve s pass (Clean project index) = clean_for s (site_in s.resources.tree project index)
+serve s pass (Saving states) = keep_states s states
 
 -- ---- any event
 

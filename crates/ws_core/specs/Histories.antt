@@ -1,5 +1,5 @@
 -- What was done, entry by entry.
-use Rattle.std.specs.Prelude.{◌≡◌, ℕ, Bool, true, false, ◌&&◌, List, [], ◌∷◌, ◌++◌, map, if◌then◌else◌}
+use Rattle.std.specs.Prelude.{◌≡◌, ℕ, Bool, true, false, ◌&&◌, List, [], ◌∷◌, ◌++◌, map, if◌then◌else◌, None}
 use Rattle.std.specs.Option.{option_to_list}
 use Rattle.std.specs.FinMap.{empty}
 use Rattle.std.specs.List.{list_any}
@@ -17,11 +17,11 @@ use Rattle.service_desk.specs.Desks.{desk_of}
 use Rattle.ws_core.specs.States.{Moment}
 use Rattle.ws_core.specs.Steps.{step, tells}
 
--- the fresh workspace with these builders: the root alone, as node 1, and pass 0; nothing was built
+-- the fresh workspace with these builders: the root alone, as node 1, and pass 0; nothing was built, and nothing is kept
 abbrev pub fresh_for : Names → Moment
 fresh_for builders = record {
   resources = record { tree = fresh_tree; shelf = empty; next_node = 2; next_stamp = 1; next_marker = 1; partners = [] };
-  remembered = record { start = fresh_tree; told = fresh_tree; built = empty };
+  remembered = record { start = fresh_tree; told = fresh_tree; built = empty; kept = empty; before = None };
   manager = first_manager;
   desk = desk_of builders;
 }

@@ -12,13 +12,13 @@ use Rattle.build_due.specs.declared.site.Site.{Site}
 use Rattle.core_event.specs.declared.event.Event.{Event}
 use Rattle.core_event.specs.declared.reply.Refusal.{Refusal}
 use Rattle.core_event.specs.declared.reply.Refusal.TheVariants.{NoBuild, Operation}
-use Rattle.core_event.specs.declared.service.Purpose.TheVariants.{Build}
+use Rattle.core_event.specs.declared.service.Purpose.TheVariants.{Build, Save}
 use Rattle.core_event.specs.declared.service.ServiceEvent.{ServiceEvent}
-use Rattle.core_event.specs.declared.service.ServiceEvent.TheVariants.{Checkout, CheckIn, Handed, Commit, Clean}
+use Rattle.core_event.specs.declared.service.ServiceEvent.TheVariants.{Checkout, CheckIn, Handed, Commit, Clean, Saving}
 use Rattle.core_event.specs.Events.{operation_of, service_of}
 use Rattle.job_manager.specs.Admission.{admission}
 use Rattle.job_manager.specs.Refusals as managers
-use Rattle.service_desk.specs.Desks.{site_of}
+use Rattle.service_desk.specs.Desks.{is_building, is_saving, may_end, site_of}
 use Rattle.service_desk.specs.Refusals.{not_serving, scope_causes, services_out, site_causes, unrooted}
 use Rattle.ws_content.specs.Deeds.{edit_refusal}
 use Rattle.ws_core.specs.States.{Moment}
@@ -47,15 +47,17 @@ edit_cause r e (Some site) = option_map edit_refusal (outputs.refusal r site.out
 abbrev pub service_causes : Moment → ℕ → ServiceEvent → List (Option Refusal)
 service_causes s pass (Checkout (Build kind scope)) =
     unrooted s.manager.passes.rules pass ∷ services_out s.manager.passes ∷ scope_causes s.resources.tree scope
-service_causes s pass (CheckIn outcome) = not_serving s.manager.passes pass ∷ []
-service_causes s pass (Handed project index kind) = site_causes s.manager.passes s.resources.tree s.desk.builders pass project index
+service_causes s pass (Checkout (Save kind)) = services_out s.manager.passes ∷ []
+service_causes s pass (CheckIn outcome) = not_serving s.manager.passes (may_end s.desk.serving outcome) pass ∷ []
+service_causes s pass (Handed project index kind) = site_causes s.manager.passes s.resources.tree s.desk pass project index
 service_causes s pass (Commit edits) =
-    not_serving s.manager.passes pass
+    not_serving s.manager.passes (is_building s.desk.serving) pass
     ∷ no_build (current s)
     ∷ unrooted s.manager.passes.rules pass
     ∷ edit_cause s.resources edits (current s)
     ∷ []
-service_causes s pass (Clean project index) = site_causes s.manager.passes s.resources.tree s.desk.builders pass project index
+service_causes s pass (Clean project index) = site_causes s.manager.passes s.resources.tree s.desk pass project index
+service_causes s pass (Saving states) = not_serving s.manager.passes (is_saving s.desk.serving) pass ∷ []
 
 -- ---- any event
 

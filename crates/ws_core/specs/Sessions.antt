@@ -1,5 +1,5 @@
 -- A workspace while it is open.
-use Rattle.std.specs.Prelude.{◌≡◌, true, List, Some}
+use Rattle.std.specs.Prelude.{◌≡◌, ℕ, true, List, Some}
 use Rattle.std.specs.FinMap.{get}
 use Rattle.ws_elem.specs.Stamps.{SameContents}
 use Rattle.ws_elem.specs.Trees.{Tree, Whole}
@@ -10,7 +10,8 @@ use Rattle.op_kind.specs.Stamps.{IsKnown}
 use Rattle.pass_table.specs.Passes.{is_quiet}
 use Rattle.core_event.specs.declared.entry.Entry.{Entry}
 use Rattle.ws_marks.specs.declared.record.Record.{Record}
-use Rattle.ws_marks.specs.Places.{Place}
+use Rattle.ws_marks.specs.declared.state.State.{State}
+use Rattle.ws_marks.specs.Places.{Place, States}
 use Rattle.ws_content.specs.States.{Remembered}
 use Rattle.ws_core.specs.States.{Moment}
 use Rattle.ws_core.specs.Histories.{Legal, replay}
@@ -21,11 +22,14 @@ pub record Session : Type 0 where
   pub history : List Entry
   pub state : Moment
 
--- a tree that is remembered: as the workspace was opened, as it was told last, or as a command was built last
+-- a tree that is remembered: as the workspace was opened, as it was told last, as a command was built last, or as a
+-- participant keeps it or kept it when the save under way began
 pub data IsPast (r : Remembered) (t : Tree) : Type 0 where
   AsStart : t ≡ r.start → IsPast r t
   AsTold : t ≡ r.told → IsPast r t
   AsBuilt : (place : Place) (built : Record Tree) → get r.built place ≡ Some built → t ≡ built.tree → IsPast r t
+  AsKept : (name : List ℕ) (kept : State Tree) → get r.kept name ≡ Some kept → kept.tree ≡ Some t → IsPast r t
+  AsBefore : (before : States Tree) (name : List ℕ) (kept : State Tree) → r.before ≡ Some before → get before name ≡ Some kept → kept.tree ≡ Some t → IsPast r t
 
 -- what holds of a state at every moment
 pub record IsConsistent (s : Moment) : Type 0 where
