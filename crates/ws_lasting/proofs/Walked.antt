@@ -1,9 +1,9 @@
 -- A tree without transient markers, made from entry to entry.
-use Rattle.std.proofs.Common.{◌≡◌, ◌<◌, ℕ, Bool, true, false, cond, ◌&&◌, List, [], ◌∷◌, ◌++◌, map, length, T, refl, sym, ap, ◌∙◌, subst, append-nil, append_assoc}
+use Rattle.std.proofs.Common.{◌≡◌, ◌<◌, ℕ, Bool, true, false, ◌&&◌, List, [], ◌∷◌, ◌++◌, map, length, T, refl, sym, ap, ◌∙◌, subst, append-nil, append_assoc}
 use Rattle.std.specs.Prelude.{Option, Some, None}
 use Rattle.std.specs.Option.{option_map}
 use Rattle.std.specs.Ordering.{is_lt}
-use Rattle.std.specs.FinMap.{empty, entries, entries_sorted, entries-insert, find, get, get-empty, get-entries, get-from_entries, insert, is_sorted, same_map}
+use Rattle.std.specs.FinMap.{empty, entries, entries_sorted, entries-insert, find, get, get-entries, get-from_entries, insert, is_sorted, same_map}
 use Rattle.std.specs.FinMap.Entries.{below_all, put}
 use Rattle.std.proofs.lemmas.List.{map-append}
 use Rattle.mark_set.proofs.Maps.{entries-empty}

@@ -2,6 +2,7 @@
 ghost use Rattle.std.specs.Prelude.{◌≡◌, [], IfOk, OnOk};
 ghost use Rattle.std.specs.Option.{option_map};
 ghost use Rattle.std.specs.FinMap as map;
+ghost use Rattle.ws_elem.specs.Rooms.{no_room};
 ghost use Rattle.ws_lasting.specs.Lasting.{lasting, lasting_element};
 ghost use Rattle.ws_lasting.specs.Inside.{lasting_at, transient_paths, with_some};
 
@@ -54,7 +55,8 @@ fn leave_out(alloc: Global, tree: &mut ElemMap, path: &Path) -> Result<(), NoMem
 /// The elements of the tree as it is, without their transient markers, as a value of its own, without room. They share
 /// their texts with the tree's. Costs a search and a put for each element.
 pub fn lasting_now<T: TreeRep>(alloc: Global, tree: &T) -> Result<ElemMap, NoMemory>
-    ensures { IfOk result (λ found. found.map ≡ lasting (T.tree tree.now)) }
+    ensures map { IfOk result (λ found. found.map ≡ lasting (T.tree tree.now)) }
+    ensures room { IfOk result (λ found. found.room ≡ no_room) }
 {
     let mut at = Path::root();
     let mut found = at_root(alloc, tree)?;
@@ -67,7 +69,8 @@ pub fn lasting_now<T: TreeRep>(alloc: Global, tree: &T) -> Result<ElemMap, NoMem
 
 /// What the tree has at the root, without transient markers.
 fn at_root<T: TreeRep>(alloc: Global, tree: &T) -> Result<ElemMap, NoMemory>
-    ensures { IfOk result (λ found. found.map ≡ with_some map.empty [] (option_map lasting_element (map.get (T.tree tree.now) []))) }
+    ensures map { IfOk result (λ found. found.map ≡ with_some map.empty [] (option_map lasting_element (map.get (T.tree tree.now) []))) }
+    ensures room { IfOk result (λ found. found.room ≡ no_room) }
 {
     let root = Path::root();
     let mut found = ElemMap::empty(alloc);
@@ -79,7 +82,8 @@ fn at_root<T: TreeRep>(alloc: Global, tree: &T) -> Result<ElemMap, NoMemory>
 
 /// Adds the element without its transient markers.
 fn add(alloc: Global, found: &mut ElemMap, path: &Path, element: &Element) -> Result<(), NoMemory>
-    ensures { OnOk result (found.new.map ≡ map.insert found.old.map path.now (lasting_element element.now)) }
+    ensures map { OnOk result (found.new.map ≡ map.insert found.old.map path.now (lasting_element element.now)) }
+    ensures room { found.new.room ≡ found.old.room }
 {
     found.put(path.copy()?, lasting_element(alloc, element)?)?;
     Ok(())
