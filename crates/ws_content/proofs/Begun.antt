@@ -1,6 +1,7 @@
 -- What is remembered as a workspace is opened.
 use Rattle.std.proofs.Common.{◌≡◌, ◌≢◌, ℕ, List, [], ◌∷◌, ◌++◌, map, length, arith, refl, sym, ap, ◌∙◌, subst}
-use Rattle.std.specs.Prelude.{Option, Some, None, is_some, IsSome}
+use Rattle.std.specs.Prelude.{Option, Some, None, is_some, IsSome, true, false}
+use Rattle.std.specs.Option.{option_map}
 use Rattle.std.specs.FinMap.{empty, get, insert}
 use Rattle.ws_elem.specs.declared.elem_map.ElemMap.{ElemMap}
 use Rattle.ws_elem.specs.Trees.{Tree}
@@ -9,6 +10,7 @@ use Rattle.ws_marks.specs.Marked.{Marked}
 use Rattle.ws_marks.specs.declared.state.State.{State}
 use Rattle.ws_marks.specs.Places.{Records, States, place_of}
 use Rattle.ws_content.specs.States.{Remembered, at_names, at_places, shown_built, shown_kept, with_built}
+use Rattle.ws_content.specs.Saves.{state_of}
 use Rattle.ws_content.specs.Inside.Held.{Holds, IsUsed, in_memory, retreed}
 use Rattle.ws_content.specs.Inside.Slots.{AreApart, IsIn, AtStart, number_in}
 use Rattle.ws_content.specs.Inside.Opened.{kept_onto, onto}
@@ -84,3 +86,11 @@ kept_names (s ∷ ss) = ap (λ (k : States Tree). insert k s.participant (shown_
 pub kept_none : (kept : States Tree) (ss : List (State ElemMap)) → length ss ≡ 0 → kept_onto kept ss ≡ kept
 kept_none kept [] e = refl
 kept_none kept (s ∷ ss) e = absurd (omega arith)
+
+-- a state without a tree is as it is shown
+pub shown_without : (s : State ElemMap) (t : Tree) → s.tree ≡ None → state_of t (s.participant, record { bytes = s.bytes; needs_delta = false }) ≡ shown_kept s
+shown_without s t none = λ i. record { participant = s.participant; bytes = s.bytes; tree = option_map (λ (w : ElemMap). w.map) (sym none i) }
+
+-- and one with the tree that is there
+pub shown_with : (s : State ElemMap) (t : Tree) (w : ElemMap) → s.tree ≡ Some w → t ≡ w.map → state_of t (s.participant, record { bytes = s.bytes; needs_delta = true }) ≡ shown_kept s
+shown_with s t w some same = λ i. record { participant = s.participant; bytes = s.bytes; tree = (ap Some same ∙ ap (option_map (λ (w : ElemMap). w.map)) (sym some)) i }

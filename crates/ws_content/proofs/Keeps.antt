@@ -1,6 +1,6 @@
 -- What participants keep, as trees are remembered for it and given up.
 use Rattle.std.proofs.Common.{◌≡◌, ◌≢◌, ℕ, zero, suc, ◌<◌, ◌≤◌, Bool, true, false, List, [], ◌∷◌, ◌++◌, length, length-append, arith, refl, sym, ap, ◌∙◌, subst}
-use Rattle.std.specs.Prelude.{Option, Some, None, is_some, IsSome, IfSome, if◌then◌else◌, unwrap_or}
+use Rattle.std.specs.Prelude.{Option, Some, None, is_some, IsSome, IfSome, Result, Ok, Err, OnOk, OnErr, if◌then◌else◌, unwrap_or}
 use Rattle.std.specs.Option.{option_map}
 use Rattle.std.specs.FinMap.{get, insert}
 use Rattle.ws_elem.specs.Trees.{Tree}
@@ -20,6 +20,10 @@ use Rattle.ws_content.proofs.Numbers.{last_number}
 use Rattle.ws_content.proofs.Resolved.{states_same}
 use Rattle.ws_content.proofs.Slots.{if_there, other_than}
 use Rattle.ws_content.proofs.Steps.{Known, grown, grown_ready}
+
+pub kept_with_none : (t : Tree) (kept : States Tree) (states : List (List ℕ × PartState)) → length states ≡ 0 → kept_with t kept states ≡ kept
+kept_with_none t kept [] e = refl
+kept_with_none t kept (p ∷ ps) e = absurd (omega (arith, e))
 
 -- ---- states that stay behind
 
@@ -266,3 +270,19 @@ module _ {M : Type 0} (number : M → ℕ) where
       there : (o : Option (List (Replaced M))) → IsSome o → is_some (option_map (λ rs. resolved_states (tree_of number start f) (undone m.kept rs)) o) ≡ true
       there None some = cc
       there (Some rs) some = refl
+
+  -- a save is begun for a call alone
+  pub begun_on : (f : ℕ → Option Tree) (m n : Marked M) → n ≡ saving m → (start : ℕ) (v : Remembered) → Holds number start f m v → Holds number start f n (save_begun v)
+  begun_on f m n now start v h = subst (λ z. Holds number start f z (save_begun v)) (sym now) (begun_holds number start f m v h)
+
+  pub none_before : (f : ℕ → Option Tree) (m : Marked M) (start : ℕ) (v : Remembered) → is_some m.replaced ≡ false → Holds number start f m v → v.before ≡ None
+  none_before f m start v none h = sym (ap (λ (z : Remembered). z.before) h.seen) ∙ by m.replaced none
+    where
+      by : (o : Option (List (Replaced M))) → is_some o ≡ false → option_map (λ rs. resolved_states (tree_of number start f) (undone m.kept rs)) o ≡ None
+      by None e = refl
+      by (Some rs) e = cc
+
+  pub kept_either : {X E : Type 0} (o : Result X E) (f g : ℕ → Option Tree) (m n : Marked M) (change : Remembered → Remembered) → OnOk o ((s : ℕ) (v : Remembered) → Holds number s f m v → Holds number s g n (change v))
+      → OnErr o ((s : ℕ) (v : Remembered) → Holds number s f m v → Holds number s g n v) → Known number f m → Known number g n
+  kept_either (Ok x) f g m n change ok err known = (known.0, change (known.1), ok (known.0) (known.1) known.2)
+  kept_either (Err e) f g m n change ok err known = (known.0, known.1, err (known.0) (known.1) known.2)

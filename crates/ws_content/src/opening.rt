@@ -67,8 +67,8 @@ pub fn led_through<T: Remembers + Drop>(
         start,
         mut marks,
     } = opened;
-    let last = add_all(alloc, &mut tree, &mut marks, at, built)?;
-    let last = keep_all(alloc, &mut tree, &mut marks, last, kept)?;
+    let after_built = add_all(alloc, &mut tree, &mut marks, at, built)?;
+    let last = keep_all(alloc, &mut tree, &mut marks, after_built, kept)?;
     lead(&mut tree, last, wanted)?;
     let led = begun(alloc, Opened { tree, start, marks })?;
     Ok(led)
