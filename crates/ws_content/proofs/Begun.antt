@@ -2,7 +2,7 @@
 use Rattle.std.proofs.Common.{◌≡◌, ◌≢◌, ℕ, List, [], ◌∷◌, ◌++◌, map, length, arith, refl, sym, ap, ◌∙◌, subst}
 use Rattle.std.specs.Prelude.{Option, Some, None, is_some, IsSome, true, false}
 use Rattle.std.specs.Option.{option_map}
-use Rattle.std.specs.FinMap.{empty, get, insert}
+use Rattle.std.specs.FinMap.{empty, insert}
 use Rattle.ws_elem.specs.declared.elem_map.ElemMap.{ElemMap}
 use Rattle.ws_elem.specs.Trees.{Tree}
 use Rattle.ws_marks.specs.declared.record.Record.{Record}

@@ -1,6 +1,6 @@
 -- What calls answer, and what they leave.
-use Rattle.std.proofs.Common.{◌≡◌, ◌≢◌, inl, inr, ℕ, Bool, true, false, cond, ◌&&◌, not, List, [], ◌∷◌, length, arith, refl, sym, ap, ◌∙◌, subst}
-use Rattle.std.specs.Prelude.{Option, Some, None, is_some, IsSome, IfSome, Result, Ok, Err, IfOk, IfErr, OnOk, OnErr, IsErr, unwrap_or, if◌then◌else◌}
+use Rattle.std.proofs.Common.{◌≡◌, ◌≢◌, inl, inr, ℕ, Bool, true, false, ◌&&◌, not, List, [], ◌∷◌, length, arith, refl, sym, ap, ◌∙◌, subst}
+use Rattle.std.specs.Prelude.{Option, Some, None, is_some, IsSome, IfSome, Result, Ok, Err, IfOk, IfErr, OnOk, OnErr, unwrap_or, if◌then◌else◌}
 use Rattle.std.specs.Option.{option_map, option_or}
 use Rattle.std.specs.declared.alloc.AllocError.{AllocError}
 use Rattle.std.specs.FinMap.{empty, get, get-empty, same_map}
@@ -29,7 +29,6 @@ use Rattle.output_edits.specs.declared.refusal.EditError.{EditError}
 use Rattle.output_edits.specs.declared.refusal.EditError.TheVariants as edit_errors
 use Rattle.output_edits.specs.declared.refusal.EditRefusal.{EditRefusal}
 use Rattle.output_edits.specs.Judging as edit_judging
-use Rattle.core_event.specs.declared.reply.Answer.{Answer}
 use Rattle.core_event.specs.declared.reply.Answer.TheVariants.{Refused}
 use Rattle.core_event.specs.declared.reply.Refusal.{Refusal}
 use Rattle.core_event.specs.declared.reply.Refusal.TheVariants.{Operation}
@@ -50,7 +49,7 @@ use Rattle.ws_content.specs.Deeds.{Deed, From, all_from, edit_refusal, kept_if, 
 use Rattle.ws_content.specs.Handing.{built_of, since}
 use Rattle.ws_content.specs.Inside.Held.{AreHeld, Holds, in_memory, resolved, retreed, seen, tree_of}
 use Rattle.ws_content.specs.Inside.Slots.{AreApart, IsIn, Slot, Slots, AtStart, AtTold, AtBuilt, AtKept, AtReplaced, number_in, number_of}
-use Rattle.ws_content.specs.Inside.Parts.{IsDescribed, TellsEdits, TellsOperation, contents, refused_reply}
+use Rattle.ws_content.specs.Inside.Parts.{IsDescribed, TellsEdits, TellsOperation, refused_reply}
 use Rattle.ws_content.proofs.Holding.{built_used}
 use Rattle.ws_content.proofs.Resolved.{get_resolved, no_states}
 use Rattle.ws_content.proofs.Slots.{other_than, set, set_apart, set_in}

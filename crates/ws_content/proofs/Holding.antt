@@ -1,5 +1,5 @@
 -- What is remembered stays so, step by step.
-use Rattle.std.proofs.Common.{◌≡◌, ◌≢◌, ◌⊎◌, inl, inr, ℕ, zero, suc, Bool, true, false, List, [], ◌∷◌, ◌++◌, length, refl, sym, ap, ◌∙◌, subst}
+use Rattle.std.proofs.Common.{◌≡◌, ◌⊎◌, inl, inr, ℕ, zero, suc, List, [], ◌∷◌, ◌++◌, length, refl, sym, ap, ◌∙◌, subst}
 use Rattle.std.specs.Prelude.{Option, Some, None, is_some, IsSome, IfSome, take, unwrap_or}
 use Rattle.std.specs.Option.{option_map}
 use Rattle.std.specs.FinMap.{get, insert, remove}
@@ -7,14 +7,14 @@ use Rattle.ws_elem.specs.Trees.{Tree}
 use Rattle.ws_marks.specs.declared.record.Record.{Record}
 use Rattle.ws_marks.specs.declared.state.Replaced.{Replaced}
 use Rattle.ws_marks.specs.declared.state.State.{State}
-use Rattle.ws_marks.specs.Marked.{IsLast, IsPutBack, IsTaken, Marked, saving, set_at, since_begin, undone, unwound, with_kept}
-use Rattle.ws_marks.specs.Places.{Place, Records, States, place_of}
+use Rattle.ws_marks.specs.Marked.{IsLast, Marked, saving, set_at, since_begin, undone, unwound, with_kept}
+use Rattle.ws_marks.specs.Places.{Place, States, place_of}
 use Rattle.ws_marks.proofs.Kept.{replaced_by, undone_last, undone_push}
 use Rattle.ws_content.specs.States.{Remembered, with_built, with_told}
 use Rattle.ws_content.specs.Inside.Slots.{AreApart, IsIn, Slots, AtStart, AtTold, AtBuilt, AtKept, AtReplaced, number_in, number_of, replaced_at}
-use Rattle.ws_content.specs.Inside.Held.{AreHeld, Holds, IsUsed, in_memory, resolved, resolved_states, restated, retreed, seen, tree_of}
+use Rattle.ws_content.specs.Inside.Held.{Holds, IsUsed, in_memory, resolved, resolved_states, restated, retreed, seen, tree_of}
 use Rattle.ws_content.proofs.Numbers.{built_at, ended_at, kept_at, last_number, let_go_at, put_back_at, taken_at, told_at}
-use Rattle.ws_content.proofs.Resolved.{resolved_insert, resolved_remove, resolved_same, states_insert, states_same, stood, stood_after, stood_before}
+use Rattle.ws_content.proofs.Resolved.{resolved_insert, resolved_remove, resolved_same, states_insert, states_same, stood_after, stood_before}
 use Rattle.ws_content.proofs.Slots.{IsFresh, at_there, if_there, leaves, other_than, set, set_apart, set_in, set_left}
 
 in_record : {M : Type 0} (number : M → ℕ) (P : ℕ → Type 0) (o : Option (Record M)) → IfSome (option_map (λ r. number r.tree) o) P → IfSome o (λ r. P (number r.tree))

@@ -1,21 +1,21 @@
 -- What participants keep, as trees are remembered for it and given up.
-use Rattle.std.proofs.Common.{◌≡◌, ◌≢◌, ℕ, zero, suc, ◌<◌, ◌≤◌, Bool, true, false, List, [], ◌∷◌, ◌++◌, length, length-append, arith, refl, sym, ap, ◌∙◌, subst}
+use Rattle.std.proofs.Common.{◌≡◌, ◌≢◌, ℕ, ◌<◌, ◌≤◌, Bool, true, false, List, [], ◌∷◌, ◌++◌, length, length-append, arith, refl, sym, ap, ◌∙◌, subst}
 use Rattle.std.specs.Prelude.{Option, Some, None, is_some, IsSome, IfSome, Result, Ok, Err, OnOk, OnErr, if◌then◌else◌, unwrap_or}
 use Rattle.std.specs.Option.{option_map}
-use Rattle.std.specs.FinMap.{get, insert}
+use Rattle.std.specs.FinMap.{insert}
 use Rattle.ws_elem.specs.Trees.{Tree}
 use Rattle.save_kind.specs.declared.state.PartState.{PartState}
 use Rattle.ws_marks.specs.declared.state.Replaced.{Replaced}
 use Rattle.ws_marks.specs.declared.state.State.{State}
-use Rattle.ws_marks.specs.Marked.{IsLast, IsPutBack, IsTaken, Marked, saving, set_at, since_begin, undone, unwound, with_kept}
+use Rattle.ws_marks.specs.Marked.{IsPutBack, IsTaken, Marked, saving, set_at, since_begin, undone, unwound, with_kept}
 use Rattle.ws_marks.specs.Places.{States}
 use Rattle.ws_marks.proofs.Kept.{replaced_by}
 use Rattle.ws_marks.proofs.Unwound.{unwound_less, unwound_more, unwound_none}
 use Rattle.ws_content.specs.States.{Remembered}
-use Rattle.ws_content.specs.Saves.{kept_before, kept_with, save_begun, save_ended, state_of, states_kept}
+use Rattle.ws_content.specs.Saves.{kept_before, kept_with, save_begun, state_of, states_kept}
 use Rattle.ws_content.specs.Inside.Slots.{AtKept, AtReplaced, number_of}
 use Rattle.ws_content.specs.Inside.Held.{Holds, IsUsed, StaysBehind, Takes, in_memory, resolved_states, restated, tree_of}
-use Rattle.ws_content.proofs.Holding.{IsNewState, begun_holds, kept_holds, kept_used, let_go_holds, let_go_unused, over_holds, put_back_holds, put_back_unused, stays, unwound_used}
+use Rattle.ws_content.proofs.Holding.{IsNewState, begun_holds, kept_holds, kept_used, let_go_holds, let_go_unused, put_back_holds, put_back_unused, stays, unwound_used}
 use Rattle.ws_content.proofs.Numbers.{last_number}
 use Rattle.ws_content.proofs.Resolved.{states_same}
 use Rattle.ws_content.proofs.Slots.{if_there, other_than}

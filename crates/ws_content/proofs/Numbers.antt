@@ -9,8 +9,8 @@ use Rattle.std.specs.FinMap.{get, get-insert, get-remove, insert, remove}
 use Rattle.ws_marks.specs.declared.record.Record.{Record}
 use Rattle.ws_marks.specs.declared.state.Replaced.{Replaced}
 use Rattle.ws_marks.specs.declared.state.State.{State}
-use Rattle.ws_marks.specs.Marked.{IsLast, Marked, saving, set_at, since_begin, with_kept}
-use Rattle.ws_marks.specs.Places.{Place, States, name_cmp, place_cmp, place_of}
+use Rattle.ws_marks.specs.Marked.{IsLast, Marked, set_at, since_begin, with_kept}
+use Rattle.ws_marks.specs.Places.{Place, name_cmp, place_cmp, place_of}
 use Rattle.ws_marks.proofs.Kept.{get_set_at, replaced_by}
 use Rattle.ws_marks.proofs.Places.{name_cmp_total, place_cmp_total}
 use Rattle.ws_content.specs.Inside.Slots.{Slot, Slots, AtStart, AtTold, AtBuilt, AtKept, AtReplaced, number_in, number_of, replaced_at}

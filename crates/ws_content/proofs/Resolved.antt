@@ -1,17 +1,17 @@
 -- Records and states with what stands for their trees.
-use Rattle.std.proofs.Common.{◌≡◌, ◌≢◌, ◌⊎◌, inl, inr, Bool, true, false, cond, not, ℕ, zero, suc, List, [], ◌∷◌, map, take, drop, refl, sym, ap, ◌∙◌}
+use Rattle.std.proofs.Common.{◌≡◌, ◌≢◌, ◌⊎◌, inl, inr, Bool, true, false, cond, ℕ, zero, suc, List, [], ◌∷◌, map, take, drop, refl, sym, ap, ◌∙◌}
 use Rattle.std.specs.Prelude.{Option, Some, None, IfSome}
 use Rattle.std.specs.Option.{option_map}
 use Rattle.std.specs.Cmp.{IsTotalOrder, tied_itself}
 use Rattle.std.specs.Ordering.{eq_by_cmp, is_eq}
 use Rattle.std.specs.declared.cmp.Ordering.{Ordering}
 use Rattle.std.specs.declared.cmp.Ordering.TheVariants.{Less, Equal, Greater}
-use Rattle.std.specs.FinMap.{FinMap, IsAntisymmetric, empty, find, get, get-empty, get-entries, get-from_entries, get-insert, get-remove, get-retain_keys, insert, remove, retain_keys, entries, same_map}
+use Rattle.std.specs.FinMap.{FinMap, IsAntisymmetric, empty, find, get, get-empty, get-entries, get-from_entries, get-insert, get-remove, insert, remove, entries, same_map}
 use Rattle.ws_marks.specs.declared.record.Record.{Record}
 use Rattle.ws_marks.specs.declared.state.Replaced.{Replaced}
 use Rattle.ws_marks.specs.declared.state.State.{State}
 use Rattle.ws_marks.specs.Marked.{undone}
-use Rattle.ws_marks.specs.Places.{Place, Records, States, name_cmp, place_cmp, place_of}
+use Rattle.ws_marks.specs.Places.{Place, Records, States, name_cmp, place_cmp}
 use Rattle.ws_marks.proofs.Kept.{get_set_at}
 use Rattle.ws_marks.proofs.Places.{name_cmp_exact, name_cmp_total, place_cmp_exact, place_cmp_total}
 use Rattle.ws_content.specs.Inside.Held.{mapped, resolved, resolved_states, restated, retreed}

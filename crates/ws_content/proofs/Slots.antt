@@ -1,12 +1,11 @@
 -- One slot that gets another number, or none.
-use Rattle.std.proofs.Common.{◌≡◌, ◌≢◌, ◌⊎◌, inl, inr, ℕ, zero, suc, Bool, true, false, cond, List, [], ◌∷◌, ◌++◌, length, nat_eq, refl, sym, ap, ◌∙◌, subst}
+use Rattle.std.proofs.Common.{◌≡◌, ◌≢◌, ◌⊎◌, inl, inr, ℕ, Bool, true, false, cond, nat_eq, refl, sym, ap, ◌∙◌, subst}
 use Rattle.std.specs.Prelude.{Option, Some, None, is_some, IsSome, IfSome}
-use Rattle.std.specs.Option.{option_map}
 use Rattle.std.specs.Ordering.{eq_by_cmp, is_eq}
 use Rattle.std.specs.Cmp.{tied_itself}
 use Rattle.std.proofs.lemmas.Bool.{eqb-true, eq-eqb}
 use Rattle.ws_elem.specs.Trees.{Tree}
-use Rattle.ws_marks.specs.Places.{Place, name_cmp, place_cmp}
+use Rattle.ws_marks.specs.Places.{name_cmp, place_cmp}
 use Rattle.ws_marks.proofs.Places.{name_cmp_exact, name_cmp_total, place_cmp_exact, place_cmp_total}
 use Rattle.ws_content.specs.Inside.Slots.{AreApart, IsIn, Slot, Slots, AtStart, AtTold, AtBuilt, AtKept, AtReplaced}
 use Rattle.ws_content.proofs.Resolved.{is_equal}

@@ -1,5 +1,5 @@
 -- What calls leave of what is remembered.
-use Rattle.std.proofs.Common.{◌≡◌, ◌≢◌, ◌⊎◌, inl, inr, ℕ, Bool, true, false, List, not, refl, sym, ap, ◌∙◌, subst}
+use Rattle.std.proofs.Common.{◌≡◌, ◌≢◌, inl, inr, ℕ, Bool, true, false, List, not, refl, sym, ap, ◌∙◌, subst}
 use Rattle.std.specs.Prelude.{Option, Some, None, is_some, IsSome, IfSome, Result, Ok, Err, IsErr, OnErr}
 use Rattle.std.specs.Option.{option_map}
 use Rattle.std.specs.FinMap.{get, insert, remove, retain_keys}
@@ -10,11 +10,11 @@ use Rattle.ws_marks.specs.Places.{Place, Records, place_of}
 use Rattle.ws_content.specs.States.{Remembered, with_built, with_told}
 use Rattle.build_due.specs.declared.site.Site.{Site}
 use Rattle.ws_content.specs.Deeds.{kept_if, record_of}
-use Rattle.ws_content.specs.Inside.Held.{Holds, IsReady, IsUsed, in_memory, resolved, retreed, seen}
+use Rattle.ws_content.specs.Inside.Held.{Holds, IsReady, IsUsed, in_memory, resolved, retreed}
 use Rattle.ws_content.proofs.Resolved.{get_resolved}
 use Rattle.ws_content.proofs.Forgotten.{all_stay, less_stays, none_from}
 use Rattle.ws_content.proofs.Holding.{IsNew, built_used, fresh_unused, put_holds, put_over, put_used, stays, taken_holds, taken_unused, told_holds, untold}
-use Rattle.ws_content.proofs.Slots.{at_there, if_there, other_than}
+use Rattle.ws_content.proofs.Slots.{at_there, other_than}
 
 module _ {M : Type 0} (number : M → ℕ) where
   abbrev pub Known : (ℕ → Option Tree) → Marked M → Type 0

@@ -1,4 +1,4 @@
-use Rattle.std.proofs.Common.{Bool, false, true, sym, subst}
+use Rattle.std.proofs.Common.{sym, subst}
 use Rattle.tree_memory.specs.Spared.{left}
 use Rattle.ws_content.specs.Saves.{kept_before, save_ended}
 use Rattle.ws_content.specs.Inside.Held.{Holds}

@@ -1,5 +1,5 @@
 use Rattle.tree_memory.specs.Spared.{left}
-use Rattle.ws_content.proofs.Keeps.{behind_moved, kept_behind, kept_more, kept_on, not_kept, not_kept_behind, taken_some}
+use Rattle.ws_content.proofs.Keeps.{behind_moved, kept_behind, kept_on, not_kept, not_kept_behind}
 use Rattle.ws_content.proofs.keeping.keep.Goals as goal
 
 pub returns-in_err-state-clause-behind : goal.returns-in_err-state-clause-behind

@@ -56,7 +56,7 @@ loop-first-preserved g c =
       behind = λ start count v h le.
           let a = i.goes start v h in
           behind_on g.T.Remembers.number start count (left g.T.TreeRep.remembered c.args.tree.now) (left g.T.TreeRep.remembered c.loop-first.tree) (left g.T.TreeRep.remembered c.keep.new.tree)
-              c.args.marks.now c.loop-first.marks c.keep.new.marks (i.behind start count v h le) (done.behind start count (record v { kept = a.0 }) a.1 (omega (arith, le, i.more)));
+          c.args.marks.now c.loop-first.marks c.keep.new.marks (i.behind start count v h le) (done.behind start count (record v { kept = a.0 }) a.1 (omega (arith, le, i.more)));
       more = omega (arith, i.more, done.more);
       tree = done.tree ∙ i.tree;
     }

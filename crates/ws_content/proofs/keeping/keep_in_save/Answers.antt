@@ -1,4 +1,4 @@
-use Rattle.std.proofs.Common.{arith, refl, ap, sym, subst, ◌∙◌}
+use Rattle.std.proofs.Common.{arith}
 use Rattle.tree_memory.specs.Spared.{left}
 use Rattle.ws_content.proofs.Keeps.{all_back, behind_on}
 use Rattle.ws_content.proofs.keeping.keep_in_save.Goals as goal

@@ -1,5 +1,4 @@
-use Rattle.std.proofs.Common.{◌≡◌, false, sym, subst, ◌∙◌}
-use Rattle.std.specs.Prelude.{is_some}
+use Rattle.std.proofs.Common.{sym, subst, ◌∙◌}
 use Rattle.tree_memory.specs.Spared.{left}
 use Rattle.ws_content.specs.Saves.{save_begun, states_kept}
 use Rattle.ws_content.specs.Inside.Held.{Holds}

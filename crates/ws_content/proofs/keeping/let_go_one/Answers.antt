@@ -1,6 +1,6 @@
 use Rattle.std.proofs.Common.{refl}
 use Rattle.tree_memory.specs.Spared.{left}
-use Rattle.ws_content.proofs.Keeps.{ends_none, let_go, let_go_fewer, let_go_there}
+use Rattle.ws_content.proofs.Keeps.{ends_none, let_go, let_go_there}
 use Rattle.ws_content.proofs.keeping.let_go_one.Goals as goal
 
 pub give_up_kept-requires : goal.give_up_kept-requires

@@ -32,7 +32,7 @@ loop-alloc-preserved g c =
       behind = λ start v h.
           let a = i.goes start v h in
           behind_on g.T.Remembers.number start c.args.count (left g.T.TreeRep.remembered c.args.tree.now) (left g.T.TreeRep.remembered c.loop-alloc.tree) (left g.T.TreeRep.remembered c.undo_one.new.tree)
-              c.args.marks.now c.loop-alloc.marks c.undo_one.new.marks (i.behind start v h) (done.behind start (record v { kept = a.0 }) a.1);
+          c.args.marks.now c.loop-alloc.marks c.undo_one.new.marks (i.behind start v h) (done.behind start (record v { kept = a.0 }) a.1);
       tree = done.tree ∙ i.tree;
     }
 

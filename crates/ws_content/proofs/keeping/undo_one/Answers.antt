@@ -1,6 +1,6 @@
 use Rattle.std.proofs.Common.{refl}
 use Rattle.tree_memory.specs.Spared.{left}
-use Rattle.ws_content.proofs.Keeps.{back_none, put_back, put_back_behind, put_back_fewer, put_back_there}
+use Rattle.ws_content.proofs.Keeps.{back_none, put_back, put_back_behind, put_back_there}
 use Rattle.ws_content.proofs.keeping.undo_one.Goals as goal
 
 pub give_up_kept-requires : goal.give_up_kept-requires

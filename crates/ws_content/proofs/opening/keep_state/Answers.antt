@@ -1,4 +1,4 @@
-use Rattle.std.proofs.Common.{ℕ, sym, subst, ◌∙◌}
+use Rattle.std.proofs.Common.{ℕ, sym, subst}
 use Rattle.std.specs.Prelude.{Option}
 use Rattle.std.specs.FinMap.{insert}
 use Rattle.ws_elem.specs.Trees.{Tree}
