@@ -1,5 +1,5 @@
 -- What participants keep, as a save begins, goes on and ends, and as a session begins.
-use Rattle.std.specs.Prelude.{ℕ, Bool, true, false, if◌then◌else◌, List, [], ◌∷◌, map, Option, Some, None, unwrap_or}
+use Rattle.std.specs.Prelude.{ℕ, Bool, true, false, if◌then◌else◌, List, [], ◌∷◌, map, Some, None, unwrap_or}
 use Rattle.std.specs.FinMap.{insert, values}
 use Rattle.std.specs.Option.{option_map}
 use Rattle.ws_elem.specs.Trees.{Tree}
