@@ -1,5 +1,5 @@
 -- Participants that get what they kept, one after another.
-use Rattle.std.proofs.Common.{◌≡◌, ℕ, zero, suc, ◌+◌, ◌<◌, ◌≤◌, Bool, true, if◌then◌else◌, List, [], ◌∷◌, ◌++◌, length, map, get_or, slice_get, slice_set, Option, Some, None, Result, Ok, Err, IsSome, IsSomeAnd, OnErr, refl, sym, ap, ap₂, ◌∙◌, subst, append-nil, arith}
+use Rattle.std.proofs.Common.{◌≡◌, ℕ, zero, suc, ◌+◌, ◌<◌, ◌≤◌, Bool, true, false, if◌then◌else◌, List, [], ◌∷◌, ◌++◌, length, map, get_or, slice_get, slice_set, Option, Some, None, Result, Ok, Err, IsSome, IsSomeAnd, OnErr, refl, sym, ap, ap₂, ◌∙◌, subst, append-nil, arith}
 use Rattle.std.proofs.lemmas.List.{length-map}
 use Rattle.std.specs.declared.alloc.AllocError.{AllocError}
 use Rattle.save_round.specs.declared.restoring.KeptState.{KeptState}
@@ -128,7 +128,16 @@ module _ {A : Type 0} (tells : A → Told) where
       by (Some e) = Some (if e then kept_under kept (tells x).named else None)
   kept_at kept (c ∷ bs) (x ∷ xs) (suc at) b d is lt = kept_at kept bs xs at b d is (omega (arith, lt))
 
-  -- what is kept for the one at a place, which is the first of its name or not
-  pub kept_is : (kept : List KeptState) (xs : List A) (at : ℕ) (b : Bool) (d : A) → slice_get (firsts (map tells xs)) at ≡ Some b → at < length xs
-      → slice_get (kept_for_each kept (map tells xs)) at ≡ Some (if b then kept_under kept (tells (get_or xs at d)).named else None)
-  kept_is kept xs at b d is lt = kept_at kept (firsts (map tells xs)) xs at b d is lt
+  -- what is kept for the one at a place, where it is the first of its name
+  pub is_kept : (kept : List KeptState) (xs ys : List A) (at : ℕ) (b : Bool) (d : A) → ys ≡ xs → slice_get (firsts (map tells ys)) at ≡ Some b → b ≡ true → at < length xs
+      → slice_get (kept_for_each kept (map tells xs)) at ≡ Some (kept_under kept (tells (get_or ys at d)).named)
+  is_kept kept xs ys at b d same is first lt =
+      subst (λ zs. slice_get (kept_for_each kept (map tells zs)) at ≡ Some (kept_under kept (tells (get_or ys at d)).named)) same
+      (kept_at kept (firsts (map tells ys)) ys at true d (is ∙ ap Some first) (subst (λ zs. at < length zs) (sym same) lt))
+
+  -- and where it isn't
+  pub not_kept : (kept : List KeptState) (xs ys : List A) (at : ℕ) (b : Bool) → ys ≡ xs → slice_get (firsts (map tells ys)) at ≡ Some b → b ≡ false → at < length xs
+      → slice_get (kept_for_each kept (map tells xs)) at ≡ Some None
+  not_kept kept [] ys at b same is later lt = absurd (omega (arith, lt))
+  not_kept kept (x ∷ xs) ys at b same is later lt =
+      kept_at kept (firsts (map tells (x ∷ xs))) (x ∷ xs) at false x (subst (λ zs. slice_get (firsts (map tells zs)) at ≡ Some false) same (is ∙ ap Some later)) lt
