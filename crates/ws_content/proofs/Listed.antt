@@ -1,5 +1,5 @@
 -- Lists of what stands in maps, told one after another.
-use Rattle.std.proofs.Common.{◌≡◌, ◌≢◌, Bool, true, false, cond, ◌&&◌, T, List, [], ◌∷◌, ◌++◌, map, append-nil, append-assoc, refl, sym, ap, ◌∙◌, subst}
+use Rattle.std.proofs.Common.{◌≡◌, ◌≢◌, Bool, true, false, cond, ◌&&◌, T, List, [], ◌∷◌, ◌++◌, map, append-nil, append_assoc, refl, sym, ap, ◌∙◌, subst}
 use Rattle.std.specs.Prelude.{Option, Some, None, IfSome}
 use Rattle.std.specs.List.{AllByRecursion}
 use Rattle.std.specs.Cmp.{IsTotalOrder, tied_itself}
@@ -13,35 +13,39 @@ use Rattle.ws_content.specs.Inside.Held.{mapped}
 -- ---- told one after another
 
 -- what is told of these, and what is left to tell, is all that is to be told, where what is there is so of all
-pub record IsTelling {A B C : Type 0} (There : A → Type 0) (told : A → C) (shown : B → C) (all : List A) (done : List B) (rest : List A) : Type 0 where
+pub record IsTelling {A B C : Type 0} (There : A → Type 0) (tells : A → C) (shown : B → C) (all : List A) (done : List B) (rest : List A) : Type 0 where
   pub left : AllByRecursion There all → AllByRecursion There rest
-  pub told : AllByRecursion There all → map shown done ++ map told rest ≡ map told all
+  pub told : AllByRecursion There all → map shown done ++ map tells rest ≡ map tells all
 
-module _ {A B C : Type 0} (There : A → Type 0) (told : A → C) (shown : B → C) where
-  one_more : (done : List B) (b : B) → map shown (done ++ b ∷ []) ≡ map shown done ++ shown b ∷ []
-  one_more [] b = refl
-  one_more (d ∷ done) b = ap (λ xs. shown d ∷ xs) (one_more done b)
+one_more : {B C : Type 0} (shown : B → C) (done : List B) (b : B) → map shown (done ++ b ∷ []) ≡ map shown done ++ shown b ∷ []
+one_more shown [] b = refl
+one_more shown (d ∷ done) b = ap (λ xs. shown d ∷ xs) (one_more shown done b)
 
+module _ {A B C : Type 0} (There : A → Type 0) (tells : A → C) (shown : B → C) where
   -- nothing is told yet
-  pub telling_none : (all : List A) → IsTelling There told shown all [] all
+  pub telling_none : (all : List A) → IsTelling There tells shown all [] all
   telling_none all = record { left = λ h. h; told = λ h. refl }
 
   -- one more is told
-  pub telling_next : (all : List A) (done : List B) (rest others : List A) (a : A) (b : B) → rest ≡ a ∷ others → (There a → shown b ≡ told a)
-      → IsTelling There told shown all done rest → IsTelling There told shown all (done ++ b ∷ []) others
-  telling_next all done rest others a b is one t = record {
+  pub telling_next : (all : List A) (done more : List B) (rest others : List A) (a : A) (b : B) → rest ≡ a ∷ others → more ≡ done ++ b ∷ [] → (There a → shown b ≡ tells a)
+      → IsTelling There tells shown all done rest → IsTelling There tells shown all more others
+  telling_next all done more rest others a b is added one t = record {
     left = λ h. (parts h).1;
     told = λ h.
-        ap (λ xs. xs ++ map told others) (one_more done b) ∙ append-assoc (map shown done) (shown b ∷ []) (map told others)
-        ∙ ap (λ c. map shown done ++ c ∷ map told others) (one (parts h).0) ∙ ap (λ xs. map shown done ++ map told xs) (sym is) ∙ t.told h;
+        ap (λ xs. map shown xs ++ map tells others) added ∙ ap (λ xs. xs ++ map tells others) (one_more shown done b) ∙ append_assoc (map shown done) (shown b ∷ []) (map tells others)
+        ∙ ap (λ c. map shown done ++ c ∷ map tells others) (one (parts h).0) ∙ ap (λ xs. map shown done ++ map tells xs) (sym is) ∙ t.told h;
   }
     where
       parts : AllByRecursion There all → There a × AllByRecursion There others
       parts h = subst (AllByRecursion There) is (t.left h)
 
   -- nothing is left to tell
-  pub telling_done : (all : List A) (done : List B) (rest : List A) → rest ≡ [] → IsTelling There told shown all done rest → AllByRecursion There all → map shown done ≡ map told all
-  telling_done all done rest is t h = sym (append-nil (map shown done)) ∙ ap (λ xs. map shown done ++ map told xs) (sym is) ∙ t.told h
+  pub telling_done : (all : List A) (done : List B) (rest : List A) → rest ≡ [] → IsTelling There tells shown all done rest → AllByRecursion There all → map shown done ≡ map tells all
+  telling_done all done rest is t h = sym (append-nil (map shown done)) ∙ ap (λ xs. map shown done ++ map tells xs) (sym is) ∙ t.told h
+
+pub unmapped : {A : Type 0} (xs : List A) → map (λ x. x) xs ≡ xs
+unmapped [] = refl
+unmapped (x ∷ xs) = ap (λ ys. x ∷ ys) (unmapped xs)
 
 -- ---- maps
 
@@ -82,6 +86,15 @@ module _ {K X : Type 0} {R : K → K → Ordering} (o : IsTotalOrder R) where
       by [] a = tt
       by (e ∷ es) a = (h e.0 e.1 (get-entries m e.0 ∙ a.0), by es a.1)
 
+module _ {K Y : Type 0} {R : K → K → Ordering} (o : IsTotalOrder R) (same : IsAntisymmetric R) where
+  in_order : (es : List (K × Y)) → T (is_sorted R es) → entries (from_entries {R = R} es) ≡ es
+  in_order es h = ap entries (same_map o same _ _ (λ q. get-from_entries o es q ∙ sym (get-from_sorted R es q h))) ∙ entries-from_sorted R es h
+
+module _ {K X Y : Type 0} where
+  seconds : (f : X → Y) (es : List (K × X)) → map (λ (e : K × Y). e.1) (map (λ (e : K × X). (e.0, f e.1)) es) ≡ map f (map (λ (e : K × X). e.1) es)
+  seconds f [] = refl
+  seconds f (e ∷ es) = ap (λ ys. f e.1 ∷ ys) (seconds f es)
+
 module _ {K X Y : Type 0} {R : K → K → Ordering} (o : IsTotalOrder R) (same : IsAntisymmetric R) where
   below_mapped : (f : X → Y) (k : K) (es : List (K × X)) → below_all R k (map (λ (e : K × X). (e.0, f e.1)) es) ≡ below_all R k es
   below_mapped f k [] = refl
@@ -91,15 +104,8 @@ module _ {K X Y : Type 0} {R : K → K → Ordering} (o : IsTotalOrder R) (same 
   sorted_mapped f [] = refl
   sorted_mapped f (e ∷ es) = λ i. below_mapped f e.0 es i && sorted_mapped f es i
 
-  seconds : (f : X → Y) (es : List (K × X)) → map (λ e. e.1) (map (λ (e : K × X). (e.0, f e.1)) es) ≡ map f (map (λ e. e.1) es)
-  seconds f [] = refl
-  seconds f (e ∷ es) = ap (λ ys. f e.1 ∷ ys) (seconds f es)
-
-  in_order : (es : List (K × Y)) → T (is_sorted R es) → entries (from_entries {R = R} es) ≡ es
-  in_order es h = ap entries (same_map o same _ _ (λ q. get-from_entries o es q ∙ sym (get-from_sorted R es q h))) ∙ entries-from_sorted R es h
-
   -- the values of a map with other values
   pub values_mapped : (f : X → Y) (m : FinMap R X) → values (mapped f m) ≡ map f (values m)
   values_mapped f m =
-      ap (map (λ e. e.1)) (in_order (map (λ (e : K × X). (e.0, f e.1)) (entries m)) (subst T (sym (sorted_mapped f (entries m))) (entries_sorted m)))
+      ap (map (λ (e : K × Y). e.1)) (in_order o same (map (λ (e : K × X). (e.0, f e.1)) (entries m)) (subst T (sym (sorted_mapped f (entries m))) (entries_sorted m)))
       ∙ seconds f (entries m)

@@ -60,13 +60,13 @@ fn durable_records<T: Remembers + Drop>(
 fn durable_record<T: Remembers + Drop>(
     alloc: Global,
     tree: &Sparing<T>,
-    record: &Record<T::Memory>,
+    of: &Record<T::Memory>,
 ) -> Result<Built, NoMemory>
-    ensures { IfOk result (λ built. IsSome (left T.remembered tree.now (T.number record.now.tree))
-        → saved_built built ≡ lasting_record (retreed (λ x. in_memory (left T.remembered tree.now (T.number x))) record.now)) }
+    ensures { IfOk result (λ built. IsSome (left T.remembered tree.now (T.number of.now.tree))
+        → saved_built built ≡ lasting_record (retreed (λ x. in_memory (left T.remembered tree.now (T.number x))) of.now)) }
 {
-    let map = tree.at(alloc, &record.tree)?;
-    lasting_record(alloc, record, map)
+    let map = tree.at(alloc, &of.tree)?;
+    lasting_record(alloc, of, map)
 }
 
 /// What lasts of all kept states, in the order of the participants' names.
