@@ -59,11 +59,7 @@ pub fn check_home(passes: &Passes<WsAtom>) -> Result<(), ServiceError>
 }
 
 /// Refused where the pass hasn't the services, or hasn't taken them for what it asks.
-pub fn check_serving(
-    passes: &Passes<WsAtom>,
-    fits: bool,
-    pass: u64,
-) -> Result<(), ServiceError>
+pub fn check_serving(passes: &Passes<WsAtom>, fits: bool, pass: u64) -> Result<(), ServiceError>
     ensures { Judges (not_serving passes.now fits pass) result }
 {
     if passes.serves(pass) && fits {
