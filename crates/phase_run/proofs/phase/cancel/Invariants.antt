@@ -7,4 +7,4 @@ use Rattle.phase_run.proofs.phase.cancel.Given as goal
 
 -- of the jobs so far those that slept are cancelled
 abbrev pub invariant-loop-job : goal.invariant-loop-job
-invariant-loop-job l = Makes (Cancelled (replay l.fn.core.opened l.fn.core.history) (take l.job-index (jobs_plan l.jobs))) l.fn.core l.core
+invariant-loop-job g l = Makes (Cancelled (replay l.fn.space.core.opened l.fn.space.core.history) (take l.job-index (jobs_plan l.jobs))) l.fn.space.core l.space.core

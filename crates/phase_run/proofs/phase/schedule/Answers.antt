@@ -8,15 +8,15 @@ use Rattle.phase_run.proofs.Phases.{schedule_none, schedule_next, schedule_stop,
 use Rattle.phase_run.proofs.phase.schedule.Goals as goal
 
 pub loop-job-init : goal.loop-job-init
-loop-job-init c = schedule_none c.args.jobs.now c.args.core.now c.requires
+loop-job-init g c = schedule_none c.args.jobs.now c.args.space.now.core c.requires
 
 pub loop-job-preserved : goal.loop-job-preserved
-loop-job-preserved c = schedule_next c.args.jobs.now c.loop-job.job-index c.job-item.result c.args.core.now c.loop-job.core c.schedule_one.new.core c.loop-job-test.true c.loop-job.invariant
-    (subst (λ x. Makes (λ h. acts h ≡ scheduled (job_plan x) ∷ []) c.loop-job.core c.schedule_one.new.core) c.job-item.is c.in_ok-schedule_one.ensures)
+loop-job-preserved g c = schedule_next c.args.jobs.now c.loop-job.job-index c.job-item.result c.args.space.now.core c.loop-job.space.core c.schedule_one.new.space.core c.loop-job-test.true c.loop-job.invariant
+    (subst (λ x. Makes (λ h. acts h ≡ scheduled (job_plan x) ∷ []) c.loop-job.space.core c.schedule_one.new.space.core) c.job-item.is c.in_ok-schedule_one.ensures)
 
 pub returns-in_err-schedule_one : goal.returns-in_err-schedule_one
-returns-in_err-schedule_one c = on_err _ _ c.from_residual.result c.from_residual.ensures.0
-    (schedule_stop c.args.jobs.now c.loop-job.job-index c.args.core.now c.loop-job.core c.schedule_one.new.core c.loop-job.invariant c.in_err-schedule_one.ensures)
+returns-in_err-schedule_one g c = on_err _ _ c.from_residual.result c.from_residual.ensures.0
+    (schedule_stop c.args.jobs.now c.loop-job.job-index c.args.space.now.core c.loop-job.space.core c.schedule_one.new.space.core c.loop-job.invariant c.in_err-schedule_one.ensures)
 
 pub returns : goal.returns
-returns c = schedule_all c.args.jobs.now c.loop-job.job-index c.args.core.now c.loop-job.core c.loop-job-test.false c.loop-job.invariant
+returns g c = schedule_all c.args.jobs.now c.loop-job.job-index c.args.space.now.core c.loop-job.space.core c.loop-job-test.false c.loop-job.invariant

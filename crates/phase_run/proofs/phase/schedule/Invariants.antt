@@ -6,4 +6,4 @@ use Rattle.phase_run.proofs.phase.schedule.Given as goal
 
 -- the jobs so far are scheduled
 abbrev pub invariant-loop-job : goal.invariant-loop-job
-invariant-loop-job l = Makes (Scheduled (take l.job-index (jobs_plan l.jobs))) l.fn.core l.core
+invariant-loop-job g l = Makes (Scheduled (take l.job-index (jobs_plan l.jobs))) l.fn.space.core l.space.core

@@ -7,5 +7,5 @@ use Rattle.phase_run.proofs.worker.do_commands.Given as goal
 
 -- the commands so far are done
 abbrev pub invariant-loop-command : goal.invariant-loop-command
-invariant-loop-command g l = Works (InTurn (Made g.M.Meanings.meaning 1) (take l.command-index l.commands)) l.fn.core l.core
-    × Serves g.M.Meanings.meaning l.fn.core l.core (map (λ b. g.B.Builder.tells b) l.fn.builders) (map (λ b. g.B.Builder.tells b) l.builders)
+invariant-loop-command g l = Works (InTurn (Made g.M.Meanings.meaning 1) (take l.command-index l.commands)) l.fn.space.core l.space.core
+    × Serves g.M.Meanings.meaning l.fn.space.core l.space.core (map (λ b. g.B.Builder.tells b) l.fn.builders) (map (λ b. g.B.Builder.tells b) l.builders)
