@@ -23,6 +23,6 @@ returns-clause-ok g c =
     let told : is_quiet s.manager.passes ≡ true → s.remembered.told ≡ s.resources.tree = subst (λ (z : Moment). is_quiet z.manager.passes ≡ true → z.remembered.told ≡ z.resources.tree) (sym c.self.view_is) c.requires.quiet in
     let none : first_cause (service_causes s k (Checkout purpose)) ≡ None = ap (λ (z : Moment). first_cause (service_causes z k (Checkout purpose))) c.self.view_is ∙ c.requires.allowed in
     let reply = c.untold.ensures w answers.Done c.done_twice.ensures in
-    (λ j. (moment (c.in_ok-begin_save.ensures j) (record (i.manager) { passes = c.check_out.ensures j }) (c.take_out.ensures j), reply j))
+    (λ j. (moment (c.in_ok-begin_save.ensures.ok j) (record (i.manager) { passes = c.check_out.ensures j }) (c.take_out.ensures j), reply j))
     ∙ ap (doubled w) (save_so s k purpose c.requires.save.0 c.requires.save.1 none told)
     ∙ ap (λ z. doubled w (step z k (Service (Checkout purpose)))) c.self.view_is
