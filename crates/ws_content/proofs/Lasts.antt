@@ -1,7 +1,6 @@
 -- What lasts of what is remembered, and what participants kept.
 use Rattle.std.proofs.Common.{◌≡◌, ℕ, List, [], ◌∷◌, map, refl, sym, ap, ◌∙◌}
 use Rattle.std.specs.Prelude.{Option, Some, None, IsSome, IfSome}
-use Rattle.std.specs.Option.{option_map}
 use Rattle.std.specs.List.{AllByRecursion}
 use Rattle.std.specs.FinMap.{get, values}
 use Rattle.ws_elem.specs.Trees.{Tree}
@@ -11,13 +10,12 @@ use Rattle.ws_lasting.specs.Saved.{lasting_built, lasting_kept, lasting_record, 
 use Rattle.ws_marks.specs.declared.record.Record.{Record}
 use Rattle.ws_marks.specs.declared.state.State.{State}
 use Rattle.ws_marks.specs.Marked.{Marked}
-use Rattle.ws_marks.specs.Places.{Records, States}
 use Rattle.ws_marks.proofs.Places.{name_cmp_exact, name_cmp_total, place_cmp_exact, place_cmp_total}
 use Rattle.ws_content.specs.States.{Remembered}
 use Rattle.ws_content.specs.Saves.{kept_since, state_since}
 use Rattle.ws_content.specs.Inside.Held.{Holds, in_memory, restated, retreed}
 use Rattle.ws_content.proofs.Holding.{built_used, kept_used}
-use Rattle.ws_content.proofs.Listed.{IsTelling, all_values, values_mapped}
+use Rattle.ws_content.proofs.Listed.{all_values, values_mapped}
 
 map_twice : {A B C : Type 0} (f : A → B) (g : B → C) (xs : List A) → map g (map f xs) ≡ map (λ x. g (f x)) xs
 map_twice f g [] = refl
