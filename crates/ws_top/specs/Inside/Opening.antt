@@ -12,7 +12,8 @@ use Rattle.save_store.specs.Damages.{IsDamaged, TellsDamage, FaultOf}
 use Rattle.save_store.specs.States.{Holds}
 use Rattle.core_event.specs.declared.entry.Entry.{Entry}
 use Rattle.area_text.specs.Damages.{damage_line}
-use Rattle.ws_top.specs.Areas.{FindsDamage, StaysAsItWas, LeavesOpened, TellsDiskFault}
+use Rattle.ws_core.specs.States.{Moment}
+use Rattle.ws_top.specs.Areas.{FindsDamage, StaysAsItWas, LeavesAreasOf, TellsDiskFault}
 use Rattle.ws_top.specs.Outcomes.{WasIdle, TellsState, TellsUnopened, Tells, Writes}
 use Rattle.ws_top.specs.Texts.{status_line, check_text}
 
@@ -48,16 +49,15 @@ RunsFrom durable kept old new before after status h = (kept ≡ Some durable) �
 
 -- What became of the areas, and what is told of it.
 pub record LeavesAreas {D : Type 0} (moment : D → ℕ) (left_since : D → ℕ → Contents → Type 0) (may_leave : D → Contents → Type 0) (seen : D → Option Contents) (faults : D → ℕ)
-    (held left : D) (old new : Option (List ℕ)) (before after : ℕ) (kept : Option Durable) (status : ℕ) (h : List Entry) : Type 0 where
+    (held left : D) (old new : Option (List ℕ)) (before after : ℕ) (kept : Option Durable) (opened : Moment) (status : ℕ) (h : List Entry) : Type 0 where
   pub fault : TellsDiskFault (faults held) (faults left) status
   pub unopened : TellsUnopened kept (seen held) old new before after status h
   pub damaged : IfSome (seen held) (λ both. FindsDamage both status)
-  pub stays : StaysAsItWas moment left_since may_leave seen held left
-  pub leaves : IfSome kept (λ d. LeavesOpened moment left_since may_leave held left (saved d))
+  pub leaves : LeavesAreasOf moment left_since may_leave seen faults held left kept opened h
   pub idle : WasIdle status → left ≡ held
 
 -- the same of a run, with the state that it opened
 pub record OpensAreas {D : Type 0} (moment : D → ℕ) (left_since : D → ℕ → Contents → Type 0) (may_leave : D → Contents → Type 0) (seen : D → Option Contents) (faults : D → ℕ)
-    (held left : D) (old new : Option (List ℕ)) (before after : ℕ) (kept : Option Durable) (status : ℕ) (h : List Entry) : Type 0 where
-  pub areas : LeavesAreas moment left_since may_leave seen faults held left old new before after kept status h
+    (held left : D) (old new : Option (List ℕ)) (before after : ℕ) (kept : Option Durable) (opened : Moment) (status : ℕ) (h : List Entry) : Type 0 where
+  pub areas : LeavesAreas moment left_since may_leave seen faults held left old new before after kept opened status h
   pub state : TellsState kept (seen held) status h
