@@ -79,9 +79,9 @@ impl<D: Disk, P: Participant> SavedWorkspace<D, P> {
         ensures state { OnOk result (self.new.core.state ≡ (step self.old.core.state pass event).0) }
         ensures history { OnOk result (self.new.core.history ≡ written self.old.core.history (entry_of self.old.core.state pass event)) }
         ensures err { OnErr result (self.new.core ≡ self.old.core) }
+        ensures start { (self.new.keeper.began ≡ self.old.keeper.began) × (self.new.began.value ≡ self.old.began.value) }
         ensures keeper { self.new.keeper ≡ self.old.keeper }
         ensures participants { self.new.participants ≡ self.old.participants }
-        ensures began { self.new.began.value ≡ self.old.began.value }
     {
         self.core.perform(alloc, pass, event)
     }
@@ -95,9 +95,9 @@ impl<D: Disk, P: Participant> SavedWorkspace<D, P> {
         ensures reply { IfOk result (λ reply. reply ≡ (step self.old.core.state pass event).1) }
         ensures history { OnOk result (self.new.core.history ≡ written self.old.core.history (entry_of self.old.core.state pass event)) }
         ensures err { OnErr result (self.new.core ≡ self.old.core) }
+        ensures start { (self.new.keeper.began ≡ self.old.keeper.began) × (self.new.began.value ≡ self.old.began.value) }
         ensures keeper { self.new.keeper ≡ self.old.keeper }
         ensures participants { self.new.participants ≡ self.old.participants }
-        ensures began { self.new.began.value ≡ self.old.began.value }
     {
         self.core.step(alloc, pass, event)
     }
@@ -119,6 +119,7 @@ impl<D: Disk, P: Participant> SavedWorkspace<D, P> {
         ensures home { OnOk result (self.old.core.state.manager.passes.services ≡ nothing → self.new.core.state.manager.passes.services ≡ nothing) }
         ensures goes { Goes self.old.core self.new.core }
         ensures serves { Serves M.meaning self.old.core self.new.core (map (λ b. B.tells b) builders.old) (map (λ b. B.tells b) builders.new) }
+        ensures start { (self.new.keeper.began ≡ self.old.keeper.began) × (self.new.began.value ≡ self.old.began.value) }
     {
         build::<B, M>(&mut self.core, builders, alloc, kind, project)
     }
@@ -129,7 +130,7 @@ impl<D: Disk, P: Participant> SavedWorkspace<D, P> {
         requires worker { has_entered 1 self.old.core.state ≡ true }
         ensures saved { IfOk result (λ saved. HasSaved 1 kind saved self.old.core self.new.core) }
         ensures same { OnErr result (self.new.core ≡ self.old.core) }
-        ensures began { self.new.began.value ≡ self.old.began.value }
+        ensures start { (self.new.keeper.began ≡ self.old.keeper.began) × (self.new.began.value ≡ self.old.began.value) }
     {
         save(
             alloc,
@@ -138,5 +139,22 @@ impl<D: Disk, P: Participant> SavedWorkspace<D, P> {
             &mut self.participants,
             kind,
         )
+    }
+
+    /// The workspace, its store and its participants, with what holds of them. It takes no memory.
+    pub fn into_parts(self) -> (Core<LayerTree>, Keeper<D>, Participants<P>)
+        ensures core { result.0 ≡ self.core }
+        ensures keeper { result.1 ≡ self.keeper }
+        ensures participants { result.2 ≡ self.participants }
+        ensures kept { IsKept D.moment D.left_since D.may_leave D.faults result.0 result.1 }
+        ensures had { HadSaves (rounds_of result.0.history).ended (map (λ p. P.tells p) self.began.value) (map (λ p. P.tells p) result.2) }
+    {
+        let SavedWorkspace {
+            core,
+            keeper,
+            participants,
+            began: _,
+        } = self;
+        (core, keeper, participants)
     }
 }

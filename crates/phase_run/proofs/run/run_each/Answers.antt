@@ -1,4 +1,4 @@
-use Rattle.std.proofs.Common.{map, subst}
+use Rattle.std.proofs.Common.{◌∙◌, refl, map, subst}
 use Rattle.build_host.specs.Laws.{serves_itself, serves_on}
 use Rattle.build_host.proofs.Keeping.{still_served}
 use Rattle.phase_run.specs.Inside.Running.{RunsPhase, CutsPhase}
@@ -8,7 +8,7 @@ use Rattle.phase_run.specs.Plans.{Made, phases_plan}
 use Rattle.phase_run.proofs.run.run_each.Goals as goal
 
 pub loop-phase-init : goal.loop-phase-init
-loop-phase-init g c = (runs_none (Made g.M.Meanings.meaning) (phases_plan c.args.phases.now) c.args.space.now.core (map (λ l. g.L.Listener.heard l) c.args.listeners.now) c.requires.ready, serves_itself g.M.Meanings.meaning c.args.space.now.core (map (λ b. g.B.Builder.tells b) c.args.builders.now))
+loop-phase-init g c = (runs_none (Made g.M.Meanings.meaning) (phases_plan c.args.phases.now) c.args.space.now.core (map (λ l. g.L.Listener.heard l) c.args.listeners.now) c.requires.ready, serves_itself g.M.Meanings.meaning c.args.space.now.core (map (λ b. g.B.Builder.tells b) c.args.builders.now), refl, refl)
 
 pub run_and_tell-requires-clause-served : goal.run_and_tell-requires-clause-served
 run_and_tell-requires-clause-served g c = still_served g.M.Meanings.meaning c.args.space.now.core.opened c.loop-phase.space.core.opened (map (λ b. g.B.Builder.tells b) c.args.builders.now) (map (λ b. g.B.Builder.tells b) c.loop-phase.builders) c.loop-phase.invariant.1.opened c.loop-phase.invariant.1.stays c.requires.served
@@ -19,6 +19,8 @@ loop-phase-preserved g c = (
       (map (λ l. g.L.Listener.heard l) c.args.listeners.now) (map (λ l. g.L.Listener.heard l) c.loop-phase.listeners) (map (λ l. g.L.Listener.heard l) c.run_and_tell.new.listeners) c.loop-phase-test.true c.loop-phase.invariant.0
       (subst (λ x. RunsPhase (Made g.M.Meanings.meaning) x c.loop-phase.space.core c.run_and_tell.new.space.core (map (λ l. g.L.Listener.heard l) c.loop-phase.listeners) (map (λ l. g.L.Listener.heard l) c.run_and_tell.new.listeners)) c.phase-item.is c.in_ok-run_and_tell.ensures.done),
   serves_on g.M.Meanings.meaning c.args.space.now.core c.loop-phase.space.core c.run_and_tell.new.space.core (map (λ b. g.B.Builder.tells b) c.args.builders.now) (map (λ b. g.B.Builder.tells b) c.loop-phase.builders) (map (λ b. g.B.Builder.tells b) c.run_and_tell.new.builders) c.loop-phase.invariant.1 c.in_ok-run_and_tell.ensures.serves,
+  c.in_ok-run_and_tell.ensures.start.0 ∙ c.loop-phase.invariant.2,
+  c.in_ok-run_and_tell.ensures.start.1 ∙ c.loop-phase.invariant.3,
 )
 
 pub returns-in_err-run_and_tell-clause-done : goal.returns-in_err-run_and_tell-clause-done

@@ -21,7 +21,7 @@ returns-in-Build-default-Some-clause-done g c = let made = c.do_build-in-Build-d
 
 pub returns-in-One-clause-serves : goal.returns-in-One-clause-serves
 returns-in-One-clause-serves g c = event_serves c.do_event.result g.M.Meanings.meaning c.in-One.event c.args.space.now.core c.do_event.new.space.core (map (λ b. g.B.Builder.tells b) c.args.builders.now)
-    (asked_one c.args.asked c.in-One.event c.in-One.is c.requires.asked).command c.do_event.ensures
+    (asked_one c.args.asked c.in-One.event c.in-One.is c.requires.asked).command c.do_event.ensures.done
 
 pub returns-in-Save-clause-done : goal.returns-in-Save-clause-done
 returns-in-Save-clause-done g c = subst
