@@ -10,3 +10,4 @@ pub mod Responded
 pub mod Checked
 pub mod Answered
 pub mod Built
+pub mod Taking

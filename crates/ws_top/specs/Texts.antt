@@ -1,7 +1,6 @@
 -- The text of a run.
 use Rattle.std.specs.Prelude.{ℕ, List, [], ◌++◌, Option, Some, None, codes, decimal}
 use Rattle.std.specs.List.{flat_map}
-use Rattle.delta_kind.specs.declared.node.DeltaNode.{DeltaNode}
 use Rattle.script_words.specs.Words.{word_text}
 use Rattle.save_round.specs.declared.restoring.KeptState.{KeptState}
 use Rattle.save_round.specs.Restoring.{kept_for_each}
@@ -13,7 +12,7 @@ use Rattle.area_text.specs.Looks.{found_text}
 use Rattle.delta_kind.specs.Deltas.{delta}
 use Rattle.core_event.specs.declared.entry.Entry.{Entry}
 use Rattle.report_text.specs.Deltas.{delta_lines}
-use Rattle.run_text.specs.Lines.{history_lines}
+use Rattle.run_text.specs.Lines.{history_lines, some_lines}
 use Rattle.ws_core.specs.States.{Moment}
 use Rattle.ws_core.specs.Histories.{replay}
 
@@ -23,26 +22,28 @@ changes_from opened h = codes "since start\n" ++ delta_lines (delta opened.resou
 
 -- ---- what is restored
 
--- what changed since that was kept, where that is told
-abbrev pub restored_lines : Option (List DeltaNode) → List ℕ
-restored_lines None = []
-restored_lines (Some delta) = delta_lines delta
-
--- what is told of what is given back, if something is
+-- what is told of what is given back, if something is: the name, and what changed since that was kept, where that is told
 abbrev pub restored_block : Option KeptState → List ℕ
 restored_block None = []
-restored_block (Some k) = codes "restored " ++ word_text k.name ++ codes "\n" ++ restored_lines k.delta
+restored_block (Some k) = codes "restored " ++ word_text k.name ++ codes "\n" ++ some_lines k.delta
+
+-- what is told of these, one after another
+abbrev pub restored_blocks : List (Option KeptState) → List ℕ
+restored_blocks = flat_map restored_block
 
 -- of each participant that is the first of its name, in their order
 abbrev pub restored_text : Moment → List PartTold → List ℕ
-restored_text opened parts = flat_map restored_block (kept_for_each (kept_since opened) parts)
+restored_text opened parts = restored_blocks (kept_for_each (kept_since opened) parts)
 
 -- ---- the whole
 
--- what is written of a history from a state on, before the status: what was restored to these participants, the entries, and
--- what changed since that state
+-- what was done from a state on: the entries, and what changed since that state
+abbrev pub done_from : Moment → List Entry → List ℕ
+done_from opened h = history_lines h ++ changes_from opened h
+
+-- what is written of a history from a state on, before the status: what was restored to these participants, and what was done
 abbrev pub report_from : List PartTold → Moment → List Entry → List ℕ
-report_from parts opened h = restored_text opened parts ++ history_lines h ++ changes_from opened h
+report_from parts opened h = restored_text opened parts ++ done_from opened h
 
 abbrev pub status_line : ℕ → List ℕ
 status_line n = codes "status " ++ decimal n ++ codes "\n"

@@ -3,7 +3,7 @@ use Rattle.std.specs.Prelude.{is_some}
 use Rattle.ws_top.specs.Inside.Parts.{IsBreak}
 use Rattle.ws_top.proofs.Lines.{line_0}
 use Rattle.ws_top.proofs.Performed.{performs_all, performs_fault, performs_want}
-use Rattle.ws_top.proofs.response.report.Goals as goal
+use Rattle.ws_top.proofs.running.report.Goals as goal
 
 pub write_run-requires : goal.write_run-requires
 write_run-requires g c = line_0

@@ -4,7 +4,7 @@ use Rattle.ws_top.proofs.Built.{builds_of}
 use Rattle.ws_top.specs.Outcomes.{Shuffle, CutShuffle, IsOneThread, HearsNotices}
 use Rattle.ws_top.proofs.Told.{hears_all, hears_front}
 use Rattle.ws_top.proofs.Responded.{performed, performed_cut}
-use Rattle.ws_top.proofs.response.perform_on.Goals as goal
+use Rattle.ws_top.proofs.running.perform_on.Goals as goal
 
 pub run_phases-ran-requires-clause-opened : goal.run_phases-ran-requires-clause-opened
 run_phases-ran-requires-clause-opened g c = ap (λ s. s.manager) c.requires.opened

@@ -6,7 +6,7 @@ use Rattle.ws_top.specs.Outcomes.{HearsNotices}
 use Rattle.ws_top.proofs.Built.{builds_nothing}
 use Rattle.ws_top.proofs.Responded.{performed_from, performs_wanted}
 use Rattle.ws_top.proofs.Told.{hears_nothing}
-use Rattle.ws_top.proofs.response.perform_from.Goals as goal
+use Rattle.ws_top.proofs.running.perform_from.Goals as goal
 
 pub perform_on-requires-clause-some : goal.perform_on-requires-clause-some
 perform_on-requires-clause-some g c = ap is_some c.in-Ok.ensures.kept

@@ -2,7 +2,7 @@ use Rattle.std.proofs.Common.{ap, ◌∙◌}
 use Rattle.std.specs.Prelude.{is_some}
 use Rattle.ws_top.proofs.Lines.{line_8}
 use Rattle.ws_top.proofs.Performed.{performs_cut}
-use Rattle.ws_top.proofs.response.report_cut.Goals as goal
+use Rattle.ws_top.proofs.running.report_cut.Goals as goal
 
 pub write_run-requires : goal.write_run-requires
 write_run-requires g c = line_8
