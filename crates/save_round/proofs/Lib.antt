@@ -3,4 +3,3 @@ pub mod Places
 pub mod Asked
 pub mod Stops
 pub mod Restored
-pub mod KeptFor

@@ -18,7 +18,7 @@ names_kept (b ∷ bs) f (x ∷ xs) [] h = absurd h
 names_kept (b ∷ bs) f (x ∷ xs) (y ∷ ys) h = ap₂ ◌∷◌ (named_kept (if b then f 0 else []) x y h.0) (names_kept bs (λ k. f (suc k)) xs ys h.1)
 
 -- names stay through calls
-pub same_names : (f : ℕ → List Call) (xs ys : List Told) → FirstsHad f xs ys → names ys ≡ names xs
+same_names : (f : ℕ → List Call) (xs ys : List Told) → FirstsHad f xs ys → names ys ≡ names xs
 same_names f xs ys h = names_kept (firsts xs) f xs ys h
 
 joined : (n : ℕ) (a b : List Call) (k : ℕ) → by_place n a [] [] k ++ by_place n [] b [] k ≡ by_place n a b [] k
