@@ -228,6 +228,7 @@ fn save_line(rest: &[Token]) -> Option<Line>
 }
 
 /// The kind of a save, and nothing else.
+#[tactic(auto, using(script_parts::proofs::Fitting::fit_size))]
 fn saved_alone(tokens: &[Token]) -> Option<SaveKind>
     ensures { IsFound (λ kind. keyword (save_word kind) ∷ []) tokens.now result }
 {
