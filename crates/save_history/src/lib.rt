@@ -1,0 +1,2 @@
+//! What a history of the core tells of saves.
+#![tactic(auto)]
