@@ -1,5 +1,5 @@
 -- The store of a run against the points of its history.
-use Rattle.std.specs.Prelude.{◌≡◌, ◌≤◌, ◌⊎◌, ◌+◌, ◌-◌, ◌^◌, ℕ, Bool, true, false, List, []}
+use Rattle.std.specs.Prelude.{◌≡◌, ◌≤◌, ◌⊎◌, ◌+◌, ◌-◌, ◌^◌, ℕ, Bool, true, false, List, [], Result, MatchResult}
 use Rattle.ws_outside.specs.declared.contents.Contents.{Contents}
 use Rattle.ws_outside.specs.Disk.{LeavesOnly}
 use Rattle.ws_outside.specs.Faults.{Rose}
@@ -8,7 +8,9 @@ use Rattle.save_store.specs.declared.saves.Saves.{Saves}
 use Rattle.save_store.specs.States.{HoldsOne}
 use Rattle.save_store.specs.Stored.{IsStored}
 use Rattle.ws_core.specs.Sessions.{Session}
-use Rattle.save_history.specs.Steps.{failures, steps_of}
+use Rattle.save_run.specs.declared.host.WriteFault.{WriteFault}
+use Rattle.save_run.specs.Books.{outcome_of}
+use Rattle.save_history.specs.Steps.{failure, failures, steps_of}
 use Rattle.save_history.specs.Points.{Points, points_of, AllAmong, IsAsked}
 
 -- the store of a run
@@ -74,3 +76,9 @@ pub record IsKept {D : Type 0} (moment : D → ℕ) (left_since : D → ℕ → 
     (x : Session) (k : Keeper D) : Type 0 where
   pub safe : IsSafe moment left_since may_leave faults (points_at x k) k
   pub counted : HasRisenBy (failures (steps_of x.history)) (faults (first_disk k)) (faults (disk_of k))
+
+-- The same where the save that was begun last was written with this result, which is not yet told as its end.
+pub record IsTried {D : Type 0} (moment : D → ℕ) (left_since : D → ℕ → Contents → Type 0) (may_leave : D → Contents → Type 0) (faults : D → ℕ)
+    (result : Result (Unit {0}) WriteFault) (x : Session) (k : Keeper D) : Type 0 where
+  pub stands : MatchResult result (λ _. IsAhead moment left_since may_leave faults (points_at x k) k) (λ _. IsSafe moment left_since may_leave faults (points_at x k) k)
+  pub counted : HasRisenBy (failures (steps_of x.history) + failure (outcome_of result)) (faults (first_disk k)) (faults (disk_of k))

@@ -17,7 +17,7 @@ use Rattle.ws_marks.specs.Places.{States}
 use Rattle.ws_elem.specs.Trees.{Tree}
 use Rattle.ws_content.specs.Saves.{is_saved, kept_before, kept_with}
 use Rattle.ws_core.specs.States.{Moment}
-use Rattle.ws_core.specs.Histories.{after}
+use Rattle.ws_core.specs.Histories.{after, replay}
 use Rattle.ws_core.specs.Sessions.{Session}
 use Rattle.save_run.specs.declared.command.Saved.{Saved}
 use Rattle.save_run.specs.declared.command.Saved.TheVariants.{Ended, Stopped}
@@ -44,12 +44,18 @@ pub record IsUnderWay (k : ℕ) (kept : Bool) (s : Moment) : Type 0 where
 
 -- the pass asked this of the services, and was answered so; nothing else was done
 pub record WentOn (k : ℕ) (event : ServiceEvent) (answer : Answer) (x y : Session) : Type 0 where
+  pub placed : x.state ≡ replay x.opened x.history
   pub opened : y.opened ≡ x.opened
   pub entry : Entry
   pub is : IsAnswered k event answer entry
   pub history : y.history ≡ x.history ++ entry ∷ []
   pub state : y.state ≡ after x.state entry
   pub stays : Stays x.state y.state
+
+-- the number with which something was refused, if it was
+abbrev pub number_of : Answer → Option ℕ
+number_of (answers.Refused r) = Some (refusal_number r)
+number_of answer = None
 
 -- the beginning of a save was refused with this number
 pub record WasRefused (k : ℕ) (kind : SaveKind) (n : ℕ) (x y : Session) : Type 0 where
@@ -65,6 +71,11 @@ pub record HasBegun (k : ℕ) (kind : SaveKind) (x y : Session) : Type 0 where
   pub under_way : IsUnderWay k false y.state
   pub kept : y.state.remembered.kept ≡ x.state.remembered.kept
   pub before : y.state.remembered.before ≡ Some (kept_before x.state.remembered)
+
+-- a save began, or was refused with a number
+abbrev pub Starts : ℕ → SaveKind → Option ℕ → Session → Session → Type 0
+Starts k kind None x y = HasBegun k kind x y
+Starts k kind (Some n) x y = WasRefused k kind n x y
 
 -- states were kept in it
 pub record HasKept (k : ℕ) (states : List (List ℕ × PartState)) (x y : Session) : Type 0 where
