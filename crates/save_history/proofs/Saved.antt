@@ -18,6 +18,7 @@ use Rattle.save_history.specs.Steps.{Begins, Keeps, Ends, states_kept, steps_of}
 use Rattle.save_history.specs.Saves.{EndsUnkept, WasKept, WasUnkept}
 use Rattle.save_history.specs.Stages.{HasBegun, HasEnded, HasKept, HasSaved, Stays, WasRefused, at_home, kept_by}
 use Rattle.save_history.proofs.Stages.{stays_on}
+use Rattle.save_history.proofs.Walks.{then_one}
 use Rattle.save_history.proofs.Rounds.{steps_kept}
 
 -- where no pass has the services, they are at home
@@ -73,7 +74,7 @@ module _ (k : ℕ) (kind : SaveKind) (o : SaveAnswer) (x a y : Session) (b : Has
       let stays = stays_on x.state a.state y.state b.went.stays e.went.stays in record {
         opened = e.went.opened ∙ b.went.opened;
         entries = b.went.entry ∷ e.went.entry ∷ [];
-        history = e.went.history ∙ ap (λ h. h ++ e.went.entry ∷ []) b.went.history ∙ append_assoc x.history (b.went.entry ∷ []) (e.went.entry ∷ []);
+        history = then_one x.history a.history y.history (b.went.entry ∷ []) e.went.entry b.went.history e.went.history;
         made = inl (record { first = b.went.entry; last = e.went.entry; are = refl; begins = b.went.is; ends = e.went.is; unkept = unkept });
         stays = stays;
         manager = managers x y stays b.home e.home;
@@ -100,10 +101,8 @@ module _ (k : ℕ) (kind : SaveKind) (states : List (List ℕ × PartState)) (o 
       let stays = stays_on x.state c.state y.state (stays_on x.state a.state c.state b.went.stays w.went.stays) e.went.stays in record {
         opened = e.went.opened ∙ w.went.opened ∙ b.went.opened;
         entries = b.went.entry ∷ w.went.entry ∷ e.went.entry ∷ [];
-        history =
-            e.went.history
-            ∙ ap (λ h. h ++ e.went.entry ∷ []) (w.went.history ∙ ap (λ h. h ++ w.went.entry ∷ []) b.went.history ∙ append_assoc x.history (b.went.entry ∷ []) (w.went.entry ∷ []))
-            ∙ append_assoc x.history (b.went.entry ∷ w.went.entry ∷ []) (e.went.entry ∷ []);
+        history = then_one x.history c.history y.history (b.went.entry ∷ w.went.entry ∷ []) e.went.entry
+            (then_one x.history a.history c.history (b.went.entry ∷ []) w.went.entry b.went.history w.went.history) e.went.history;
         made = inr is_kept;
         stays = stays;
         manager = managers x y stays b.home e.home;

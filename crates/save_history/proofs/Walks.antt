@@ -37,6 +37,10 @@ pub failures_append : (a b : List SaveStep) → failures (a ++ b) ≡ failures a
 failures_append [] b = omega arith
 failures_append (step ∷ a) b = let more = failures_append a b in omega (arith, more)
 
+-- a list that went on, and then by one more
+pub then_one : {A : Type 0} (h h' h'' l : List A) (x : A) → h' ≡ h ++ l → h'' ≡ h' ++ x ∷ [] → h'' ≡ h ++ (l ++ x ∷ [])
+then_one h h' h'' l x one two = two ∙ ap (λ z. z ++ x ∷ []) one ∙ append_assoc h l (x ∷ [])
+
 -- ---- entries that make no step
 
 -- nothing is made of what isn't asked
