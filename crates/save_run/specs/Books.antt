@@ -1,10 +1,11 @@
--- What a host has done for saves, as contracts see it.
-use Rattle.std.specs.Prelude.{◌≡◌, ℕ, Bool, true, false, List, [], ◌∷◌, ◌++◌, Option, Some, None, Result, Ok}
+-- What a host has done for its save, as contracts see it.
+use Rattle.std.specs.Prelude.{◌≡◌, ◌≢◌, ◌⊎◌, ℕ, List, [], ◌∷◌, ◌++◌, Option, None, Result, Ok, Err}
 use Rattle.save_kind.specs.declared.answer.SaveAnswer.{SaveAnswer}
-use Rattle.save_kind.specs.declared.answer.SaveAnswer.TheVariants.{Saved}
+use Rattle.save_kind.specs.declared.answer.SaveAnswer.TheVariants as answer
 use Rattle.save_kind.specs.declared.kind.SaveKind.{SaveKind}
 use Rattle.save_kind.specs.declared.state.PartState.{PartState}
 use Rattle.save_run.specs.declared.host.WriteFault.{WriteFault}
+use Rattle.save_run.specs.declared.host.WriteFault.TheVariants as write
 
 -- something that was done for a save, with its answer; a number is that of a refusal
 pub data Deed : Type 0 where
@@ -13,36 +14,30 @@ pub data Deed : Type 0 where
   Write : SaveKind → Result (Unit {0}) WriteFault → Deed
   Finish : SaveAnswer → Deed
 
--- what a host has done
-pub record Book : Type 0 where
-  -- oldest first
-  pub deeds : List Deed
-  -- the kind of the save under way
-  pub under : Option SaveKind
-  -- whether states were kept since it began
-  pub kept : Bool
+-- what was done, oldest first, and one deed more
+abbrev pub noted : List Deed → Deed → List Deed
+noted deeds deed = deeds ++ deed ∷ []
 
--- the book with one deed more
-abbrev pub noted : Book → Deed → Book
-noted b deed = record b { deeds = b.deeds ++ deed ∷ [] }
+-- a save of the kind began, and nothing was done since
+abbrev pub HasBegun : List Deed → SaveKind → Type 0
+HasBegun deeds kind = deeds ≡ Start kind None ∷ []
 
--- a save began, or was refused
-abbrev pub begun : Book → SaveKind → Option ℕ → Book
-begun b kind None = record (noted b (Start kind None)) { under = Some kind; kept = false }
-begun b kind (Some n) = noted b (Start kind (Some n))
+-- a save of the kind began and states were kept, and nothing was done since
+abbrev pub WereKept : List Deed → SaveKind → Type 0
+WereKept deeds kind = (states : List (List ℕ × PartState)) × (deeds ≡ Start kind None ∷ Keep states ∷ [])
 
--- states were kept
-abbrev pub kept : Book → List (List ℕ × PartState) → Book
-kept b states = record (noted b (Keep states)) { kept = true }
+-- a save of the kind began, states were kept and then written with this result, and nothing was done since
+abbrev pub WasTried : List Deed → SaveKind → Result (Unit {0}) WriteFault → Type 0
+WasTried deeds kind result = (states : List (List ℕ × PartState)) × (deeds ≡ Start kind None ∷ Keep states ∷ Write kind result ∷ [])
 
--- the save under way ended so
-abbrev pub ended : Book → SaveAnswer → Book
-ended b answer = record (noted b (Finish answer)) { under = None; kept = false }
+-- how a save ends after a write
+abbrev pub outcome_of : Result (Unit {0}) WriteFault → SaveAnswer
+outcome_of (Ok done) = answer.Saved
+outcome_of (Err write.Disk) = answer.SaveFailed
+outcome_of (Err write.TooLarge) = answer.SaveTooLarge
+outcome_of (Err write.NumbersUsed) = answer.SaveNumbers
+outcome_of (Err write.Memory) = answer.NoMemory
 
--- the last deed was a write of the kind that succeeded
-abbrev pub WasWritten : Book → SaveKind → Type 0
-WasWritten b kind = (before : List Deed) × (b.deeds ≡ before ++ Write kind (Ok tt) ∷ [])
-
--- a save is under way, which may end so: as saved only where its states were kept and written
-abbrev pub MayEnd : Book → SaveAnswer → Type 0
-MayEnd b answer = (kind : SaveKind) × (b.under ≡ Some kind) × (answer ≡ Saved → (b.kept ≡ true) × WasWritten b kind)
+-- a save that began may end so: where nothing was kept not as saved, and after a write as that says
+abbrev pub MayEnd : List Deed → SaveAnswer → Type 0
+MayEnd deeds o = (kind : SaveKind) × ((HasBegun deeds kind × (o ≢ answer.Saved)) ⊎ ((result : Result (Unit {0}) WriteFault) × WasTried deeds kind result × (o ≡ outcome_of result)))

@@ -14,7 +14,7 @@ use Rattle.save_run.specs.declared.command.Saved.{Saved}
 use Rattle.save_run.specs.declared.command.Saved.TheVariants.{Ended, Stopped}
 use Rattle.save_run.specs.declared.host.WriteFault.{WriteFault}
 use Rattle.save_run.specs.declared.host.WriteFault.TheVariants as write
-use Rattle.save_run.specs.Books.{Book, Deed, Start, Keep, Write, Finish, begun}
+use Rattle.save_run.specs.Books.{Deed, Start, Keep, Write, Finish}
 
 -- the first of each name was prepared, answered for its state and was told the end, and these are the states, in the list's order
 pub record HadRound (kind : SaveKind) (end : Call) (states : List (List ℕ × PartState)) (old new : List Told) : Type 0 where
@@ -58,25 +58,12 @@ CameTo kind answer.NoMemory deeds old new = ((deeds ≡ []) × HasStopped kind M
     ⊎ WereWritten kind (Err write.Memory) RolledBack deeds old new
 
 -- a save ended so
-pub record HasEnded (kind : SaveKind) (o : SaveAnswer) (b b' : Book) (old new : List Told) : Type 0 where
+pub record HasEnded (kind : SaveKind) (o : SaveAnswer) (b : List Deed) (old new : List Told) : Type 0 where
   pub deeds : List Deed
   pub came : CameTo kind o deeds old new
-  pub book : b'.deeds ≡ b.deeds ++ Start kind None ∷ (deeds ++ Finish o ∷ [])
-  pub home : b'.under ≡ None
+  pub book : b ≡ Start kind None ∷ (deeds ++ Finish o ∷ [])
 
--- a save came to an answer, and memory wanted at its end
-pub record IsCut (kind : SaveKind) (b b' : Book) (old new : List Told) : Type 0 where
-  pub answer : SaveAnswer
-  pub deeds : List Deed
-  pub came : CameTo kind answer deeds old new
-  pub book : b'.deeds ≡ b.deeds ++ Start kind None ∷ deeds
-  pub under : b'.under ≡ Some kind
-
--- what a save answers
-abbrev pub IsAnswered : SaveKind → Saved → Book → Book → List Told → List Told → Type 0
-IsAnswered kind (Ended o) b b' old new = HasEnded kind o b b' old new
-IsAnswered kind (Stopped n) b b' old new = (b' ≡ begun b kind (Some n)) × (new ≡ old)
-
--- memory wanted before anything was done, or at the end
-abbrev pub IsUnanswered : SaveKind → Book → Book → List Told → List Told → Type 0
-IsUnanswered kind b b' old new = ((b' ≡ b) × (new ≡ old)) ⊎ IsCut kind b b' old new
+-- what a save answers, what its host has then done, and what participants told before and after
+abbrev pub IsAnswered : SaveKind → Saved → List Deed → List Told → List Told → Type 0
+IsAnswered kind (Ended o) b old new = HasEnded kind o b old new
+IsAnswered kind (Stopped n) b old new = (b ≡ Start kind (Some n) ∷ []) × (new ≡ old)

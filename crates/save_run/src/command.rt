@@ -1,7 +1,8 @@
 //! Saves.
-ghost use Rattle.std.specs.Prelude.{◌≡◌, map, Some, Err, IfOk, IfErr, OnErr};
-ghost use Rattle.save_run.specs.Saves.{HasStopped, IsAnswered, IsUnanswered};
-ghost use Rattle.save_run.specs.Inside.Courses.{Gathered, HasGone, HasStored, IsKeptOr, IsStored, Went, outcome_of, stop_of};
+ghost use Rattle.std.specs.Prelude.{◌≡◌, ◌∷◌, [], map, Some, Err, IfOk, IfErr, OnErr};
+ghost use Rattle.save_run.specs.Books.{HasBegun, outcome_of};
+ghost use Rattle.save_run.specs.Saves.{HasStopped, HasEnded, IsAnswered};
+ghost use Rattle.save_run.specs.Inside.Courses.{Gathered, HasStored, IsKeptOr, IsStored, Went, stop_of};
 
 use crate::{Host, WriteFault};
 use res_path::{Name, NoMemory};
@@ -24,7 +25,7 @@ pub enum Saved {
 /// Stopped where the beginning was refused with that number; then nothing else is done. The save ends as Saved;
 /// ParticipantFailed with the name of the participant that failed, whose count of faults rose; SaveFailed, SaveTooLarge
 /// or SaveNumbers where the write fails so; and NoMemory where memory wants in between. Answers `NoMemory` where memory
-/// wants before anything is done, or at the end, when the host didn't take the answer.
+/// wants before anything is done; a save that began always ends.
 pub fn save<H: Host, P: Participant>(
     alloc: Global,
     host: &mut H,
@@ -32,32 +33,32 @@ pub fn save<H: Host, P: Participant>(
     kind: SaveKind,
 ) -> Result<Saved, NoMemory>
     requires ready { H.ready host.old }
+    requires fresh { H.book host.old ≡ [] }
     ensures stays { H.stays host.old host.new }
-    ensures answered { IfOk result (λ saved. IsAnswered kind saved (H.book host.old) (H.book host.new) (map (λ p. P.tells p) parts.old) (map (λ p. P.tells p) parts.new)) }
-    ensures unanswered { OnErr result (IsUnanswered kind (H.book host.old) (H.book host.new) (map (λ p. P.tells p) parts.old) (map (λ p. P.tells p) parts.new)) }
+    ensures answered { IfOk result (λ saved. IsAnswered kind saved (H.book host.new) (map (λ p. P.tells p) parts.old) (map (λ p. P.tells p) parts.new)) }
+    ensures unanswered { OnErr result ((H.book host.new ≡ []) × (map (λ p. P.tells p) parts.new ≡ map (λ p. P.tells p) parts.old)) }
 {
     match host.start(kind)? {
         Some(number) => Ok(Saved::Stopped(number)),
-        None => run(alloc, host, parts, kind),
+        None => Ok(Saved::Ended(run(alloc, host, parts, kind))),
     }
 }
 
-/// A save that began.
+/// How a save ended that began.
 fn run<H: Host, P: Participant>(
     alloc: Global,
     host: &mut H,
     parts: &mut Participants<P>,
     kind: SaveKind,
-) -> Result<Saved, NoMemory>
+) -> SaveAnswer
     requires ready { H.ready host.old }
-    requires under { (H.book host.old).under ≡ Some kind }
+    requires begun { HasBegun (H.book host.old) kind }
     ensures stays { H.stays host.old host.new }
-    ensures answered { IfOk result (λ saved. (o : SaveAnswer) × (saved ≡ Saved.Ended o) × HasGone kind o (H.book host.old) (H.book host.new) (map (λ p. P.tells p) parts.old) (map (λ p. P.tells p) parts.new)) }
-    ensures unanswered { OnErr result ((o : SaveAnswer) × Went kind o (H.book host.old) (H.book host.new) (map (λ p. P.tells p) parts.old) (map (λ p. P.tells p) parts.new)) }
+    ensures ended { HasEnded kind result (H.book host.new) (map (λ p. P.tells p) parts.old) (map (λ p. P.tells p) parts.new) }
 {
     let (outcome, answer) = twice(went(alloc, host, parts, kind));
-    host.finish(outcome)?;
-    Ok(Saved::Ended(answer))
+    host.finish(outcome);
+    answer
 }
 
 /// How a save that began came through.
@@ -68,9 +69,9 @@ fn went<H: Host, P: Participant>(
     kind: SaveKind,
 ) -> SaveAnswer
     requires ready { H.ready host.old }
-    requires under { (H.book host.old).under ≡ Some kind }
+    requires begun { HasBegun (H.book host.old) kind }
     ensures stays { H.stays host.old host.new }
-    ensures went { Went kind result (H.book host.old) (H.book host.new) (map (λ p. P.tells p) parts.old) (map (λ p. P.tells p) parts.new) }
+    ensures went { Went kind result (H.book host.new) (map (λ p. P.tells p) parts.old) (map (λ p. P.tells p) parts.new) }
 {
     match gathered(alloc, parts, kind) {
         Ok(states) => stored(host, parts, PartStates::of(states), kind),
@@ -101,9 +102,9 @@ fn stored<H: Host, P: Participant>(
     kind: SaveKind,
 ) -> SaveAnswer
     requires ready { H.ready host.old }
-    requires under { (H.book host.old).under ≡ Some kind }
+    requires begun { HasBegun (H.book host.old) kind }
     ensures stays { H.stays host.old host.new }
-    ensures stored { HasStored kind states result (H.book host.old) (H.book host.new) (map (λ p. P.tells p) parts.old) (map (λ p. P.tells p) parts.new) }
+    ensures stored { HasStored kind states result (H.book host.new) (map (λ p. P.tells p) parts.old) (map (λ p. P.tells p) parts.new) }
 {
     match written(host, states, kind) {
         Ok(()) => {
@@ -120,9 +121,9 @@ fn stored<H: Host, P: Participant>(
 /// The states are kept, and what is kept is written.
 fn written<H: Host>(host: &mut H, states: PartStates, kind: SaveKind) -> Result<(), WriteFault>
     requires ready { H.ready host.old }
-    requires under { (H.book host.old).under ≡ Some kind }
+    requires begun { HasBegun (H.book host.old) kind }
     ensures stays { H.stays host.old host.new }
-    ensures stored { IsStored kind states result (H.book host.old) (H.book host.new) }
+    ensures stored { IsStored kind states result (H.book host.new) }
 {
     match host.keep(states) {
         Ok(()) => host.write(kind),
