@@ -12,7 +12,7 @@ use Rattle.save_store.specs.declared.saves.Saves.{Saves}
 use Rattle.save_store.specs.Stored.{IsStored}
 use Rattle.save_run.specs.declared.host.WriteFault.{WriteFault}
 use Rattle.save_run.specs.declared.host.WriteFault.TheVariants as fault
-use Rattle.save_run.specs.Books.{outcome_of}
+use Rattle.save_run.specs.Books.{EndsUnkept, outcome_of}
 use Rattle.core_event.specs.declared.entry.Entry.{Entry}
 use Rattle.ws_core.specs.States.{Moment}
 use Rattle.ws_core.specs.Histories.{after, replay}
@@ -20,7 +20,6 @@ use Rattle.ws_core.specs.Sessions.{Session}
 use Rattle.save_history.specs.Durables.{durable_of}
 use Rattle.save_history.specs.Steps.{SaveStep, Begins, Keeps, Ends, NoSaves, failure, failure_in, failures, step_of, steps_of}
 use Rattle.save_history.specs.Points.{Points, IsAsked, first_points, points_from, points_of, with_begun, with_step}
-use Rattle.save_history.specs.Saves.{EndsUnkept}
 use Rattle.save_history.specs.Kept.{Keeper, HasRisenBy, IsAhead, IsKept, IsSafe, IsTried, disk_of, first_disk, points_at}
 use Rattle.save_history.proofs.Walks.{failures_append, no_points, no_steps, points_append, steps_append}
 use Rattle.save_history.proofs.Points.{points_whole}

@@ -6,6 +6,7 @@ use Rattle.save_kind.specs.declared.answer.SaveAnswer.TheVariants as answer
 use Rattle.save_kind.specs.declared.kind.SaveKind.{SaveKind}
 use Rattle.save_kind.specs.declared.state.PartState.{PartState}
 use Rattle.save_run.specs.declared.command.Saved.TheVariants.{Ended, Stopped}
+use Rattle.save_run.specs.Books.{EndsUnkept}
 use Rattle.core_event.specs.declared.entry.Entry.{Entry}
 use Rattle.job_manager.specs.declared.manager.JobManager.{JobManager}
 use Rattle.ws_elem.specs.Trees.{Tree}
@@ -15,7 +16,7 @@ use Rattle.ws_content.specs.States.{Remembered}
 use Rattle.ws_core.specs.States.{Moment}
 use Rattle.ws_core.specs.Sessions.{Session}
 use Rattle.save_history.specs.Steps.{Begins, Keeps, Ends, states_kept, steps_of}
-use Rattle.save_history.specs.Saves.{EndsUnkept, WasKept, WasUnkept}
+use Rattle.save_history.specs.Saves.{WasKept, WasUnkept}
 use Rattle.save_history.specs.Stages.{HasBegun, HasEnded, HasKept, HasSaved, Stays, WasRefused, at_home, kept_by}
 use Rattle.save_history.proofs.Stages.{stays_on}
 use Rattle.save_history.proofs.Walks.{then_one}

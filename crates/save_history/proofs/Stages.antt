@@ -24,7 +24,7 @@ use Rattle.ws_core.specs.Histories.{entry_of, replay, written}
 use Rattle.ws_core.specs.Sessions.{IsConsistent, Session}
 use Rattle.ws_core.specs.Effects.{check_in, check_out, keep_states}
 use Rattle.ws_core.specs.Steps.{step}
-use Rattle.save_history.specs.Saves.{EndsUnkept, beginning, ending}
+use Rattle.save_history.specs.Saves.{beginning, ending}
 use Rattle.save_history.specs.Stages.{HasBegun, HasEnded, HasKept, HasSaved, IsUnderWay, Starts, Stays, WasRefused, WentOn, at_home, number_of}
 use Rattle.save_history.proofs.Stepped.{begins_done, begins_refused, ends_done, is_under_way, keeps_done, save_may_end, untold}
 

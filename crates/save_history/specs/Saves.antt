@@ -1,11 +1,11 @@
 -- The entries of a save command.
 use Rattle.std.specs.Prelude.{◌≡◌, ◌⊎◌, ℕ, List, [], ◌∷◌}
 use Rattle.save_kind.specs.declared.answer.SaveAnswer.{SaveAnswer}
-use Rattle.save_kind.specs.declared.answer.SaveAnswer.TheVariants as answer
 use Rattle.save_kind.specs.declared.kind.SaveKind.{SaveKind}
 use Rattle.save_kind.specs.declared.state.PartState.{PartState}
 use Rattle.save_run.specs.declared.command.Saved.{Saved}
 use Rattle.save_run.specs.declared.command.Saved.TheVariants.{Ended, Stopped}
+use Rattle.save_run.specs.Books.{EndsUnkept}
 use Rattle.core_event.specs.declared.entry.Entry.{Entry}
 use Rattle.core_event.specs.declared.event.Event.TheVariants.{Service}
 use Rattle.core_event.specs.declared.reply.Answer.{Answer}
@@ -33,15 +33,6 @@ beginning kind = Checkout (purposes.Save kind)
 
 abbrev pub ending : SaveAnswer → ServiceEvent
 ending o = CheckIn (outcomes.Save o)
-
--- a save in which no states were kept ends so
-abbrev pub EndsUnkept : SaveAnswer → Type 0
-EndsUnkept answer.Saved = ⊥
-EndsUnkept answer.SaveFailed = ⊥
-EndsUnkept (answer.ParticipantFailed name) = Unit {0}
-EndsUnkept answer.SaveTooLarge = ⊥
-EndsUnkept answer.SaveNumbers = ⊥
-EndsUnkept answer.NoMemory = Unit {0}
 
 -- its beginning was refused with this number
 pub record WasStopped (k : ℕ) (kind : SaveKind) (n : ℕ) (h : List Entry) : Type 0 where

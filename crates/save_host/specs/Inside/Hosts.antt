@@ -6,7 +6,7 @@ use Rattle.save_kind.specs.declared.answer.SaveAnswer.{SaveAnswer}
 use Rattle.save_kind.specs.declared.kind.SaveKind.{SaveKind}
 use Rattle.save_kind.specs.declared.state.PartState.{PartState}
 use Rattle.save_run.specs.declared.host.WriteFault.{WriteFault}
-use Rattle.save_run.specs.Books.{Deed, Start, Keep, Write, Finish, outcome_of}
+use Rattle.save_run.specs.Books.{Deed, Start, Keep, Write, Finish, EndsUnkept, outcome_of}
 use Rattle.core_event.specs.declared.entry.Entry.{Entry}
 use Rattle.core_event.specs.declared.reply.Answer.{Answer}
 use Rattle.ws_core.specs.Histories.{has_entered}
@@ -14,7 +14,6 @@ use Rattle.ws_core.specs.Sessions.{Session}
 use Rattle.save_history.specs.Durables.{durable_of}
 use Rattle.save_history.specs.Steps.{SaveStep, Begins, Keeps, Ends, step_in}
 use Rattle.save_history.specs.Points.{IsAsked}
-use Rattle.save_history.specs.Saves.{EndsUnkept}
 use Rattle.save_history.specs.Kept.{Keeper, IsKept, IsTried, points_at}
 use Rattle.save_history.specs.Stages.{HasBegun, HasEnded, HasKept, WasRefused, number_of}
 use Rattle.save_host.specs.declared.host.Try.{Try}
