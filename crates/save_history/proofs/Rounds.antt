@@ -30,11 +30,11 @@ pub steps_stopped : (k : ℕ) (kind : SaveKind) (n : ℕ) (h : List Entry) → W
 steps_stopped k kind n h w = ap steps_of w.are ∙ ap (λ o. option_to_list o ++ []) (refused_step k _ w.refusal w.entry w.refused)
 
 pub steps_unkept : (k : ℕ) (kind : SaveKind) (o : SaveAnswer) (h : List Entry) → WasUnkept k kind o h → steps_of h ≡ Begins kind ∷ Ends o ∷ []
-steps_unkept k kind o h w = ap steps_of w.are ∙ (λ i. option_to_list (done_step k _ w.first w.begins i) ++ option_to_list (done_step k _ w.last w.ends i) ++ [])
+steps_unkept k kind o h w = ap steps_of w.are ∙ (λ i. option_to_list (done_step k _ w.first w.begins i) ++ (option_to_list (done_step k _ w.last w.ends i) ++ []))
 
 pub steps_kept : (k : ℕ) (kind : SaveKind) (o : SaveAnswer) (h : List Entry) (w : WasKept k kind o h) → steps_of h ≡ Begins kind ∷ Keeps w.states ∷ Ends o ∷ []
 steps_kept k kind o h w = ap steps_of w.are
-    ∙ (λ i. option_to_list (done_step k _ w.first w.begins i) ++ option_to_list (done_step k _ w.middle w.keeps i) ++ option_to_list (done_step k _ w.last w.ends i) ++ [])
+    ∙ (λ i. option_to_list (done_step k _ w.first w.begins i) ++ (option_to_list (done_step k _ w.middle w.keeps i) ++ (option_to_list (done_step k _ w.last w.ends i) ++ [])))
 
 -- ---- rounds
 

@@ -70,13 +70,19 @@ module _ (k : ℕ) (kind : SaveKind) (o : SaveAnswer) (x a y : Session) (b : Has
       ∙ some_before a.state.remembered (kept_before x.state.remembered) b.before
       ∙ none_before x.state.remembered none
 
+  pub made_unkept : WasUnkept k kind o (b.went.entry ∷ e.went.entry ∷ [])
+  made_unkept = record { first = b.went.entry; last = e.went.entry; are = refl; begins = b.went.is; ends = e.went.is; unkept = unkept }
+
+  pub grew_unkept : y.history ≡ x.history ++ b.went.entry ∷ e.went.entry ∷ []
+  grew_unkept = then_one x.history a.history y.history (b.went.entry ∷ []) e.went.entry b.went.history e.went.history
+
   pub saved_unkept : HasSaved k kind (Ended o) x y
   saved_unkept =
       let stays = stays_on x.state a.state y.state b.went.stays e.went.stays in record {
         opened = e.went.opened ∙ b.went.opened;
         entries = b.went.entry ∷ e.went.entry ∷ [];
-        history = then_one x.history a.history y.history (b.went.entry ∷ []) e.went.entry b.went.history e.went.history;
-        made = inl (record { first = b.went.entry; last = e.went.entry; are = refl; begins = b.went.is; ends = e.went.is; unkept = unkept });
+        history = grew_unkept;
+        made = inl made_unkept;
         stays = stays;
         manager = managers x y stays b.home e.home;
         before = λ none. e.before;
@@ -85,26 +91,29 @@ module _ (k : ℕ) (kind : SaveKind) (o : SaveAnswer) (x a y : Session) (b : Has
 
 -- it ended behind states that were kept
 module _ (k : ℕ) (kind : SaveKind) (states : List (List ℕ × PartState)) (o : SaveAnswer) (x a c y : Session) (b : HasBegun k kind x a) (w : HasKept k states a c) (e : HasEnded k o c y) where
-  is_kept : WasKept k kind o (b.went.entry ∷ w.went.entry ∷ e.went.entry ∷ [])
-  is_kept = record { states = states; first = b.went.entry; middle = w.went.entry; last = e.went.entry; are = refl; begins = b.went.is; keeps = w.went.is; ends = e.went.is }
+  pub made_kept : WasKept k kind o (b.went.entry ∷ w.went.entry ∷ e.went.entry ∷ [])
+  made_kept = record { states = states; first = b.went.entry; middle = w.went.entry; last = e.went.entry; are = refl; begins = b.went.is; keeps = w.went.is; ends = e.went.is }
 
   kept_now : c.state.remembered.kept ≡ kept_with x.state.resources.tree x.state.remembered.kept (states_kept (steps_of (b.went.entry ∷ w.went.entry ∷ e.went.entry ∷ [])))
   kept_now =
       w.kept
       ∙ (λ i. kept_with ((b.went.stays.resources i).tree) (b.kept i) states)
-      ∙ ap (kept_with x.state.resources.tree x.state.remembered.kept) (sym (append-nil states) ∙ ap states_kept (sym (steps_kept k kind o (b.went.entry ∷ w.went.entry ∷ e.went.entry ∷ []) is_kept)))
+      ∙ ap (kept_with x.state.resources.tree x.state.remembered.kept) (sym (append-nil states) ∙ ap states_kept (sym (steps_kept k kind o (b.went.entry ∷ w.went.entry ∷ e.went.entry ∷ []) made_kept)))
 
   kept_again : x.state.remembered.before ≡ None → kept_before c.state.remembered ≡ x.state.remembered.kept
   kept_again none = some_before c.state.remembered (kept_before x.state.remembered) (w.before ∙ b.before) ∙ none_before x.state.remembered none
+
+  pub grew_kept : y.history ≡ x.history ++ b.went.entry ∷ w.went.entry ∷ e.went.entry ∷ []
+  grew_kept = then_one x.history c.history y.history (b.went.entry ∷ w.went.entry ∷ []) e.went.entry
+      (then_one x.history a.history c.history (b.went.entry ∷ []) w.went.entry b.went.history w.went.history) e.went.history
 
   pub saved_kept : HasSaved k kind (Ended o) x y
   saved_kept =
       let stays = stays_on x.state c.state y.state (stays_on x.state a.state c.state b.went.stays w.went.stays) e.went.stays in record {
         opened = e.went.opened ∙ w.went.opened ∙ b.went.opened;
         entries = b.went.entry ∷ w.went.entry ∷ e.went.entry ∷ [];
-        history = then_one x.history c.history y.history (b.went.entry ∷ w.went.entry ∷ []) e.went.entry
-            (then_one x.history a.history c.history (b.went.entry ∷ []) w.went.entry b.went.history w.went.history) e.went.history;
-        made = inr is_kept;
+        history = grew_kept;
+        made = inr made_kept;
         stays = stays;
         manager = managers x y stays b.home e.home;
         before = λ none. e.before;

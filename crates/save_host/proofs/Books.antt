@@ -44,27 +44,30 @@ book_begun k kind x y w b none =
     ∙ ap (λ t. with_write t (deeds_of (b.went.entry ∷ []))) none
     ∙ ap (λ o. option_to_list o ++ []) (one_deed k _ _ b.went.entry b.went.is)
 
-pub book_kept : (k : ℕ) (kind : SaveKind) (states : List (List ℕ × PartState)) (x a y : Session) (w : Option Try) → HasBegun k kind x a → HasKept k states a y → book_of x y w ≡ with_write w (Start kind None ∷ Keep states ∷ [])
-book_kept k kind states x a y w b h =
+book_keeps : (k : ℕ) (kind : SaveKind) (states : List (List ℕ × PartState)) (x a y : Session) (w : Option Try) → HasBegun k kind x a → HasKept k states a y → book_of x y w ≡ with_write w (Start kind None ∷ Keep states ∷ [])
+book_keeps k kind states x a y w b h =
     book_grown x y (b.went.entry ∷ h.went.entry ∷ []) w (then_one x.history a.history y.history (b.went.entry ∷ []) h.went.entry b.went.history h.went.history)
-    ∙ (λ i. with_write w (option_to_list (one_deed k _ _ b.went.entry b.went.is i) ++ option_to_list (one_deed k _ _ h.went.entry h.went.is i) ++ []))
+    ∙ (λ i. with_write w (option_to_list (one_deed k _ _ b.went.entry b.went.is i) ++ (option_to_list (one_deed k _ _ h.went.entry h.went.is i) ++ [])))
+
+pub book_kept : (k : ℕ) (kind : SaveKind) (states : List (List ℕ × PartState)) (x a y : Session) (w : Option Try) → HasBegun k kind x a → HasKept k states a y → w ≡ None → book_of x y w ≡ Start kind None ∷ Keep states ∷ []
+book_kept k kind states x a y w b h none = book_keeps k kind states x a y w b h ∙ ap (λ z. with_write z (Start kind None ∷ Keep states ∷ [])) none
 
 pub book_over : (k : ℕ) (kind : SaveKind) (o : SaveAnswer) (x a y : Session) (w : Option Try) → HasBegun k kind x a → HasEnded k o a y → w ≡ None → book_of x y w ≡ Start kind None ∷ Finish o ∷ []
 book_over k kind o x a y w b e none =
     book_grown x y (b.went.entry ∷ e.went.entry ∷ []) w (then_one x.history a.history y.history (b.went.entry ∷ []) e.went.entry b.went.history e.went.history)
     ∙ ap (λ t. with_write t (deeds_of (b.went.entry ∷ e.went.entry ∷ []))) none
-    ∙ (λ i. option_to_list (one_deed k _ _ b.went.entry b.went.is i) ++ option_to_list (one_deed k _ _ e.went.entry e.went.is i) ++ [])
+    ∙ (λ i. option_to_list (one_deed k _ _ b.went.entry b.went.is i) ++ (option_to_list (one_deed k _ _ e.went.entry e.went.is i) ++ []))
 
-pub book_done : (k : ℕ) (kind : SaveKind) (states : List (List ℕ × PartState)) (o : SaveAnswer) (x a c y : Session) (w : Option Try) → HasBegun k kind x a → HasKept k states a c → HasEnded k o c y
+book_done : (k : ℕ) (kind : SaveKind) (states : List (List ℕ × PartState)) (o : SaveAnswer) (x a c y : Session) (w : Option Try) → HasBegun k kind x a → HasKept k states a c → HasEnded k o c y
     → book_of x y w ≡ with_write w (Start kind None ∷ Keep states ∷ Finish o ∷ [])
 book_done k kind states o x a c y w b h e =
     book_grown x y (b.went.entry ∷ h.went.entry ∷ e.went.entry ∷ []) w
     (then_one x.history c.history y.history (b.went.entry ∷ h.went.entry ∷ []) e.went.entry (then_one x.history a.history c.history (b.went.entry ∷ []) h.went.entry b.went.history h.went.history) e.went.history)
-    ∙ (λ i. with_write w (option_to_list (one_deed k _ _ b.went.entry b.went.is i) ++ option_to_list (one_deed k _ _ h.went.entry h.went.is i) ++ option_to_list (one_deed k _ _ e.went.entry e.went.is i) ++ []))
+    ∙ (λ i. with_write w (option_to_list (one_deed k _ _ b.went.entry b.went.is i) ++ (option_to_list (one_deed k _ _ h.went.entry h.went.is i) ++ (option_to_list (one_deed k _ _ e.went.entry e.went.is i) ++ []))))
 
 pub book_tried : (k : ℕ) (kind : SaveKind) (states : List (List ℕ × PartState)) (x a y : Session) (w : Option Try) (t : Try) → HasBegun k kind x a → HasKept k states a y → w ≡ Some t
     → book_of x y w ≡ Start kind None ∷ Keep states ∷ Write t.kind t.result ∷ []
-book_tried k kind states x a y w t b h some = book_kept k kind states x a y w b h ∙ ap (λ z. with_write z (Start kind None ∷ Keep states ∷ [])) some
+book_tried k kind states x a y w t b h some = book_keeps k kind states x a y w b h ∙ ap (λ z. with_write z (Start kind None ∷ Keep states ∷ [])) some
 
 pub book_written : (k : ℕ) (kind : SaveKind) (states : List (List ℕ × PartState)) (o : SaveAnswer) (x a c y : Session) (w : Option Try) (t : Try) → HasBegun k kind x a → HasKept k states a c → HasEnded k o c y → w ≡ Some t
     → book_of x y w ≡ Start kind None ∷ Keep states ∷ Write t.kind t.result ∷ Finish o ∷ []

@@ -60,7 +60,7 @@ pub data IsAt {D : Type 0} (moment : D → ℕ) (left_since : D → ℕ → Cont
   IsOver : (kind : SaveKind) (o : SaveAnswer) (a : Session) → HasBegun k kind x a → HasEnded k o a y → EndsUnkept o → written ≡ None
       → IsKept moment left_since may_leave faults y keeper → IsAt moment left_since may_leave faults k x y keeper written
   -- it ended as the write said
-  IsDone : (kind : SaveKind) (states : List (List ℕ × PartState)) (a b : Session) (t : Try) → HasBegun k kind x a → HasKept k states a b → HasEnded k (outcome_of t.result) b y → written ≡ Some t
+  IsThrough : (kind : SaveKind) (states : List (List ℕ × PartState)) (a b : Session) (t : Try) → HasBegun k kind x a → HasKept k states a b → HasEnded k (outcome_of t.result) b y → written ≡ Some t
       → IsKept moment left_since may_leave faults y keeper → IsAt moment left_since may_leave faults k x y keeper written
 
 -- the pass has entered, and its save has come so far
