@@ -1,15 +1,19 @@
 -- The words of what concerns the services.
-use Rattle.std.specs.Prelude.{ℕ, List, [], ◌∷◌, ◌++◌, Option, Some, None, codes, decimal}
+use Rattle.std.specs.Prelude.{ℕ, List, [], ◌∷◌, ◌++◌, length, Option, Some, None, codes, decimal}
 use Rattle.std.specs.List.{flat_map}
 use Rattle.builder_api.specs.Kinds.{build_number}
 use Rattle.builder_api.specs.declared.outcome.BuildOutcome.{BuildOutcome}
 use Rattle.builder_api.specs.declared.outcome.BuildOutcome.TheVariants as ends
+use Rattle.save_kind.specs.Kinds.{save_number}
+use Rattle.save_kind.specs.declared.answer.SaveAnswer.{SaveAnswer}
+use Rattle.save_kind.specs.declared.answer.SaveAnswer.TheVariants as saves
 use Rattle.core_event.specs.declared.service.Outcomes.{Outcomes}
 use Rattle.core_event.specs.declared.service.Outcomes.TheVariants as outcomes
 use Rattle.core_event.specs.declared.service.Purpose.{Purpose}
 use Rattle.core_event.specs.declared.service.Purpose.TheVariants as purposes
 use Rattle.core_event.specs.declared.service.ServiceEvent.{ServiceEvent}
-use Rattle.core_event.specs.declared.service.ServiceEvent.TheVariants.{Checkout, CheckIn, Handed, Commit, Clean}
+use Rattle.core_event.specs.declared.service.ServiceEvent.TheVariants.{Checkout, CheckIn, Handed, Commit, Clean, Saving}
+use Rattle.script_words.specs.Words.{word_text}
 use Rattle.report_text.specs.Words.{path_word}
 use Rattle.service_desk.specs.declared.desk.UnderWay.{UnderWay}
 
@@ -28,6 +32,7 @@ scope_text (Some project) = codes " " ++ project_word project
 
 abbrev pub purpose_text : Purpose → List ℕ
 purpose_text (purposes.Build kind project) = codes "build " ++ decimal (build_number kind) ++ scope_text project
+purpose_text (purposes.Save kind) = codes "save " ++ decimal (save_number kind)
 
 -- one project of a knot
 abbrev pub member_text : List ℕ → List ℕ
@@ -41,8 +46,17 @@ build_outcome_text (ends.Refused number) = codes "refused " ++ decimal number
 build_outcome_text ends.Cleaned = codes "cleaned"
 build_outcome_text ends.NoMemory = codes "no-memory"
 
+abbrev pub save_answer_text : SaveAnswer → List ℕ
+save_answer_text saves.Saved = codes "saved"
+save_answer_text saves.SaveFailed = codes "save-failed"
+save_answer_text (saves.ParticipantFailed name) = codes "participant " ++ word_text name
+save_answer_text saves.SaveTooLarge = codes "save-too-large"
+save_answer_text saves.SaveNumbers = codes "save-numbers"
+save_answer_text saves.NoMemory = codes "no-memory"
+
 abbrev pub outcome_text : Outcomes → List ℕ
 outcome_text (outcomes.Build outcome) = build_outcome_text outcome
+outcome_text (outcomes.Save answer) = save_answer_text answer
 
 -- the command that is under way, if one is
 abbrev pub under_words : Option UnderWay → List ℕ
@@ -56,3 +70,4 @@ service_text u (CheckIn outcome) = codes "checkin " ++ outcome_text outcome
 service_text u (Handed project index kind) = codes "handed " ++ command_words project index ++ codes " " ++ decimal (build_number kind)
 service_text u (Commit edits) = codes "commit " ++ under_words u
 service_text u (Clean project index) = codes "clean " ++ command_words project index
+service_text u (Saving states) = codes "saving " ++ decimal (length states)

@@ -6,7 +6,7 @@ use Rattle.core_event.specs.declared.event.Event.TheVariants.{Operation, Service
 use Rattle.core_event.specs.declared.reply.Answer.{Answer}
 use Rattle.core_event.specs.declared.reply.Answer.TheVariants.{Refused}
 use Rattle.core_event.specs.declared.service.ServiceEvent.{ServiceEvent}
-use Rattle.core_event.specs.declared.service.ServiceEvent.TheVariants.{Checkout, CheckIn, Handed, Commit, Clean}
+use Rattle.core_event.specs.declared.service.ServiceEvent.TheVariants.{Checkout, CheckIn, Handed, Commit, Clean, Saving}
 use Rattle.service_desk.specs.Desks.{unless_stopped}
 use Rattle.service_desk.specs.declared.desk.UnderWay.{UnderWay}
 
@@ -22,6 +22,7 @@ under_served u (CheckIn outcomes) = None
 under_served u (Handed project index kind) = Some (record { project = project; index = index })
 under_served u (Commit edits) = u
 under_served u (Clean project index) = None
+under_served u (Saving states) = u
 
 -- after an event that was done
 abbrev pub under_done : Option UnderWay → Event → Option UnderWay

@@ -1,9 +1,10 @@
 //! The words of what concerns the services.
-ghost use Rattle.std.specs.Prelude.{◌≡◌, ◌++◌, codes, decimal, OnOk};
+ghost use Rattle.std.specs.Prelude.{◌≡◌, ◌++◌, codes, decimal, length, OnOk};
 ghost use Rattle.std.specs.List.{flat_map};
 ghost use Rattle.std.specs.Option.{option_copied};
 ghost use Rattle.builder_api.specs.Kinds.{build_number};
-ghost use Rattle.run_text.specs.Services.{build_outcome_text, command_words, member_text, outcome_text, project_word, purpose_text, scope_text, service_text, under_words};
+ghost use Rattle.save_kind.specs.Kinds.{save_number};
+ghost use Rattle.run_text.specs.Services.{build_outcome_text, command_words, member_text, outcome_text, project_word, purpose_text, save_answer_text, scope_text, service_text, under_words};
 
 use crate::NoMemory;
 use crate::under_way::Current;
@@ -11,6 +12,7 @@ use builder_api::{BuildKind, BuildOutcome};
 use core_event::{Outcomes, Purpose, ServiceEvent};
 use report_text::{put_counted, put_named, put_text};
 use res_path::Name;
+use save_kind::{PartStates, SaveAnswer, SaveKind};
 
 /// Appends a text and the path of the project of this name, as a word.
 #[tactic(auto, using(crate::proofs::Projects::project_text))]
@@ -55,7 +57,15 @@ fn put_purpose(out: &mut Vec<u8>, purpose: &Purpose) -> Result<(), NoMemory>
             put_kind(out, "build ", *kind)?;
             put_scope(out, project.as_ref())
         }
+        Purpose::Save(kind) => put_save(out, *kind),
     }
+}
+
+/// Appends the word of a save, and the number of its kind as it was asked.
+fn put_save(out: &mut Vec<u8>, kind: SaveKind) -> Result<(), NoMemory>
+    ensures { OnOk result (out.new.items ≡ out.old.items ++ codes "save " ++ decimal (save_number kind)) }
+{
+    put_counted(out, "save ", u64::from(kind.number()))
 }
 
 fn put_members(out: &mut Vec<u8>, names: &[Name]) -> Result<(), NoMemory>
@@ -89,11 +99,27 @@ fn put_build_outcome(out: &mut Vec<u8>, outcome: &BuildOutcome) -> Result<(), No
     }
 }
 
+fn put_save_answer(out: &mut Vec<u8>, answer: &SaveAnswer) -> Result<(), NoMemory>
+    ensures { OnOk result (out.new.items ≡ out.old.items ++ save_answer_text answer.now) }
+{
+    match answer {
+        SaveAnswer::Saved => put_text(out, "saved"),
+        SaveAnswer::SaveFailed => put_text(out, "save-failed"),
+        SaveAnswer::ParticipantFailed(name) => {
+            put_named(out, "participant ", name.text().as_bytes())
+        }
+        SaveAnswer::SaveTooLarge => put_text(out, "save-too-large"),
+        SaveAnswer::SaveNumbers => put_text(out, "save-numbers"),
+        SaveAnswer::NoMemory => put_text(out, "no-memory"),
+    }
+}
+
 fn put_outcome(out: &mut Vec<u8>, outcome: &Outcomes) -> Result<(), NoMemory>
     ensures { OnOk result (out.new.items ≡ out.old.items ++ outcome_text outcome.now) }
 {
     match outcome {
         Outcomes::Build(outcome) => put_build_outcome(out, outcome),
+        Outcomes::Save(answer) => put_save_answer(out, answer),
     }
 }
 
@@ -132,6 +158,12 @@ fn put_commit(out: &mut Vec<u8>, under: &Current<'_>) -> Result<(), NoMemory>
     }
 }
 
+fn put_saving(out: &mut Vec<u8>, states: &PartStates) -> Result<(), NoMemory>
+    ensures { OnOk result (out.new.items ≡ out.old.items ++ codes "saving " ++ decimal (length states.now)) }
+{
+    put_counted(out, "saving ", states.as_slice().len() as u64)
+}
+
 /// Appends the words of what is asked of the services, where this command is under way.
 pub(crate) fn put_service(
     out: &mut Vec<u8>,
@@ -146,5 +178,6 @@ pub(crate) fn put_service(
         ServiceEvent::Handed(project, index, kind) => put_handed(out, project, *index, *kind),
         ServiceEvent::Commit(_) => put_commit(out, under),
         ServiceEvent::Clean(project, index) => put_command(out, "clean ", project, *index),
+        ServiceEvent::Saving(states) => put_saving(out, states),
     }
 }

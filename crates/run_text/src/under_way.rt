@@ -80,7 +80,7 @@ impl<'a> Current<'a> {
                 command: Some((project, *index)),
             },
             ServiceEvent::CheckIn(_) | ServiceEvent::Clean(_, _) => Current::none(),
-            ServiceEvent::Checkout(_) | ServiceEvent::Commit(_) => self,
+            ServiceEvent::Checkout(_) | ServiceEvent::Commit(_) | ServiceEvent::Saving(_) => self,
         }
     }
 

@@ -1,5 +1,5 @@
 -- Commands by their numbers, and paths of projects.
-use Rattle.std.proofs.Common.{◌≡◌, ◌≢◌, ◌≤◌, ◌<◌, ◌==◌, ℕ, suc, zero, arith, rules, Bool, true, false, ◌&&◌, List, [], ◌∷◌, length, refl, sym, ap, ◌∙◌}
+use Rattle.std.proofs.Common.{◌≡◌, ◌≢◌, ℕ, suc, zero, arith, rules, Bool, true, false, ◌&&◌, List, [], ◌∷◌, ◌++◌, length, refl, sym, ap, ◌∙◌}
 use Rattle.std.specs.Prelude.{Option, Some, None, nat_le, slice_get, IfSome, option_map, unwrap_or}
 use Rattle.std.specs.Option.{option_or}
 use Rattle.std.specs.Str.{bytes_eq}
@@ -44,6 +44,14 @@ no_last (name ∷ other ∷ p) project h = off (bytes_eq name project)
     off : (b : Bool) → (b && false) ≡ false
     off true = refl
     off false = refl
+
+-- ---- causes
+
+-- the first of some causes is the first of more
+pub front : {C : Type 0} (cs ds : List (Option C)) (c : C) → first_cause cs ≡ Some c → first_cause (cs ++ ds) ≡ Some c
+front [] ds c h = cc
+front (None ∷ cs) ds c h = front cs ds c h
+front (Some first ∷ cs) ds c h = h
 
 -- ---- commands
 

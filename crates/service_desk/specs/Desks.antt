@@ -1,5 +1,5 @@
 -- The names of the builders, the command under way, and what the services were taken for.
-use Rattle.std.specs.Prelude.{ℕ, Bool, true, false, if◌then◌else◌, List, [], ◌∷◌, Option, Some, None, option_and_then}
+use Rattle.std.specs.Prelude.{ℕ, Bool, true, false, if◌then◌else◌, List, [], ◌∷◌, Option, Some, None}
 use Rattle.res_path.specs.Paths.{Names, path_eq}
 use Rattle.ws_elem.specs.Trees.{Tree}
 use Rattle.op_kind.specs.declared.op.Op.{Op}

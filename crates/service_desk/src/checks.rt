@@ -59,11 +59,7 @@ pub fn check_home(passes: &Passes<WsAtom>) -> Result<(), ServiceError>
 }
 
 /// Refused where the pass hasn't the services, or hasn't taken them for what it asks.
-pub fn check_serving(
-    passes: &Passes<WsAtom>,
-    fits: bool,
-    pass: u64,
-) -> Result<(), ServiceError>
+pub fn check_serving(passes: &Passes<WsAtom>, fits: bool, pass: u64) -> Result<(), ServiceError>
     ensures { Judges (not_serving passes.now fits pass) result }
 {
     if passes.serves(pass) && fits {
@@ -133,8 +129,8 @@ pub fn site_in<T: TreeRep>(
 }
 
 /// The command of this number of the project, for a pass that is to have it built or cleaned. Refused where the pass hasn't
-/// the services for a build, where it hasn't the rule of the root, where no such project is there or it is closed, where it has no such
-/// command, and where there is no builder for it.
+/// the services for a build, where it hasn't the rule of the root, where no such project is there or it is closed, where it
+/// has no such command, and where there is no builder for it.
 pub fn site_for<T: TreeRep>(
     alloc: Global,
     passes: &Passes<WsAtom>,

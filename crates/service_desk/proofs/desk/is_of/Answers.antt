@@ -1,5 +1,5 @@
 use Rattle.std.proofs.Common.{◌≡◌, ◌∷◌, [], ap, rules, sym, subst, ◌∙◌}
-use Rattle.std.specs.Prelude.{IfSome, Some, option_map}
+use Rattle.std.specs.Prelude.{IfSome, option_map}
 use Rattle.std.specs.Str.{bytes_eq}
 use Rattle.res_path.specs.Paths.{path_eq}
 use Rattle.service_desk.proofs.Listed.{no_last, one_of}
