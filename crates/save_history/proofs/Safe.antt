@@ -8,6 +8,8 @@ use Rattle.ws_outside.specs.Faults.{Rose}
 use Rattle.ws_durable.specs.Saved.{Saved, saved}
 use Rattle.save_kind.specs.declared.answer.SaveAnswer.{SaveAnswer}
 use Rattle.save_kind.specs.declared.answer.SaveAnswer.TheVariants as answer
+use Rattle.save_kind.specs.declared.kind.SaveKind.{SaveKind}
+use Rattle.save_kind.specs.declared.state.PartState.{PartState}
 use Rattle.save_store.specs.declared.saves.Saves.{Saves}
 use Rattle.save_store.specs.Stored.{IsStored}
 use Rattle.save_run.specs.declared.host.WriteFault.{WriteFault}

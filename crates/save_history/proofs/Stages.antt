@@ -89,14 +89,14 @@ module _ (x y : Session) (k : ℕ) (kind : SaveKind) (sound : IsConsistent x.sta
       }
 
   -- and the answer tells whether it did
-  pub starts : Starts k kind (number_of (step x.state k (Service (beginning kind))).1.answer) x y
-  starts = by x.state.manager.passes.services refl
+  pub starts : (a : Answer) → a ≡ (step x.state k (Service (beginning kind))).1.answer → Starts k kind (number_of a) x y
+  starts a told = by x.state.manager.passes.services refl
     where
-      by : (o : Option ℕ) → x.state.manager.passes.services ≡ o → Starts k kind (number_of (step x.state k (Service (beginning kind))).1.answer) x y
-      by None home = subst (λ a. Starts k kind (number_of a) x y)
-          (sym (answered x y k (beginning kind) (check_out x.state k (purposes.Save kind)) (begins_done x.state k kind sound.quiet home) placed opened state history)) (begun home)
-      by (Some holder) out = subst (λ a. Starts k kind (number_of a) x y)
-          (sym (answered x y k (beginning kind) (x.state, Refused (ServicesOut holder)) (begins_refused x.state k kind sound.quiet holder out) placed opened state history)) (refused holder out)
+      by : (o : Option ℕ) → x.state.manager.passes.services ≡ o → Starts k kind (number_of a) x y
+      by None home = subst (λ z. Starts k kind (number_of z) x y)
+          (sym (told ∙ answered x y k (beginning kind) (check_out x.state k (purposes.Save kind)) (begins_done x.state k kind sound.quiet home) placed opened state history)) (begun home)
+      by (Some holder) out = subst (λ z. Starts k kind (number_of z) x y)
+          (sym (told ∙ answered x y k (beginning kind) (x.state, Refused (ServicesOut holder)) (begins_refused x.state k kind sound.quiet holder out) placed opened state history)) (refused holder out)
 
 -- ---- it goes on
 
