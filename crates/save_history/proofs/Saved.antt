@@ -91,7 +91,7 @@ module _ (k : ℕ) (kind : SaveKind) (o : SaveAnswer) (x a y : Session) (b : Has
 
 -- it ended behind states that were kept
 module _ (k : ℕ) (kind : SaveKind) (states : List (List ℕ × PartState)) (o : SaveAnswer) (x a c y : Session) (b : HasBegun k kind x a) (w : HasKept k states a c) (e : HasEnded k o c y) where
-  pub made_kept : WasKept k kind o (b.went.entry ∷ w.went.entry ∷ e.went.entry ∷ [])
+  abbrev pub made_kept : WasKept k kind o (b.went.entry ∷ w.went.entry ∷ e.went.entry ∷ [])
   made_kept = record { states = states; first = b.went.entry; middle = w.went.entry; last = e.went.entry; are = refl; begins = b.went.is; keeps = w.went.is; ends = e.went.is }
 
   kept_now : c.state.remembered.kept ≡ kept_with x.state.resources.tree x.state.remembered.kept (states_kept (steps_of (b.went.entry ∷ w.went.entry ∷ e.went.entry ∷ [])))
