@@ -15,6 +15,38 @@ use Rattle.save_host.specs.declared.host.Try.{Try}
 use Rattle.save_host.specs.Inside.Hosts.{IsAt, IsFresh, IsStopped, IsBegun, AreKept, WasTried, IsOver, IsThrough, book_of}
 use Rattle.save_host.proofs.Books.{book_begun, book_fresh, book_kept, book_over, book_stopped, book_tried, book_written}
 
+-- lists of deeds that differ
+nil_two : (a b : Deed) → [] ≡ a ∷ b ∷ [] → ⊥
+nil_two a b is = cc
+
+one_two : (c a b : Deed) → c ∷ [] ≡ a ∷ b ∷ [] → ⊥
+one_two c a b is = cc
+
+three_two : (c d e a b : Deed) → c ∷ d ∷ e ∷ [] ≡ a ∷ b ∷ [] → ⊥
+three_two c d e a b is = cc
+
+four_two : (c d e f a b : Deed) → c ∷ d ∷ e ∷ f ∷ [] ≡ a ∷ b ∷ [] → ⊥
+four_two c d e f a b is = cc
+
+ended_kept : (c a : Deed) (o : SaveAnswer) (states : List (List ℕ × PartState)) → c ∷ Finish o ∷ [] ≡ a ∷ Keep states ∷ [] → ⊥
+ended_kept c a o states is = cc
+
+nil_three : (a b c : Deed) → [] ≡ a ∷ b ∷ c ∷ [] → ⊥
+nil_three a b c is = cc
+
+one_three : (d a b c : Deed) → d ∷ [] ≡ a ∷ b ∷ c ∷ [] → ⊥
+one_three d a b c is = cc
+
+two_three : (d e a b c : Deed) → d ∷ e ∷ [] ≡ a ∷ b ∷ c ∷ [] → ⊥
+two_three d e a b c is = cc
+
+four_three : (d e f g a b c : Deed) → d ∷ e ∷ f ∷ g ∷ [] ≡ a ∷ b ∷ c ∷ [] → ⊥
+four_three d e f g a b c is = cc
+
+-- the result of the write, where this is the third deed
+same_result : (a b c d : Deed) (kind asked : SaveKind) (q r : Result (Unit {0}) WriteFault) → a ∷ b ∷ Write kind q ∷ [] ≡ c ∷ d ∷ Write asked r ∷ [] → q ≡ r
+same_result a b c d kind asked q r is = cc
+
 module _ {D : Type 0} (moment : D → ℕ) (left_since : D → ℕ → Contents → Type 0) (may_leave : D → Contents → Type 0) (faults : D → ℕ) (k : ℕ) (x y : Session) (keeper : Keeper D) (w : Option Try) where
   abbrev At : Type 0
   At = IsAt moment left_since may_leave faults k x y keeper w
@@ -85,13 +117,13 @@ module _ {D : Type 0} (moment : D → ℕ) (left_since : D → ℕ → Contents 
     pub asked : IsAsked (points_at y keeper) (durable_of y.state)
 
   kept_by : (at : At) (kind : SaveKind) (states : List (List ℕ × PartState)) → shape at ≡ Start kind None ∷ Keep states ∷ [] → KeptNow
-  kept_by (IsFresh same none kept) kind states is = cc
-  kept_by (IsStopped other n r none kept) kind states is = cc
-  kept_by (IsBegun other b none kept) kind states is = cc
+  kept_by (IsFresh same none kept) kind states is = absurd (nil_two _ _ is)
+  kept_by (IsStopped other n r none kept) kind states is = absurd (one_two _ _ _ is)
+  kept_by (IsBegun other b none kept) kind states is = absurd (one_two _ _ _ is)
   kept_by (AreKept other those a b h none kept asked) kind states is = record { kind = other; states = those; between = a; begun = b; keeps = h; none = none; kept = kept; asked = asked }
-  kept_by (WasTried other those a t b h some tried) kind states is = cc
-  kept_by (IsOver other o a b e unkept none kept) kind states is = cc
-  kept_by (IsThrough other those a c t b h e some kept) kind states is = cc
+  kept_by (WasTried other those a t b h some tried) kind states is = absurd (three_two _ _ _ _ _ is)
+  kept_by (IsOver other o a b e unkept none kept) kind states is = absurd (ended_kept _ _ o states is)
+  kept_by (IsThrough other those a c t b h e some kept) kind states is = absurd (four_two _ _ _ _ _ _ is)
 
   pub kept_of : (kind : SaveKind) (states : List (List ℕ × PartState)) → At → book_of x y w ≡ Start kind None ∷ Keep states ∷ [] → KeptNow
   kept_of kind states at is = kept_by at kind states (sym (book_is at) ∙ is)
@@ -109,14 +141,14 @@ module _ {D : Type 0} (moment : D → ℕ) (left_since : D → ℕ → Contents 
     pub tried : IsTried moment left_since may_leave faults last.result y keeper
 
   tried_by : (at : At) (kind asked : SaveKind) (states : List (List ℕ × PartState)) (r : Result (Unit {0}) WriteFault) → shape at ≡ Start kind None ∷ Keep states ∷ Write asked r ∷ [] → TriedNow r
-  tried_by (IsFresh same none kept) kind asked states r is = cc
-  tried_by (IsStopped other n q none kept) kind asked states r is = cc
-  tried_by (IsBegun other b none kept) kind asked states r is = cc
-  tried_by (AreKept other those a b h none kept due) kind asked states r is = cc
+  tried_by (IsFresh same none kept) kind asked states r is = absurd (nil_three _ _ _ is)
+  tried_by (IsStopped other n q none kept) kind asked states r is = absurd (one_three _ _ _ _ is)
+  tried_by (IsBegun other b none kept) kind asked states r is = absurd (one_three _ _ _ _ is)
+  tried_by (AreKept other those a b h none kept due) kind asked states r is = absurd (two_three _ _ _ _ _ is)
   tried_by (WasTried other those a t b h some tried) kind asked states r is =
-      record { kind = other; states = those; between = a; last = t; begun = b; keeps = h; some = some; result_is = cc; tried = tried }
-  tried_by (IsOver other o a b e unkept none kept) kind asked states r is = cc
-  tried_by (IsThrough other those a c t b h e some kept) kind asked states r is = cc
+      record { kind = other; states = those; between = a; last = t; begun = b; keeps = h; some = some; result_is = same_result _ _ _ _ t.kind asked t.result r is; tried = tried }
+  tried_by (IsOver other o a b e unkept none kept) kind asked states r is = absurd (two_three _ _ _ _ _ is)
+  tried_by (IsThrough other those a c t b h e some kept) kind asked states r is = absurd (four_three _ _ _ _ _ _ _ is)
 
   pub tried_of : (kind asked : SaveKind) (states : List (List ℕ × PartState)) (r : Result (Unit {0}) WriteFault) → At → book_of x y w ≡ Start kind None ∷ Keep states ∷ Write asked r ∷ [] → TriedNow r
   tried_of kind asked states r at is = tried_by at kind asked states r (sym (book_is at) ∙ is)
