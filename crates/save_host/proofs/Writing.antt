@@ -1,5 +1,5 @@
 -- A write to the store of a run.
-use Rattle.std.proofs.Common.{◌≡◌, ℕ, ◌+◌, Bool, true, false, ◌||◌, List, [], ◌∷◌, ◌++◌, Result, Ok, Err, refl, sym, ap, ◌∙◌, subst, arith}
+use Rattle.std.proofs.Common.{◌≡◌, ℕ, ◌+◌, Bool, true, false, List, [], ◌∷◌, ◌++◌, Result, Ok, Err, refl, sym, ap, ◌∙◌, subst, arith}
 use Rattle.std.specs.Prelude.{OnOk, OnErr}
 use Rattle.ws_outside.specs.declared.contents.Contents.{Contents}
 use Rattle.ws_outside.specs.Disk.{LeavesOnly}
@@ -21,15 +21,6 @@ use Rattle.save_history.proofs.Points.{points_whole}
 use Rattle.save_history.proofs.Backed.{risen_more, risen_same, told_rose, told_same, wrote_ahead, wrote_safe}
 use Rattle.save_host.specs.Inside.Writes.{IsWritten, failed_after, write_of}
 
--- whether one failed before, or does now
-failed_now : (old : Bool) → (old || false) ≡ old
-failed_now true = refl
-failed_now false = refl
-
-failed_ever : (old : Bool) → (old || true) ≡ true
-failed_ever true = refl
-failed_ever false = refl
-
 module _ {D : Type 0} (moment : D → ℕ) (left_since : D → ℕ → Contents → Type 0) (may_leave : D → Contents → Type 0) (faults : D → ℕ) (x : Session) (old new : Keeper D) (now : Durable) (began : new.began ≡ old.began)
     (asked : IsAsked (points_at x old) (saved now)) (kept : IsKept moment left_since may_leave faults x old) where
   abbrev count : ℕ
@@ -39,12 +30,12 @@ module _ {D : Type 0} (moment : D → ℕ) (left_since : D → ℕ → Contents 
   same_points : points_at x old ≡ points_at x new
   same_points = ap (λ (b : Saves D). points_of (saved b.last) x.opened x.history) (sym began)
 
-  calm : faults (disk_of new) ≡ faults (disk_of old) → new.failed ≡ (old.failed || false) → TellsFaults new.failed (faults (first_disk old)) (faults (disk_of new))
-  calm same is = subst (λ failed. TellsFaults failed (faults (first_disk old)) (faults (disk_of new))) (sym (is ∙ failed_now old.failed))
+  calm : faults (disk_of new) ≡ faults (disk_of old) → new.failed ≡ old.failed → TellsFaults new.failed (faults (first_disk old)) (faults (disk_of new))
+  calm same is = subst (λ failed. TellsFaults failed (faults (first_disk old)) (faults (disk_of new))) (sym is)
       (told_same old.failed (faults (first_disk old)) (faults (disk_of old)) (faults (disk_of new)) kept.safe.leaves.calls same)
 
-  rose : Rose (faults (disk_of old)) (faults (disk_of new)) → new.failed ≡ (old.failed || true) → TellsFaults new.failed (faults (first_disk old)) (faults (disk_of new))
-  rose rises is = subst (λ failed. TellsFaults failed (faults (first_disk old)) (faults (disk_of new))) (sym (is ∙ failed_ever old.failed))
+  rose : Rose (faults (disk_of old)) (faults (disk_of new)) → new.failed ≡ true → TellsFaults new.failed (faults (first_disk old)) (faults (disk_of new))
+  rose rises is = subst (λ failed. TellsFaults failed (faults (first_disk old)) (faults (disk_of new))) (sym is)
       (told_rose old.failed (faults (first_disk old)) (faults (disk_of old)) (faults (disk_of new)) kept.safe.leaves.calls rises)
 
   counted : (n : ℕ) → HasRisenBy n (faults (first_disk old)) (faults (disk_of new)) → HasRisenBy n (faults (first_disk new)) (faults (disk_of new))
@@ -67,7 +58,7 @@ module _ {D : Type 0} (moment : D → ℕ) (left_since : D → ℕ → Contents 
       (wrote_safe moment left_since may_leave faults (points_at x old) (points_whole (saved old.began.last) x.opened x.history) old new (saved now) asked kept.safe began run calls unsaved same)
 
   -- the store of a run after a write, whatever it answered
-  pub tried : (r : Result (Unit {0}) SaveFault) → new.failed ≡ (old.failed || failed_after r) → IsWritten moment left_since may_leave faults now r old.store new.store → IsTried moment left_since may_leave faults (write_of r) x new
+  pub tried : (r : Result (Unit {0}) SaveFault) → new.failed ≡ failed_after old.failed r → IsWritten moment left_since may_leave faults now r old.store new.store → IsTried moment left_since may_leave faults (write_of r) x new
   tried (Ok done) is w = record { stands = ahead w.run (calm w.cause is) w.stored w.last; counted = counted_same w.cause }
   tried (Err store.Disk) is w = record {
     stands = safe w.run (rose w.cause is) w.unsaved w.stays;

@@ -1,5 +1,5 @@
 // The store of a run.
-ghost use Rattle.std.specs.Prelude.{◌≡◌, [], Result, MatchResult};
+ghost use Rattle.std.specs.Prelude.{◌≡◌, [], false};
 ghost use Rattle.ws_durable.specs.Saved.{saved};
 ghost use Rattle.save_format.specs.Valid.{Valid};
 ghost use Rattle.save_store.specs.Stored.{IsNarrow, IsStored};
@@ -85,7 +85,7 @@ impl<D: Disk> Keeper<D> {
             → IsTried D.moment D.left_since D.may_leave D.faults result x self.new }
     {
         let written = write(&mut self.store, alloc, kind, now);
-        self.failed = self.failed || is_of_disk(&written);
+        self.failed = has_failed(self.failed, &written);
         told(written)
     }
 }
@@ -106,11 +106,14 @@ fn write<D: Disk>(
     }
 }
 
-/// Whether a call on the disk failed.
-fn is_of_disk(written: &Result<(), SaveFault>) -> bool
-    ensures { result ≡ failed_after written.now }
+/// Whether a call on the disk failed before this, or in it.
+fn has_failed(before: bool, written: &Result<(), SaveFault>) -> bool
+    ensures { result ≡ failed_after before written.now }
 {
-    matches!(written, Err(SaveFault::Disk))
+    match written {
+        Err(SaveFault::Disk) => true,
+        Err(SaveFault::TooLarge | SaveFault::NumbersUsed | SaveFault::Memory) | Ok(()) => before,
+    }
 }
 
 /// The same result, as saves have it.

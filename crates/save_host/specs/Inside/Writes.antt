@@ -1,5 +1,5 @@
 -- A write to the store of a run.
-use Rattle.std.specs.Prelude.{◌≡◌, ◌++◌, ℕ, Bool, true, false, List, [], ◌∷◌, Result, Ok, Err, OnOk, OnErr, MatchResult}
+use Rattle.std.specs.Prelude.{◌≡◌, ◌++◌, ℕ, Bool, true, List, [], ◌∷◌, Result, Ok, Err, OnOk, OnErr, MatchResult}
 use Rattle.ws_outside.specs.declared.contents.Contents.{Contents}
 use Rattle.ws_outside.specs.Disk.{LeavesOnly}
 use Rattle.ws_durable.specs.declared.durable.Durable.{Durable}
@@ -20,13 +20,13 @@ write_of (Err store.TooLarge) = Err write.TooLarge
 write_of (Err store.NumbersUsed) = Err write.NumbersUsed
 write_of (Err store.Memory) = Err write.Memory
 
--- whether a call on the disk failed
-abbrev pub failed_after : Result (Unit {0}) SaveFault → Bool
-failed_after (Ok done) = false
-failed_after (Err store.Disk) = true
-failed_after (Err store.TooLarge) = false
-failed_after (Err store.NumbersUsed) = false
-failed_after (Err store.Memory) = false
+-- whether a call on the disk failed before this, or in it
+abbrev pub failed_after : Bool → Result (Unit {0}) SaveFault → Bool
+failed_after before (Ok done) = before
+failed_after before (Err store.Disk) = true
+failed_after before (Err store.TooLarge) = before
+failed_after before (Err store.NumbersUsed) = before
+failed_after before (Err store.Memory) = before
 
 -- what a save of the state leaves of a store, whatever it answers
 pub record IsWritten {D : Type 0} (moment : D → ℕ) (left_since : D → ℕ → Contents → Type 0) (may_leave : D → Contents → Type 0) (faults : D → ℕ)
