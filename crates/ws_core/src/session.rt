@@ -15,7 +15,7 @@ ghost use Rattle.ws_core.specs.Ends.{ChecksIn};
 ghost use Rattle.ws_core.specs.Inside.Rooms.{Fits, HasRoom, IsKept};
 ghost use Rattle.job_manager.specs.Ends.{EndsLast};
 
-use crate::{Entry, Event, History, NoMemory, Outcomes, Reply, ServiceEvent, State, Twice, WsRule};
+use crate::{Entry, Event, History, NoMemory, Reply, ServiceEvent, State, Twice, WsRule};
 use delta_kind::Delta;
 use elem_tree::LayerTree;
 use rule_table::RuleTable;
@@ -46,7 +46,7 @@ pub struct JobCount {
 /// within each non-null one that it began before, and no rules of two passes conflict.
 ///
 /// There is room for an entry for each rule that is held, and for one more while a pass has the services: so a rule is
-/// ended without memory, and so is a build.
+/// ended without memory, and so is a build or a save.
 #[derive(Drop)]
 pub struct Core<T: Remembers + Drop> {
     state: State<T>,
@@ -101,8 +101,8 @@ impl Core<LayerTree> {
     }
 
     /// The workspace opened from what was kept, in which nothing was done, with builders of these names: its tree is told,
-    /// and what was built last is remembered with its trees, each by what differs from the next. What participants keep is
-    /// let go. Costs a walk of each tree.
+    /// and what was built last and what participants keep is remembered with its trees, each by what differs from the next.
+    /// No save is under way. Costs a walk of each tree.
     pub fn of(
         alloc: Global,
         durable: Durable,
@@ -143,8 +143,8 @@ impl<T: Remembers + Drop> Core<T> {
     /// Does the event of a pass that has entered and hasn't left, writes it into the history with its reply, and gives
     /// the reply. An event that only found that it must wait leaves no entry: a Take that is answered that no job is
     /// there, and one that is refused since another pass's rule is in the way, but for the form that doesn't wait. Where
-    /// memory wants, nothing was done; it never wants where a rule is ended that the pass began last, and where a build is
-    /// ended by the pass that has the services while a batch is open.
+    /// memory wants, nothing was done; it never wants where a rule is ended that the pass began last, and where the pass that
+    /// has the services gives them back as it may.
     pub fn step(&mut self, alloc: Global, pass: u64, event: Event) -> Result<Reply, NoMemory>
         requires { has_entered pass self.old.state ≡ true }
         ensures opened { self.new.opened ≡ self.old.opened }
@@ -298,8 +298,7 @@ fn advance<T: Remembers + Drop>(
 }
 
 /// Room for an entry of the event, and then for one for each rule that may be held and one for the services. It takes no
-/// memory where the event ends the rule that the pass began last, and where it ends the build of the pass while a batch is
-/// open.
+/// memory where the event ends the rule that the pass began last, and where the pass gives back the services as it may.
 fn make_room<T: Remembers + Drop>(
     entries: &mut Vec<Entry>,
     state: &State<T>,
@@ -332,16 +331,15 @@ fn is_kept<T: Remembers + Drop>(state: &State<T>, pass: u64, event: &Event) -> b
     ends_last(state.manager().passes.rules(), pass, event) || checks_in(state, pass, event)
 }
 
-/// Whether the event ends the build of the pass that has the services, while a batch is open.
+/// Whether the pass that has the services gives them back by the event, as it may.
 fn checks_in<T: Remembers + Drop>(state: &State<T>, pass: u64, event: &Event) -> bool
     ensures ends { result ≡ true → ChecksIn state.now pass event.now }
     ensures all { ChecksIn state.now pass event.now → result ≡ true }
 {
-    let Event::Service(ServiceEvent::CheckIn(Outcomes::Build(_))) = event else {
+    let Event::Service(ServiceEvent::CheckIn(outcome)) = event else {
         return false;
     };
-    let passes = &state.manager().passes;
-    passes.serves(pass) && !passes.is_quiet()
+    state.may_check_in(pass, outcome)
 }
 
 /// Whether the event ends the rule that the pass began last.
