@@ -1,6 +1,6 @@
 -- What calls answer, and what they leave.
-use Rattle.std.proofs.Common.{◌≡◌, ◌≢◌, ℕ, Bool, true, false, cond, ◌&&◌, not, List, [], ◌∷◌, length, arith, refl, sym, ap, ◌∙◌, subst}
-use Rattle.std.specs.Prelude.{Option, Some, None, is_some, IsSome, IfSome, Result, Ok, Err, IfOk, IfErr, OnOk, OnErr, IsErr, unwrap_or, if◌then◌else◌}
+use Rattle.std.proofs.Common.{◌≡◌, ◌≢◌, inl, inr, ℕ, Bool, true, false, ◌&&◌, not, List, [], ◌∷◌, length, arith, refl, sym, ap, ◌∙◌, subst}
+use Rattle.std.specs.Prelude.{Option, Some, None, is_some, IsSome, IfSome, Result, Ok, Err, IfOk, IfErr, OnOk, OnErr, unwrap_or, if◌then◌else◌}
 use Rattle.std.specs.Option.{option_map, option_or}
 use Rattle.std.specs.declared.alloc.AllocError.{AllocError}
 use Rattle.std.specs.FinMap.{empty, get, get-empty, same_map}
@@ -29,7 +29,6 @@ use Rattle.output_edits.specs.declared.refusal.EditError.{EditError}
 use Rattle.output_edits.specs.declared.refusal.EditError.TheVariants as edit_errors
 use Rattle.output_edits.specs.declared.refusal.EditRefusal.{EditRefusal}
 use Rattle.output_edits.specs.Judging as edit_judging
-use Rattle.core_event.specs.declared.reply.Answer.{Answer}
 use Rattle.core_event.specs.declared.reply.Answer.TheVariants.{Refused}
 use Rattle.core_event.specs.declared.reply.Refusal.{Refusal}
 use Rattle.core_event.specs.declared.reply.Refusal.TheVariants.{Operation}
@@ -43,15 +42,17 @@ use Rattle.build_laws.specs.States.{due_delta, is_whole, item, same_command}
 use Rattle.build_due.specs.declared.site.Site.{Site}
 use Rattle.ws_marks.specs.declared.record.Record.{Record}
 use Rattle.ws_marks.specs.Marked.{Marked, told_alone}
-use Rattle.ws_marks.specs.Places.{Place, Records, place_cmp}
+use Rattle.ws_marks.specs.Places.{Place, Records, name_cmp, place_cmp}
 use Rattle.ws_marks.proofs.Places.{place_cmp_exact, place_cmp_total}
-use Rattle.ws_content.specs.States.{Contents, Remembered, with_built}
+use Rattle.ws_content.specs.States.{Contents, Remembered, tree_alone, with_built}
 use Rattle.ws_content.specs.Deeds.{Deed, From, all_from, edit_refusal, kept_if, made, replied, reply_of, told_if}
 use Rattle.ws_content.specs.Handing.{built_of, since}
-use Rattle.ws_content.specs.Inside.Held.{AreHeld, AsBuilt, AsStart, AsTold, Holds, IsUsed, in_memory, resolved, retreed, seen}
-use Rattle.ws_content.specs.Inside.Parts.{IsDescribed, TellsEdits, TellsOperation, contents, refused_reply}
-use Rattle.ws_content.proofs.Holding.{at_there, if_there, other_than}
-use Rattle.ws_content.proofs.Resolved.{get_resolved}
+use Rattle.ws_content.specs.Inside.Held.{AreHeld, Holds, in_memory, resolved, retreed, seen, tree_of}
+use Rattle.ws_content.specs.Inside.Slots.{AreApart, IsIn, Slot, Slots, AtStart, AtTold, AtBuilt, AtKept, AtReplaced, number_in, number_of}
+use Rattle.ws_content.specs.Inside.Parts.{IsDescribed, TellsEdits, TellsOperation, refused_reply}
+use Rattle.ws_content.proofs.Holding.{built_used}
+use Rattle.ws_content.proofs.Resolved.{get_resolved, no_states}
+use Rattle.ws_content.proofs.Slots.{other_than, set, set_apart, set_in}
 
 -- ---- results
 
@@ -100,36 +101,46 @@ pub seen_after : {M : Type 0} (number : M → ℕ) (start : ℕ) (f g : ℕ → 
     → ((s : ℕ) (v : Remembered) → Holds number s f m v → Holds number s g n (change v)) → AreHeld number start f m → seen number start g n ≡ change (seen number start f m)
 seen_after number start f g m n change step held = (step start (seen number start f m) (record { held = held; seen = refl })).seen
 
--- when nothing was built and the tree is remembered twice
+-- when nothing was built or kept and the tree is remembered twice
 pub opened_holds : {M : Type 0} (number : M → ℕ) (f g : ℕ → Option Tree) (start told : M) (m : Marked M) (t : Tree) → f (number start) ≡ Some t → f (number told) ≡ None → g (number told) ≡ Some t
-    → ((k : ℕ) → k ≢ number told → g k ≡ f k) → m ≡ told_alone told → Holds number (number start) g m (record { start = t; told = t; built = empty })
+    → ((k : ℕ) → k ≢ number told → g k ≡ f k) → m ≡ told_alone told → Holds number (number start) g m (tree_alone t)
 opened_holds {M} number f g start told m t first none own others alone =
-    subst (λ z. Holds number (number start) g z (record { start = t; told = t; built = empty })) (sym alone) (record {
-      held = record {
-        there = there;
-        told_start = λ e. differ (sym e);
-        built_start = λ place. subst (λ o. IfSome o (λ r. number r.tree ≢ number start)) (sym (get-empty place_cmp place)) tt;
-        built_told = λ place. subst (λ o. IfSome o (λ r. number r.tree ≢ number told)) (sym (get-empty place_cmp place)) tt;
-        built_apart = λ place other n. subst (λ o. IfSome o (λ r. IfSome (get (told_alone told).built other) (λ q. number r.tree ≢ number q.tree))) (sym (get-empty place_cmp place)) tt;
-      };
-      seen =
-          let p = others (number start) differ ∙ first in
-          λ i. record { start = in_memory (p i); told = in_memory (own i); built = nothing i };
+    subst (λ z. Holds number (number start) g z (tree_alone t)) (sym alone) (record {
+      held = subst (AreApart g) (sym (λ i z. at z i))
+          (set_apart told_slot AtStart (Some (number start)) g (ap is_some begun, started) (set_apart no_slot AtTold (Some (number told)) g (ap is_some own, λ u. nowhere (number told) u) empty_apart));
+      seen = λ i. record { start = in_memory (begun i); told = in_memory (own i); built = no_records i; kept = no_states (tree_of number (number start) g) i; before = None };
     })
   where
-    differ : number start ≢ number told
-    differ = other_than f (number start) (number told) (ap is_some first) none
+    begun : g (number start) ≡ Some t
+    begun = others (number start) (other_than f (number start) (number told) (ap is_some first) none) ∙ first
 
-    no_record : (r : Record M) → ◌≡◌ {A = Option (Record M)} None (Some r) → ⊥
-    no_record r h = cc
+    no_slot : Slots
+    no_slot z = None
 
-    there : (k : ℕ) → IsUsed number (number start) (told_alone told) k → IsSome (g k)
-    there k (AsStart e) = ap is_some (ap g e ∙ others (number start) differ ∙ first)
-    there k (AsTold e) = ap is_some (ap g e ∙ own)
-    there k (AsBuilt place r e same) = absurd (no_record r (sym (get-empty place_cmp place) ∙ e))
+    told_slot : Slots
+    told_slot = set no_slot AtTold (Some (number told))
 
-    nothing : resolved (λ x. in_memory (g (number x))) (told_alone told).built ≡ empty
-    nothing = same_map place_cmp_total place_cmp_exact _ _ (λ q. get_resolved (λ x. in_memory (g (number x))) empty q ∙ ap (option_map (retreed (λ x. in_memory (g (number x))))) (get-empty place_cmp q) ∙ sym (get-empty place_cmp q))
+    nowhere : (k : ℕ) → IsIn no_slot k → ⊥
+    nowhere k u = cc
+
+    started : IsIn told_slot (number start) → ⊥
+    started u = elim (set_in no_slot AtTold (Some (number told)) (number start) u) as (λ _. ⊥) [
+      | inl e ↦ other_than f (number start) (number told) (ap is_some first) none (cc)
+      | inr there ↦ nowhere (number start) there
+    ]
+
+    empty_apart : AreApart g no_slot
+    empty_apart = record { there = λ k u. absurd (nowhere k u); apart = λ s z k a b. absurd (nowhere k (s, a)) }
+
+    at : (z : Slot) → number_in number (number start) (told_alone told) z ≡ set told_slot AtStart (Some (number start)) z
+    at AtStart = refl
+    at AtTold = refl
+    at (AtBuilt place) = ap (option_map (λ r. number r.tree)) (get-empty place_cmp place)
+    at (AtKept name) = ap (number_of number) (get-empty name_cmp name)
+    at (AtReplaced n) = refl
+
+    no_records : resolved (tree_of number (number start) g) (told_alone told).built ≡ empty
+    no_records = same_map place_cmp_total place_cmp_exact _ _ (λ q. get_resolved (tree_of number (number start) g) empty q ∙ ap (option_map (retreed (tree_of number (number start) g))) (get-empty place_cmp q) ∙ sym (get-empty place_cmp q))
 
 -- ---- what is answered
 
@@ -237,24 +248,21 @@ module _ {M : Type 0} (number : M → ℕ) (start : ℕ) where
       sym (ap (λ o. due_delta (option_map built_of o) (item s.project s.index s.command) s.references (is_whole kind) t)
       (got f m v (s.project, s.index) h ∙ ap (option_map (retreed (λ x. in_memory (f (number x))))) none))
 
-  abbrev tree_of : (ℕ → Option Tree) → M → Tree
-  tree_of f x = in_memory (f (number x))
-
   since_is : (f : ℕ → Option Tree) (m : Marked M) (v : Remembered) (s : Site) (kind : BuildKind) (t : Tree) (r : Record M) → get m.built (s.project, s.index) ≡ Some r → Holds number start f m v
-      → since s kind v.built t ≡ due_delta (Some (built_of (retreed (tree_of f) r))) (item s.project s.index s.command) s.references (is_whole kind) t
+      → since s kind v.built t ≡ due_delta (Some (built_of (retreed (tree_of number start f) r))) (item s.project s.index s.command) s.references (is_whole kind) t
   since_is f m v s kind t r there h =
       ap (λ o. due_delta (option_map built_of o) (item s.project s.index s.command) s.references (is_whole kind) t)
-      (got f m v (s.project, s.index) h ∙ ap (option_map (retreed (tree_of f))) there)
+      (got f m v (s.project, s.index) h ∙ ap (option_map (retreed (tree_of number start f))) there)
 
   -- the command or the references were others
   pub others_since : (f : ℕ → Option Tree) (m : Marked M) (v : Remembered) (s : Site) (kind : BuildKind) (t : Tree) (r : Record M) (same : Bool) → get m.built (s.project, s.index) ≡ Some r
       → same ≡ (same_command r.command s.command && path_eq r.references s.references) → same ≡ false → Holds number start f m v → None ≡ since s kind v.built t
   others_since f m v s kind t r same there is differ h =
       off (is_whole kind)
-      ∙ ap (λ b. if not (is_whole kind) && b then Some (cut (scope s.project s.references) (delta (tree_of f r.tree) t)) else None) (sym (sym is ∙ differ))
+      ∙ ap (λ b. if not (is_whole kind) && b then Some (cut (scope s.project s.references) (delta (tree_of number start f r.tree) t)) else None) (sym (sym is ∙ differ))
       ∙ sym (since_is f m v s kind t r there h)
     where
-      off : (w : Bool) → None ≡ (if not w && false then Some (cut (scope s.project s.references) (delta (tree_of f r.tree) t)) else None)
+      off : (w : Bool) → None ≡ (if not w && false then Some (cut (scope s.project s.references) (delta (tree_of number start f r.tree) t)) else None)
       off true = refl
       off false = refl
 
@@ -263,7 +271,7 @@ module _ {M : Type 0} (number : M → ℕ) (start : ℕ) where
       → IfSome (f (number r.tree)) (λ u. d ≡ delta u t) → paths ≡ scope s.project s.references → nodes ≡ cut paths d → Holds number start f m v → Some nodes ≡ since s kind v.built t
   cut_since f m v s kind t r same whole d nodes paths there is equal as_whole part made scoped cuts h =
       ap Some (cuts ∙ (λ i. cut (scoped i) (known i)))
-      ∙ (λ i. if not (w i) && (b i) then Some (cut (scope s.project s.references) (delta (tree_of f r.tree) t)) else None)
+      ∙ (λ i. if not (w i) && (b i) then Some (cut (scope s.project s.references) (delta (tree_of number start f r.tree) t)) else None)
       ∙ sym (since_is f m v s kind t r there h)
     where
       w : false ≡ is_whole kind
@@ -272,8 +280,8 @@ module _ {M : Type 0} (number : M → ℕ) (start : ℕ) where
       b : true ≡ (same_command r.command s.command && path_eq r.references s.references)
       b = sym equal ∙ is
 
-      known : d ≡ delta (tree_of f r.tree) t
-      known = by (f (number r.tree)) (h.held.there (number r.tree) (AsBuilt (s.project, s.index) r there refl)) made
+      known : d ≡ delta (tree_of number start f r.tree) t
+      known = by (f (number r.tree)) (h.held.there (number r.tree) (built_used number start m (s.project, s.index) r there)) made
         where
           by : (o : Option Tree) → IsSome o → IfSome o (λ u. d ≡ delta u t) → d ≡ delta (in_memory o) t
           by None some g = absurd (no some)

@@ -1,17 +1,14 @@
 -- What was built last, of the commands that stay.
-use Rattle.std.proofs.Common.{◌≡◌, ◌<◌, ◌-◌, ℕ, zero, suc, Bool, true, false, cond, not, List, [], ◌∷◌, refl, sym, ap, ◌∙◌, subst, arith}
+use Rattle.std.proofs.Common.{◌≡◌, ◌<◌, ◌-◌, ℕ, zero, suc, Bool, true, false, cond, not, List, [], ◌∷◌, refl, sym, ap, ◌∙◌, arith}
 use Rattle.std.specs.Prelude.{Option, Some, None, is_some, IfSome, find as first_that}
 use Rattle.std.specs.Option.{option_map}
 use Rattle.std.specs.Ordering.{eq_by_cmp, is_eq}
-use Rattle.std.specs.declared.cmp.Ordering.TheVariants.{Equal}
 use Rattle.std.specs.FinMap.{contains_key, empty_of_len, entries, find, get, get-empty, get-entries, get-remove, get-retain_keys, len, len-remove, remove, retain_keys, same_map}
-use Rattle.ws_elem.specs.Trees.{Tree}
 use Rattle.ws_marks.specs.declared.record.Record.{Record}
 use Rattle.ws_marks.specs.Marked.{first_from, is_from}
-use Rattle.ws_marks.specs.Places.{Place, Records, place_cmp, place_of}
+use Rattle.ws_marks.specs.Places.{Place, Records, place_cmp}
 use Rattle.ws_marks.proofs.Places.{place_cmp_exact, place_cmp_total}
-use Rattle.ws_content.specs.Inside.Held.{resolved, retreed}
-use Rattle.ws_content.proofs.Resolved.{get_resolved, tied}
+use Rattle.ws_content.proofs.Resolved.{tied}
 
 module _ {N : Type 0} where
   pub get_retained : (rs : Records N) (p : Place → Bool) (q : Place) → get (retain_keys rs p) q ≡ cond (p q) (get rs q) None

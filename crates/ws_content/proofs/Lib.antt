@@ -1,6 +1,9 @@
 pub mod Resolved
+pub mod Slots
+pub mod Numbers
 pub mod Holding
 pub mod Forgotten
 pub mod Steps
 pub mod Calls
 pub mod Begun
+pub mod Keeps

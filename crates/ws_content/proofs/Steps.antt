@@ -1,5 +1,5 @@
 -- What calls leave of what is remembered.
-use Rattle.std.proofs.Common.{◌≡◌, ◌≢◌, ◌⊎◌, inl, inr, ℕ, Bool, true, false, List, not, refl, sym, ap, ◌∙◌, subst}
+use Rattle.std.proofs.Common.{◌≡◌, ◌≢◌, inl, inr, ℕ, Bool, true, false, List, not, refl, sym, ap, ◌∙◌, subst}
 use Rattle.std.specs.Prelude.{Option, Some, None, is_some, IsSome, IfSome, Result, Ok, Err, IsErr, OnErr}
 use Rattle.std.specs.Option.{option_map}
 use Rattle.std.specs.FinMap.{get, insert, remove, retain_keys}
@@ -10,10 +10,11 @@ use Rattle.ws_marks.specs.Places.{Place, Records, place_of}
 use Rattle.ws_content.specs.States.{Remembered, with_built, with_told}
 use Rattle.build_due.specs.declared.site.Site.{Site}
 use Rattle.ws_content.specs.Deeds.{kept_if, record_of}
-use Rattle.ws_content.specs.Inside.Held.{Holds, IsReady, IsUsed, AsBuilt, in_memory, resolved, retreed, seen}
+use Rattle.ws_content.specs.Inside.Held.{Holds, IsReady, IsUsed, in_memory, resolved, retreed}
 use Rattle.ws_content.proofs.Resolved.{get_resolved}
 use Rattle.ws_content.proofs.Forgotten.{all_stay, less_stays, none_from}
-use Rattle.ws_content.proofs.Holding.{IsNew, at_there, fresh_unused, if_there, other_than, put_holds, put_over, put_used, stays, taken_holds, taken_unused, told_holds, untold}
+use Rattle.ws_content.proofs.Holding.{IsNew, built_used, fresh_unused, put_holds, put_over, put_used, stays, taken_holds, taken_unused, told_holds, untold}
+use Rattle.ws_content.proofs.Slots.{at_there, other_than}
 
 module _ {M : Type 0} (number : M → ℕ) where
   abbrev pub Known : (ℕ → Option Tree) → Marked M → Type 0
@@ -97,7 +98,7 @@ module _ {M : Type 0} (number : M → ℕ) where
 
       by : (o : Option (Record M)) → o ≡ get m.built (place_of r) → IfSome o (λ q. number x ≢ number q.tree)
       by None e = tt
-      by (Some q) e = λ same. ready.2 (AsBuilt (place_of r) q (sym e) same)
+      by (Some q) e = λ same. ready.2 (subst (IsUsed number start m) (sym same) (built_used number start m (place_of r) q (sym e)))
 
       new : IsNew number start g m r t
       new = record { is = own; unused = fresh_unused number start f m v (number r.tree) holds none }
@@ -115,7 +116,7 @@ module _ {M : Type 0} (number : M → ℕ) where
 
   pub taken_there : (f : ℕ → Option Tree) (m : Marked M) (place : Place) (o : Option (Record M)) → o ≡ get m.built place → Known f m → IfSome o (λ r. IsSome (f (number r.tree)))
   taken_there f m place None e k = tt
-  taken_there f m place (Some r) e k = k.2.held.there (number r.tree) (AsBuilt place r (sym e) refl)
+  taken_there f m place (Some r) e k = k.2.held.there (number r.tree) (built_used number (k.0) m place r (sym e))
 
   pub taken : (f g : ℕ → Option Tree) (m n : Marked M) (place : Place) (o : Option (Record M)) → o ≡ get m.built place → n ≡ record m { built = remove m.built place }
       → ((k : ℕ) → IfSome o (λ r. k ≢ number r.tree) → g k ≡ f k)

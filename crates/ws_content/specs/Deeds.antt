@@ -1,7 +1,7 @@
 -- What changes of a workspace's contents come to, and what is told of them.
 use Rattle.std.specs.Prelude.{ℕ, Bool, true, false, not, List, [], ◌∷◌, length, Option, Some, None}
 use Rattle.std.specs.Option.{option_map}
-use Rattle.std.specs.FinMap.{empty, insert, remove, retain_keys}
+use Rattle.std.specs.FinMap.{insert, remove, retain_keys}
 use Rattle.res_path.specs.Paths.{Names}
 use Rattle.ws_elem.specs.Trees.{Tree}
 use Rattle.delta_kind.specs.Deltas.{delta}

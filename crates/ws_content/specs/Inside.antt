@@ -3,3 +3,4 @@ pub mod Codes
 pub mod Held
 pub mod Opened
 pub mod Parts
+pub mod Slots

@@ -1,5 +1,5 @@
 -- What participants keep, as a save begins, goes on and ends.
-use Rattle.std.specs.Prelude.{ℕ, Bool, true, false, if◌then◌else◌, List, [], ◌∷◌, Option, Some, None, unwrap_or}
+use Rattle.std.specs.Prelude.{ℕ, Bool, true, false, if◌then◌else◌, List, [], ◌∷◌, Some, None, unwrap_or}
 use Rattle.std.specs.FinMap.{insert}
 use Rattle.ws_elem.specs.Trees.{Tree}
 use Rattle.save_kind.specs.declared.answer.SaveAnswer.{SaveAnswer}

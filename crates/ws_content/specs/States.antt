@@ -1,6 +1,6 @@
 -- What is there, and what is remembered beside it.
-use Rattle.std.specs.Prelude.{List, map, Option}
-use Rattle.std.specs.FinMap.{from_entries}
+use Rattle.std.specs.Prelude.{List, map, Option, None}
+use Rattle.std.specs.FinMap.{empty, from_entries}
 use Rattle.std.specs.Option.{option_map}
 use Rattle.ws_elem.specs.declared.elem_map.ElemMap.{ElemMap}
 use Rattle.ws_elem.specs.Trees.{Tree}
@@ -27,6 +27,10 @@ pub record Contents : Type 0 where
   -- the tree, the members of closed projects, the counters and the partners
   pub resources : Resources
   pub remembered : Remembered
+
+-- the tree alone, with which the workspace was opened
+abbrev pub tree_alone : Tree → Remembered
+tree_alone t = record { start = t; told = t; built = empty; kept = empty; before = None }
 
 -- the tree is told
 abbrev pub with_told : Remembered → Tree → Remembered

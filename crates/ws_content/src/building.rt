@@ -16,7 +16,7 @@ ghost use Rattle.ws_content.specs.Inside.Held.{Holds};
 
 use crate::NoMemory;
 use crate::operating::{drop_room, tell};
-use crate::remembering::{Prepared, abandon, prepare, remove_built, set_built, settle};
+use crate::remembering::{Prepared, give_up_if, prepare, remove_built, set_built, settle};
 use build_due::Site;
 use builder_api::Edits;
 use core_event::{Answer, Reply, Twice};
@@ -135,7 +135,7 @@ fn remember_commit<T: Remembers + Drop>(
             Ok(replied)
         }
         Err(wanted) => {
-            abandon(alloc, tree, told);
+            give_up_if(alloc, tree, told);
             Err(wanted)
         }
     }

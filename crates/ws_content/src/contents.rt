@@ -1,6 +1,5 @@
 //! What is there, and what it was.
-ghost use Rattle.std.specs.Prelude.{◌≡◌, true, map, IfErr, IfOk, OnErr};
-ghost use Rattle.std.specs.FinMap.{empty};
+ghost use Rattle.std.specs.Prelude.{◌≡◌, true, map, None as nothing, IfErr, IfOk, OnErr, OnOk};
 ghost use Rattle.op_kind.specs.declared.refusal.OpError.TheVariants as op_errors;
 ghost use Rattle.output_edits.specs.declared.refusal.EditError.TheVariants as edit_errors;
 ghost use Rattle.op_kind.specs.Resources.{resources};
@@ -9,26 +8,28 @@ ghost use Rattle.core_event.specs.declared.reply.Refusal.TheVariants.{Operation}
 ghost use Rattle.core_event.specs.Twice.{doubled, twice};
 ghost use Rattle.ws_content.specs.Deeds.{cleaned, committed, edit_refusal, operated, replied};
 ghost use Rattle.ws_content.specs.Handing.{handing};
-ghost use Rattle.ws_content.specs.States.{at_places, shown_built};
+ghost use Rattle.ws_content.specs.Saves.{is_saved, keeping, saves_begun, saves_ended};
+ghost use Rattle.ws_content.specs.States.{at_names, at_places, shown_built, shown_kept, tree_alone};
 ghost use Rattle.ws_content.specs.Inside.Parts.{TellsEdits, TellsOperation, refused_reply};
 
 use crate::handing::since_built;
 use crate::opening::Opened;
-use crate::{NoMemory, building, opening, operating};
+use crate::{NoMemory, building, keeping, opening, operating};
 use build_due::Site;
 use builder_api::{BuildKind, Edits, Handed};
-use core_event::{Answer, Refusal, Reply, Twice, refused_twice, untold};
+use core_event::{Answer, Outcomes, Refusal, Reply, Twice, refused_twice, untold};
 use delta_kind::Delta;
 use op_kind::{Op, OpError, OpRefusal, Side};
 use output_commit::{EditError, EditRefusal};
+use save_kind::{PartStates, SaveAnswer};
 use std::alloc::{AllocError, Global};
 use std::marker::Model;
 use tree_memory::{Remembers, Sparing};
 use ws_elem::ElemMap;
-use ws_marks::{Marks, Record};
+use ws_marks::{Marks, Record, State};
 
-/// The tree, what stands beside it, and what the tree was: as the workspace was opened, as it was last told, and as each
-/// build command was built last. A contract sees the resources and the trees that are remembered.
+/// The tree, what stands beside it, what the tree was (as the workspace was opened, as it was last told, and as each build
+/// command was built last), and what participants of saves keep. A contract sees the resources and what is remembered.
 #[derive(Drop)]
 pub struct Content<T: Remembers + Drop> {
     tree: Sparing<T>,
@@ -57,9 +58,9 @@ impl<T: Remembers + Drop> Model for Content<T> {
 }
 
 impl<T: Remembers + Drop> Content<T> {
-    /// The tree with what stands beside it, which is remembered as it is. Nothing was built.
+    /// The tree with what stands beside it, which is remembered as it is. Nothing was built, and nothing is kept.
     pub fn of(alloc: Global, tree: T, side: Side) -> Result<Content<T>, NoMemory>
-        ensures { IfOk result (λ c. c ≡ record { resources = resources (T.tree tree) side; remembered = record { start = T.tree tree; told = T.tree tree; built = empty } }) }
+        ensures { IfOk result (λ c. c ≡ record { resources = resources (T.tree tree) side; remembered = tree_alone (T.tree tree) }) }
     {
         let opened = opening::as_it_is(alloc, tree)?;
         let Opened { tree, start, marks } = opened;
@@ -71,26 +72,34 @@ impl<T: Remembers + Drop> Content<T> {
         })
     }
 
-    /// The wanted tree with what stands beside it, as it is opened where commands were built before: what was built last is
-    /// as the records say, the first of a place counting, and the tree is remembered as it is. The tree that is given has
-    /// the elements of `at`. It is led to the tree of each record, from the last to the first, and then to the wanted one,
-    /// so that each is remembered by what differs from the one before it: `at` is best the last record's tree. What is put
-    /// shares the texts of these trees. Costs a walk of each of them.
+    /// The wanted tree with what stands beside it, as it is opened where commands were built and states kept before: what was
+    /// built last is as the records say, what participants keep as the states say, the first of a place and of a name
+    /// counting, and the tree is remembered as it is. The tree that is given has the elements of `at`. It is led to the tree
+    /// of each record, from the last to the first, then to that of each state that has one, from the last to the first, and
+    /// then to the wanted one, so that each is remembered by what differs from the one before it: `at` is best the last
+    /// record's tree. What is put shares the texts of these trees. Costs a walk of each of them.
     pub fn opened(
         alloc: Global,
         tree: T,
         at: &ElemMap,
         built: &[Record<ElemMap>],
+        kept: &[State<ElemMap>],
         wanted: &ElemMap,
         side: Side,
     ) -> Result<Content<T>, NoMemory>
         requires { T.tree tree ≡ at.now.map }
         ensures { IfOk result (λ c. c ≡ record {
           resources = resources wanted.now.map side;
-          remembered = record { start = wanted.now.map; told = wanted.now.map; built = at_places (map shown_built built.now) };
+          remembered = record {
+            start = wanted.now.map;
+            told = wanted.now.map;
+            built = at_places (map shown_built built.now);
+            kept = at_names (map shown_kept kept.now);
+            before = nothing;
+          };
         }) }
     {
-        let opened = opening::led_through(alloc, tree, at, built, wanted)?;
+        let opened = opening::led_through(alloc, tree, at, built, kept, wanted)?;
         let Opened { tree, start, marks } = opened;
         Ok(Content {
             tree,
@@ -196,6 +205,38 @@ impl<T: Remembers + Drop> Content<T> {
         )
     }
 
+    /// A save is under way from now on, if none was: until it ends, what participants keep now can be had again.
+    pub fn begin_save(&mut self) -> Result<(), NoMemory>
+        ensures ok { OnOk result (self.new ≡ saves_begun self.old) }
+        ensures err { OnErr result (self.new ≡ self.old) }
+    {
+        self.marks.begin_save();
+        Ok(())
+    }
+
+    /// These states are kept from now on, each in the place of what its participant kept, and each with the tree as it is
+    /// where it asks for what changes. Where memory wants, nothing has changed.
+    pub fn keep_states(&mut self, alloc: Global, states: &PartStates) -> Result<(), NoMemory>
+        ensures ok { OnOk result (self.new ≡ keeping self.old states.now) }
+        ensures err { OnErr result (self.new ≡ self.old) }
+    {
+        let states = states.as_slice();
+        keeping::keep_states(alloc, &mut self.tree, &mut self.marks, states)
+    }
+
+    /// What the services were taken for has ended. Where that was a save, what was kept in it stays if it was saved, and
+    /// else what was kept before is kept again. It takes no memory.
+    pub fn end_save(&mut self, alloc: Global, outcome: &Outcomes)
+        ensures { self.new ≡ saves_ended outcome.now self.old }
+    {
+        match outcome {
+            Outcomes::Build(_) => {}
+            Outcomes::Save(answer) => {
+                keeping::end_save(alloc, &mut self.tree, &mut self.marks, is_saved(answer));
+            }
+        }
+    }
+
     /// What is to be handed for the command in a build of this kind. Costs what was recorded since the command was built
     /// last, and a walk of what it reads and has written.
     pub fn hand(&self, alloc: Global, site: &Site, kind: BuildKind) -> Result<Handed, NoMemory>
@@ -225,6 +266,20 @@ impl<T: Remembers + Drop> Content<T> {
         ensures { resources self.now.resources.tree result.now ≡ self.now.resources }
     {
         &self.side
+    }
+}
+
+/// Whether all was saved.
+fn is_saved(answer: &SaveAnswer) -> bool
+    ensures { result ≡ is_saved answer.now }
+{
+    match answer {
+        SaveAnswer::Saved => true,
+        SaveAnswer::SaveFailed
+        | SaveAnswer::ParticipantFailed(_)
+        | SaveAnswer::SaveTooLarge
+        | SaveAnswer::SaveNumbers
+        | SaveAnswer::NoMemory => false,
     }
 }
 

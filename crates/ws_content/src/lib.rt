@@ -1,7 +1,8 @@
 //! What is there in a workspace, and what is remembered beside it: its tree, the members of closed projects, the tree as it
-//! was opened and as it was told last, and what was built last.
+//! was opened and as it was told last, what was built last, and what participants of saves keep.
 //!
 //! - `remembering`: trees that are remembered under numbers, told, kept as what was built last, and given up.
+//! - `keeping`: what participants keep: set in a save, put back, and let go.
 //! - `forgetting`: which operation forgets what was built last.
 //! - `handing`: what is due for a command.
 //! - `opening`: the trees that are kept, led through as a workspace is opened.
@@ -14,6 +15,7 @@ mod building;
 mod contents;
 mod forgetting;
 mod handing;
+mod keeping;
 mod opening;
 mod operating;
 mod remembering;

@@ -97,15 +97,19 @@ pub fn settle<T: Remembers + Drop>(
     }
 }
 
-/// What was prepared isn't told.
-pub fn abandon<T: Remembers + Drop>(alloc: Global, tree: &mut Sparing<T>, told: Option<T::Memory>)
-    requires { IfSome told (λ x. IsSome (left T.remembered tree.old (T.number x))) }
-    ensures others { (k : ℕ) → IfSome told (λ x. k ≢ T.number x) → left T.remembered tree.new k ≡ left T.remembered tree.old k }
+/// Gives up the memory, if there is one.
+pub fn give_up_if<T: Remembers + Drop>(
+    alloc: Global,
+    tree: &mut Sparing<T>,
+    memory: Option<T::Memory>,
+)
+    requires { IfSome memory (λ x. IsSome (left T.remembered tree.old (T.number x))) }
+    ensures others { (k : ℕ) → IfSome memory (λ x. k ≢ T.number x) → left T.remembered tree.new k ≡ left T.remembered tree.old k }
     ensures tree { T.tree tree.new.tree ≡ T.tree tree.old.tree }
     ensures room { T.room tree.new.tree ≡ T.room tree.old.tree }
 {
-    if let Some(told) = told {
-        tree.give_up(alloc, told);
+    if let Some(memory) = memory {
+        tree.give_up(alloc, memory);
     }
 }
 

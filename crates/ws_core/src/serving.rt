@@ -139,7 +139,7 @@ impl<T: Remembers + Drop> State<T> {
     ) -> Result<Twice<Reply>, NoMemory>
         requires quiet { is_quiet self.old.manager.passes ≡ true → self.old.remembered.told ≡ self.old.resources.tree }
         requires allowed { first_cause (service_causes self.old pass (Checkout purpose.now)) ≡ nothing }
-        requires build { (kind : BuildKind) × (purpose.now ≡ purposes.Build kind (option_copied project.entry)) }
+        requires build { (kind : BuildKind) × (purpose.now ≡ purposes.Build kind (option_copied project)) }
         ensures ok { IfOk result (λ r. (self.new, r) ≡ doubled wants_copy (step self.old pass (Service (Checkout purpose.now)))) }
         ensures err { OnErr result (self.new ≡ self.old) }
     {

@@ -9,15 +9,16 @@ use Rattle.std.specs.BTreeMap.Range.{range_contains}
 use Rattle.std.specs.declared.ops.Bound.TheVariants.{Excluded, Unbounded}
 use Rattle.std.specs.Ordering.{eq_by_cmp, is_eq, is_lt}
 use Rattle.std.specs.Cmp.{IsTotalOrder, eq_by_cmp_equiv, tied_itself}
-use Rattle.std.specs.Option.{option_map, option_to_list}
+use Rattle.std.specs.Option.{option_map}
 use Rattle.std.specs.declared.cmp.Ordering.{Ordering}
 use Rattle.std.specs.declared.cmp.Ordering.TheVariants.{Less, Equal, Greater}
 use Rattle.std.specs.FinMap.{IsAntisymmetric, get, empty, insert, remove, entries, from_entries, entries-from_sorted, get-from_sorted, is_sorted, find, get-from_entries, get-empty, get-insert, get-remove, same_map}
 use Rattle.std.specs.FinMap.Entries.{below_all}
 use Rattle.std.proofs.lemmas.Map.Keys.{sorted_head, sorted_tail}
+use Rattle.ws_marks.specs.declared.state.Replaced.{Replaced}
 use Rattle.ws_marks.specs.declared.state.State.{State}
 use Rattle.ws_marks.specs.Places.{States, name_cmp}
-use Rattle.ws_marks.specs.Marked.{Replaced, befores, name_is_above, set_at, set_since, state_after, undone}
+use Rattle.ws_marks.specs.Marked.{name_is_above, set_at, state_after, undone}
 use Rattle.ws_marks.specs.Inside.{AllNamed, AllThere}
 use Rattle.ws_marks.proofs.Places.{name_cmp_total, name_cmp_exact}
 
@@ -188,6 +189,10 @@ module _ {M : Type 0} where
 
 -- ---- one state
 
+pub get_set_at : {M : Type 0} (kept : States M) (n : List ℕ) (o : Option (State M)) (q : List ℕ) → get (set_at kept n o) q ≡ cond (eq_by_cmp name_cmp q n) o (get kept q)
+get_set_at kept n None q = get-remove name_cmp_total kept n q
+get_set_at kept n (Some s) q = get-insert name_cmp_total kept n s q
+
 module _ {M : Type 0} (kept : States M) (name : List ℕ) (s : State M) where
   itself : eq_by_cmp name_cmp name name ≡ true
   itself = ap is_eq (tied_itself name_cmp_total name)
@@ -219,41 +224,54 @@ module _ {M : Type 0} (kept : States M) (name : List ℕ) (s : State M) where
 
 -- ---- what was replaced, the last of it
 
-nothing_more : {X : Type 0} (xs : List X) → xs ++ [] ≡ xs
-nothing_more [] = refl
-nothing_more (x ∷ xs) = ap (λ ys. x ∷ ys) (nothing_more xs)
-
-pub regrouped : {X : Type 0} (xs ys zs : List X) → (xs ++ ys) ++ zs ≡ xs ++ (ys ++ zs)
-regrouped [] ys zs = refl
-regrouped (x ∷ xs) ys zs = ap (λ ws. x ∷ ws) (regrouped xs ys zs)
-
 module _ {M : Type 0} where
-  pub undone_last : (kept : States M) (rs : List (Replaced M)) (r : Replaced M) → undone kept (rs ++ r ∷ []) ≡ undone (set_at kept r.0 r.1) rs
+  pub undone_last : (kept : States M) (rs : List (Replaced M)) (r : Replaced M) → undone kept (rs ++ r ∷ []) ≡ undone (set_at kept r.participant r.before) rs
   undone_last kept [] r = refl
-  undone_last kept (x ∷ rs) r = ap (λ m. set_at m x.0 x.1) (undone_last kept rs r)
+  undone_last kept (x ∷ rs) r = ap (λ m. set_at m x.participant x.before) (undone_last kept rs r)
 
-  pub there_last : (kept : States M) (rs : List (Replaced M)) (r : Replaced M) → AllThere kept (rs ++ r ∷ []) → IsSome (get kept r.0) × IfSome r.1 (λ s. s.participant ≡ r.0) × AllThere (set_at kept r.0 r.1) rs
+  pub there_last : (kept : States M) (rs : List (Replaced M)) (r : Replaced M) → AllThere kept (rs ++ r ∷ [])
+      → IsSome (get kept r.participant) × IfSome r.before (λ s. s.participant ≡ r.participant) × AllThere (set_at kept r.participant r.before) rs
   there_last kept [] r h = (h.0, h.1, tt)
   there_last kept (x ∷ rs) r h =
       let rest = there_last kept rs r h.2 in
-      (rest.0, rest.1, (subst (λ m. IsSome (get m x.0)) (undone_last kept rs r) h.0, h.1, rest.2))
+      (rest.0, rest.1, (subst (λ m. IsSome (get m x.participant)) (undone_last kept rs r) h.0, h.1, rest.2))
 
-  pub since_last : (kept : States M) (rs : List (Replaced M)) (r : Replaced M) → set_since kept (rs ++ r ∷ []) ≡ option_to_list (get kept r.0) ++ set_since (set_at kept r.0 r.1) rs
-  since_last kept [] r = sym (nothing_more (option_to_list (get kept r.0)))
-  since_last kept (x ∷ rs) r =
-      (λ i. since_last kept rs r i ++ option_to_list (get (undone_last kept rs r i) x.0))
-      ∙ regrouped (option_to_list (get kept r.0)) (set_since (set_at kept r.0 r.1) rs) (option_to_list (get (undone (set_at kept r.0 r.1) rs) x.0))
+  either : (b : Bool) (x y z : Option (State M)) → (IsSome y → IsSome z) → IsSome (cond b x y) → IsSome (cond b x z)
+  either true x y z go h = h
+  either false x y z go h = go h
 
-  pub befores_last : (rs : List (Replaced M)) (r : Replaced M) → befores (rs ++ r ∷ []) ≡ option_to_list r.1 ++ befores rs
-  befores_last [] r = sym (nothing_more (option_to_list r.1))
-  befores_last (x ∷ rs) r = ap (λ ys. ys ++ option_to_list x.1) (befores_last rs r) ∙ regrouped (option_to_list r.1) (befores rs) (option_to_list x.1)
+  -- what is there after one is put back is there without that, where that one's name has a state
+  there_without : (kept : States M) (n : List ℕ) (o : Option (State M)) (rs : List (Replaced M)) (q : List ℕ) → IsSome (get kept n)
+      → IsSome (get (undone (set_at kept n o) rs) q) → IsSome (get (undone kept rs) q)
+  there_without kept n o [] q some h = by (eq_by_cmp name_cmp q n) refl (subst IsSome (get_set_at kept n o q) h)
+    where
+      by : (b : Bool) → eq_by_cmp name_cmp q n ≡ b → IsSome (cond b o (get kept q)) → IsSome (get kept q)
+      by true e h = subst (λ k. IsSome (get kept k)) (sym (name_cmp_exact q n (equal_names _ e))) some
+      by false e h = h
+  there_without kept n o (r ∷ rs) q some h =
+      subst IsSome (sym (get_set_at (undone kept rs) r.participant r.before q))
+      (either (eq_by_cmp name_cmp q r.participant) r.before _ _ (there_without kept n o rs q some) (subst IsSome (get_set_at (undone (set_at kept n o) rs) r.participant r.before q) h))
+
+  pub there_front : (kept : States M) (rs : List (Replaced M)) (r : Replaced M) → AllThere kept (rs ++ r ∷ []) → AllThere kept rs
+  there_front kept [] r h = tt
+  there_front kept (x ∷ rs) r h =
+      (there_without kept r.participant r.before rs x.participant (there_last kept rs r h.2).0 (subst (λ m. IsSome (get m x.participant)) (undone_last kept rs r) h.0), h.1, there_front kept rs r h.2)
 
   -- ---- one more is replaced
 
-  pub undone_push : (kept : States M) (s : State M) (rs : List (Replaced M)) → undone (insert kept s.participant s) (rs ++ (s.participant, get kept s.participant) ∷ []) ≡ undone kept rs
-  undone_push kept s rs = undone_last (insert kept s.participant s) rs (s.participant, get kept s.participant) ∙ ap (λ m. undone m rs) (put_undone kept s.participant s)
+  abbrev pub replaced_by : States M → State M → Replaced M
+  replaced_by kept s = record { participant = s.participant; before = get kept s.participant }
+
+  pub undone_push : (kept : States M) (s : State M) (rs : List (Replaced M)) → undone (insert kept s.participant s) (rs ++ replaced_by kept s ∷ []) ≡ undone kept rs
+  undone_push kept s rs = undone_last (insert kept s.participant s) rs (replaced_by kept s) ∙ ap (λ m. undone m rs) (put_undone kept s.participant s)
 
   pub there_push : (kept : States M) (s : State M) (rs : List (Replaced M)) → AllThere kept rs → IfSome (get kept s.participant) (λ x. x.participant ≡ s.participant)
-      → AllThere (insert kept s.participant s) (rs ++ (s.participant, get kept s.participant) ∷ [])
+      → AllThere (insert kept s.participant s) (rs ++ replaced_by kept s ∷ [])
   there_push kept s [] h named = (ap is_some (put_here kept s.participant s), named, tt)
-  there_push kept s (x ∷ rs) h named = (subst (λ m. IsSome (get m x.0)) (sym (undone_push kept s rs)) h.0, h.1, there_push kept s rs h.2 named)
+  there_push kept s (x ∷ rs) h named = (subst (λ m. IsSome (get m x.participant)) (sym (undone_push kept s rs)) h.0, h.1, there_push kept s rs h.2 named)
+
+  -- ---- the last is taken
+
+  pub there_taken : (kept : States M) (olds news : List (Replaced M)) (last : Option (Replaced M)) → IfSome last (λ r. olds ≡ news ++ r ∷ []) → (last ≡ None → news ≡ olds) → AllThere kept olds → AllThere kept news
+  there_taken kept olds news None is same h = subst (AllThere kept) (sym (same refl)) h
+  there_taken kept olds news (Some r) is same h = there_front kept news r (subst (AllThere kept) is h)

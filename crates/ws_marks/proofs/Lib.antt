@@ -3,3 +3,4 @@ pub mod Places
 pub mod Sorted
 pub mod Tables
 pub mod Kept
+pub mod Unwound

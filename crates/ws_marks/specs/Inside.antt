@@ -1,5 +1,5 @@
 -- What only the crate's own code speaks of.
-use Rattle.std.specs.Prelude.{◌≡◌, ⊤, T, Bool, false, ℕ, List, [], ◌∷◌, ◌++◌, map, Option, Some, IsSome, IfSome, ◌≤◌, refl}
+use Rattle.std.specs.Prelude.{◌≡◌, ⊤, T, Bool, false, ℕ, List, [], ◌∷◌, ◌++◌, map, Option, Some, IsSome, IfSome, refl}
 use Rattle.std.specs.Coded.{Coded, code_by, coded×, coded_ℕ, coded_list, coded_option}
 use Rattle.std.specs.declared.cmp.Ordering.TheVariants.{Less}
 use Rattle.std.specs.Ordering.{eq_by_cmp, is_eq, is_lt}
@@ -9,10 +9,9 @@ use Rattle.proj_desc.specs.declared.command.Command.{Command}
 use Rattle.std.specs.List.{AllByRecursion}
 use Rattle.ws_marks.specs.declared.record.Record.{Record}
 use Rattle.ws_marks.specs.declared.state.State.{State}
-use Rattle.std.specs.Vec.{vec_len, vec_capacity}
-use Rattle.ws_marks.specs.declared.saving.Saving.{Saving}
+use Rattle.ws_marks.specs.declared.state.Replaced.{Replaced}
 use Rattle.ws_marks.specs.Places.{Place, Records, States, name_cmp, place_cmp, place_of}
-use Rattle.ws_marks.specs.Marked.{Marked, Replaced, undone}
+use Rattle.ws_marks.specs.Marked.{Marked, undone}
 
 abbrev pub name_code : Coded (List ℕ)
 name_code = coded_list coded_ℕ
@@ -25,6 +24,9 @@ abbrev pub state_code : {M : Type 0} → Coded M → Coded (State M)
 state_code {M} m = code_by (List ℕ × (List ℕ × Option M)) (coded× name_code (coded× name_code (coded_option m)))
     (λ s. (s.participant, (s.bytes, s.tree))) (λ p. record { participant = p.0; bytes = p.1.0; tree = p.1.1 }) (λ _. refl)
 
+abbrev pub replaced_code : {M : Type 0} → Coded M → Coded (Replaced M)
+replaced_code {M} m = code_by (List ℕ × Option (State M)) (coded× name_code (coded_option (state_code m))) (λ r. (r.participant, r.before)) (λ p. record { participant = p.0; before = p.1 }) (λ _. refl)
+
 abbrev pub records_code : {M : Type 0} → Coded Command → Coded M → Coded (Records M)
 records_code c m = finmap.code (coded× name_code coded_ℕ) (record_code c m)
 
@@ -33,7 +35,7 @@ states_code m = finmap.code name_code (state_code m)
 
 abbrev pub marked_code : {M : Type 0} → Coded Command → Coded M → Coded (Marked M)
 marked_code {M} c m = code_by (M × (Records M × (States M × Option (List (Replaced M)))))
-    (coded× m (coded× (records_code c m) (coded× (states_code m) (coded_option (coded_list (coded× name_code (coded_option (state_code m))))))))
+    (coded× m (coded× (records_code c m) (coded× (states_code m) (coded_option (coded_list (replaced_code m))))))
     (λ x. (x.told, (x.built, (x.kept, x.replaced)))) (λ p. record { told = p.0; built = p.1.0; kept = p.1.1.0; replaced = p.1.1.1 }) (λ _. refl)
 
 -- ---- records in the order of their places
@@ -73,10 +75,4 @@ AllNamed {M} kept = (name : List ℕ) (s : State M) → get kept name ≡ Some s
 -- each name that was set has its state, and what was replaced stood under it
 abbrev pub AllThere : {M : Type 0} → States M → List (Replaced M) → Type 0
 AllThere kept [] = ⊤
-AllThere kept (r ∷ rs) = IsSome (get (undone kept rs) r.0) × IfSome r.1 (λ s. s.participant ≡ r.0) × AllThere kept rs
-
--- the save can be ended without memory
-pub record IsReady {M : Type 0} (kept : States M) (s : Saving M) : Type 0 where
-  pub there : AllThere kept s.replaced.items
-  pub empty : s.given.items ≡ []
-  pub places : vec_len s.replaced ≤ vec_capacity s.given
+AllThere kept (r ∷ rs) = IsSome (get (undone kept rs) r.participant) × IfSome r.before (λ s. s.participant ≡ r.participant) × AllThere kept rs

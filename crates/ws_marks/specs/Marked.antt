@@ -1,15 +1,12 @@
 -- What a workspace remembers, and what each call does.
-use Rattle.std.specs.Prelude.{ℕ, nat_le, Bool, true, false, ◌&&◌, List, [], ◌∷◌, ◌++◌, find, Option, Some, None}
-use Rattle.std.specs.Option.{option_map, option_to_list}
+use Rattle.std.specs.Prelude.{◌≡◌, ◌≤◌, ℕ, nat_le, Bool, true, ◌&&◌, List, [], ◌∷◌, ◌++◌, length, take, drop, find, Option, Some, None}
+use Rattle.std.specs.Option.{option_map}
 use Rattle.std.specs.Ordering.{eq_by_cmp, is_lt}
 use Rattle.std.specs.FinMap.{empty, entries, get, insert, remove}
 use Rattle.ws_marks.specs.declared.record.Record.{Record}
+use Rattle.ws_marks.specs.declared.state.Replaced.{Replaced}
 use Rattle.ws_marks.specs.declared.state.State.{State}
 use Rattle.ws_marks.specs.Places.{Place, Records, States, name_cmp, place_cmp, place_of}
-
--- a participant whose state was set, and the state of which that took the place, if there was one
-abbrev pub Replaced : Type 0 → Type 0
-Replaced M = List ℕ × Option (State M)
 
 -- what contracts see
 pub record Marked (M : Type 0) : Type 0 where
@@ -67,53 +64,43 @@ set_at kept name (Some s) = insert kept name s
 -- the states before these were replaced
 abbrev pub undone : {M : Type 0} → States M → List (Replaced M) → States M
 undone kept [] = kept
-undone kept (r ∷ rs) = set_at (undone kept rs) r.0 r.1
-
--- the states that were set where these were replaced, the last first
-abbrev pub set_since : {M : Type 0} → States M → List (Replaced M) → List (State M)
-set_since kept [] = []
-set_since kept (r ∷ rs) = set_since kept rs ++ option_to_list (get (undone kept rs) r.0)
-
--- the states that were replaced, the last first
-abbrev pub befores : {M : Type 0} → List (Replaced M) → List (State M)
-befores [] = []
-befores (r ∷ rs) = befores rs ++ option_to_list r.1
+undone kept (r ∷ rs) = set_at (undone kept rs) r.participant r.before
 
 -- what was replaced since a save began; nothing where none is under way
 abbrev pub since_begin : {M : Type 0} → Option (List (Replaced M)) → List (Replaced M)
 since_begin None = []
 since_begin (Some rs) = rs
 
--- the kept states when the save began
-abbrev pub kept_at_begin : {M : Type 0} → Marked M → States M
-kept_at_begin m = undone m.kept (since_begin m.replaced)
-
--- nothing while a save is under way, and else the state
-abbrev pub unless_saving : {M : Type 0} → Option (List (Replaced M)) → Option (State M) → Option (State M)
-unless_saving None s = s
-unless_saving (Some rs) s = None
-
--- the earlier state of the name that is given at once
-abbrev pub given_at_once : {M : Type 0} → Marked M → List ℕ → Option (State M)
-given_at_once m name = unless_saving m.replaced (get m.kept name)
-
 -- with the state kept
 abbrev pub with_kept : {M : Type 0} → Marked M → State M → Marked M
 with_kept m s = record m {
   kept = insert m.kept s.participant s;
-  replaced = option_map (λ rs. rs ++ (s.participant, get m.kept s.participant) ∷ []) m.replaced;
+  replaced = option_map (λ rs. rs ++ record { participant = s.participant; before = get m.kept s.participant } ∷ []) m.replaced;
 }
 
 -- a save is under way
 abbrev pub saving : {M : Type 0} → Marked M → Marked M
 saving m = record m { replaced = Some (since_begin m.replaced) }
 
--- the save is over: what was set stays, or the states are those of its begin again
-abbrev pub ended : {M : Type 0} → Bool → Marked M → Marked M
-ended true m = record m { replaced = None }
-ended false m = record m { kept = kept_at_begin m; replaced = None }
+-- as all was when so many had been replaced since the save began
+abbrev pub unwound : {M : Type 0} → ℕ → Marked M → Marked M
+unwound count m = record m { kept = undone m.kept (drop count (since_begin m.replaced)); replaced = option_map (take count) m.replaced }
 
--- the states that are given up with that
-abbrev pub given_up : {M : Type 0} → Bool → Marked M → List (State M)
-given_up true m = befores (since_begin m.replaced)
-given_up false m = set_since m.kept (since_begin m.replaced)
+-- this was replaced last, after at least so many
+pub record IsLast {M : Type 0} (count : ℕ) (m : Marked M) (r : Replaced M) (rest : List (Replaced M)) : Type 0 where
+  pub all : m.replaced ≡ Some (rest ++ r ∷ [])
+  pub beyond : count ≤ length rest
+
+-- what was replaced last, after at least so many, is put back, and the state in its place goes
+pub record IsPutBack {M : Type 0} (count : ℕ) (m : Marked M) (s : State M) (n : Marked M) : Type 0 where
+  pub last : Replaced M
+  pub rest : List (Replaced M)
+  pub is_last : IsLast count m last rest
+  pub gone : get m.kept last.participant ≡ Some s
+  pub now : n ≡ record m { kept = set_at m.kept last.participant last.before; replaced = Some rest }
+
+-- this, which was replaced last, is taken
+pub record IsTaken {M : Type 0} (m : Marked M) (last : Replaced M) (n : Marked M) : Type 0 where
+  pub rest : List (Replaced M)
+  pub is_last : IsLast 0 m last rest
+  pub now : n ≡ record m { replaced = Some rest }

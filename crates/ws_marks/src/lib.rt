@@ -1,7 +1,7 @@
 //! What a workspace remembers beside its tree: the tree that was told last, what was built, and what participants keep.
 //!
 //! - `record`: a `Record`, what is remembered of one build command.
-//! - `state`: a `State`, what one participant keeps.
+//! - `state`: a `State`, what one participant keeps, and a `Replaced`, what it kept before.
 //! - `records`: records in the order of their places.
 //! - `states`: states by participant.
 //! - `saving`: what took whose place while a save is under way.
@@ -18,4 +18,4 @@ mod states;
 pub use marks::Marks;
 pub use record::Record;
 pub use res_path::NoMemory;
-pub use state::State;
+pub use state::{Replaced, State};

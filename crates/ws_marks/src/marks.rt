@@ -1,16 +1,16 @@
 //! All that a workspace remembers beside its tree.
-ghost use Rattle.std.specs.Prelude.{◌≡◌, true, Some, IfOk, IfSome, IsSome, OnOk, OnErr};
+ghost use Rattle.std.specs.Prelude.{◌≡◌, ◌≤◌, [], true, Some, None as nothing, IfErr, IfOk, IfSome, IsSome, OnOk, OnErr, is_some, length};
 ghost use Rattle.std.specs.FinMap as map;
 ghost use Rattle.std.specs.Option.{option_copied, option_map};
 ghost use Rattle.ws_marks.specs.Places.{place_of};
-ghost use Rattle.ws_marks.specs.Marked.{ended, first_from, given_at_once, given_up, is_from, kept_at_begin, record_after, saving, state_after, told_alone, with_kept, without};
+ghost use Rattle.ws_marks.specs.Marked.{IsPutBack, IsTaken, first_from, is_from, record_after, saving, since_begin, state_after, told_alone, with_kept, without};
 
 use crate::records::Records;
-use crate::saving::{Saving, begun, replaced_in, set_in_save, undo};
+use crate::saving::{set_in_save, take_in_save, undo_in_save};
 use crate::states::States;
-use crate::{NoMemory, Record, State};
+use crate::{NoMemory, Record, Replaced, State};
 use res_path::Name;
-use std::alloc::Global;
+use std::alloc::{AllocFailed, Global};
 use std::marker::Model;
 use std::mem;
 
@@ -24,7 +24,8 @@ pub struct Marks<M> {
     told: M,
     built: Records<M>,
     kept: States<M>,
-    saving: Option<Saving<M>>,
+    // While a save is under way, what was replaced since it began, the first first.
+    replaced: Option<Vec<Replaced<M>>>,
     alloc: Global,
 }
 
@@ -33,15 +34,15 @@ impl<M> Model for Marks<M> {
     ghost use Rattle.std.specs.Option.{option_map};
     ghost use Rattle.ws_marks.specs.Marked.{Marked};
     ghost use Rattle.proj_desc.specs.contracts.command.Command as command;
-    ghost use Rattle.ws_marks.specs.Inside.{IsReady, marked_code};
+    ghost use Rattle.ws_marks.specs.Inside.{AllThere, marked_code};
 
     ghost Value = { Marked M };
 
     ghost coded = { marked_code command.the_row.coded M.code };
 
-    ghost view = { λ m. record { told = m.told; built = m.built; kept = m.kept; replaced = option_map (λ s. s.replaced.items) m.saving } };
+    ghost view = { λ m. record { told = m.told; built = m.built; kept = m.kept; replaced = option_map (λ rs. rs.items) m.replaced } };
 
-    ghost invariant = { λ m. IfSome m.saving (λ s. IsReady m.kept s) };
+    ghost invariant = { λ m. IfSome m.replaced (λ rs. AllThere m.kept rs.items) };
 }
 
 impl<M: Drop> Marks<M> {
@@ -53,7 +54,7 @@ impl<M: Drop> Marks<M> {
             told,
             built: Records::empty(alloc),
             kept: States::empty(alloc),
-            saving: None,
+            replaced: None,
             alloc,
         }
     }
@@ -122,24 +123,6 @@ impl<M: Drop> Marks<M> {
         self.kept.get(name)
     }
 
-    /// Keeps the state, in the place of the participant's, which it gives. While a save is under way it gives none, and
-    /// keeps that one for the save's end.
-    pub fn set_kept(&mut self, new: State<M>) -> Result<Option<State<M>>, NoMemory>
-        ensures before { IfOk result (λ before. before ≡ given_at_once self.old new.participant) }
-        ensures ok { OnOk result (self.new ≡ with_kept self.old new) }
-        ensures err { OnErr result (self.new ≡ self.old) }
-        // What was kept when the save began can be had again.
-        ensures begin { IsSome self.old.replaced → kept_at_begin self.new ≡ kept_at_begin self.old }
-    {
-        match &mut self.saving {
-            None => self.kept.put(new),
-            Some(saving) => {
-                set_in_save(&mut self.kept, saving, new)?;
-                Ok(None)
-            }
-        }
-    }
-
     /// The first kept state above this name, or of all, by the participants' names; none where there is none.
     pub fn next_kept(&self, after: Option<&Name>) -> Option<&State<M>>
         ensures next { option_copied result ≡ state_after self.now.kept (option_copied after.entry) }
@@ -148,33 +131,76 @@ impl<M: Drop> Marks<M> {
         self.kept.next(after)
     }
 
-    /// A save is under way from now on, if none was.
-    pub fn begin_save(&mut self) -> Result<(), NoMemory>
-        ensures ok { OnOk result (self.new ≡ saving self.old) }
-        ensures err { OnErr result (self.new ≡ self.old) }
+    /// Whether a save is under way.
+    pub fn is_saving(&self) -> bool
+        ensures { result ≡ is_some self.now.replaced }
     {
-        if self.saving.is_none() {
-            self.saving = Some(begun(self.alloc));
-        }
-        Ok(())
+        self.replaced.is_some()
     }
 
-    /// The save is over. Where it is saved the kept states stay; else they are again those with which it began. Gives the
-    /// states that are given up with that, those that were set or replaced last first. Where no save is under way nothing
-    /// changes. It takes no memory.
-    pub fn end_save(&mut self, saved: bool) -> Vec<State<M>>
-        ensures ended { self.new ≡ ended saved self.old }
-        ensures given_up { result.items ≡ given_up saved self.old }
+    /// A save is under way from now on, if none was. It takes no memory.
+    pub fn begin_save(&mut self)
+        ensures { self.new ≡ saving self.old }
     {
-        match self.saving.take() {
-            None => Vec::new(self.alloc),
-            Some(saving) => {
-                if saved {
-                    replaced_in(saving)
-                } else {
-                    undo(&mut self.kept, saving)
-                }
-            }
+        if self.replaced.is_none() {
+            self.replaced = Some(Vec::new(self.alloc));
         }
+    }
+
+    /// How many states were set since the save under way began, and are not undone.
+    pub fn count_replaced(&self) -> usize
+        ensures { result ≡ length (since_begin self.now.replaced) }
+    {
+        match &self.replaced {
+            None => 0,
+            Some(replaced) => replaced.len(),
+        }
+    }
+
+    /// Keeps the state, in the place of the participant's, of which it is remembered what it replaced. Where memory wants
+    /// nothing has changed, and the state comes back.
+    pub fn set_kept(&mut self, new: State<M>) -> Result<(), AllocFailed<State<M>>>
+        requires { IsSome self.old.replaced }
+        ensures ok { OnOk result (self.new ≡ with_kept self.old new) }
+        ensures err { OnErr result (self.new ≡ self.old) }
+        ensures back { IfErr result (λ e. e.value ≡ new) }
+    {
+        match &mut self.replaced {
+            None => Err(AllocFailed { value: new }),
+            Some(replaced) => set_in_save(&mut self.kept, replaced, new),
+        }
+    }
+
+    /// Puts what was replaced last back, if more than so many were replaced. Gives the state in its place, which was set
+    /// last. It takes no memory.
+    pub fn undo_last(&mut self, count: usize) -> Option<State<M>>
+        ensures undone { IfSome result (λ gone. IsPutBack count self.old gone self.new) }
+        ensures none { result ≡ nothing → length (since_begin self.old.replaced) ≤ count }
+        ensures same { result ≡ nothing → self.new ≡ self.old }
+    {
+        match &mut self.replaced {
+            None => None,
+            Some(replaced) => undo_in_save(&mut self.kept, replaced, count),
+        }
+    }
+
+    /// Takes what was replaced last: it can't be put back any more. It takes no memory.
+    pub fn take_replaced(&mut self) -> Option<Replaced<M>>
+        ensures last { IfSome result (λ last. IsTaken self.old last self.new) }
+        ensures none { result ≡ nothing → since_begin self.old.replaced ≡ [] }
+        ensures same { result ≡ nothing → self.new ≡ self.old }
+    {
+        let Some(replaced) = &mut self.replaced else {
+            return None;
+        };
+        take_in_save(replaced)
+    }
+
+    /// The save is over, in which all that was replaced was taken or put back.
+    pub fn end_save(&mut self)
+        requires { since_begin self.old.replaced ≡ [] }
+        ensures { self.new ≡ record self.old { replaced = nothing } }
+    {
+        self.replaced = None;
     }
 }

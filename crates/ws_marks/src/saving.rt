@@ -1,122 +1,85 @@
 //! What took whose place while a save is under way.
-ghost use Rattle.std.specs.Prelude.{◌≡◌, ◌≤◌, ◌<◌, ◌+◌, ◌++◌, ◌∷◌, [], Some, OnOk, OnErr, IfSome};
+ghost use Rattle.std.specs.Prelude.{◌≡◌, ◌<◌, ◌≤◌, ◌++◌, ◌∷◌, [], Some, None as nothing, OnOk, OnErr, IfErr, IfOk, IfSome, length};
 ghost use Rattle.std.specs.FinMap as map;
-ghost use Rattle.std.specs.Option.{option_to_list};
 ghost use Rattle.std.specs.Vec.{vec_len, vec_capacity};
-ghost use Rattle.ws_marks.specs.Marked.{befores, set_since, undone};
-ghost use Rattle.ws_marks.specs.Inside.{AllThere, IsReady};
+ghost use Rattle.ws_marks.specs.declared.state.Replaced.{Replaced};
+ghost use Rattle.ws_marks.specs.Marked.{set_at};
+ghost use Rattle.ws_marks.specs.Inside.{AllThere};
 
 use crate::states::States;
-use crate::{NoMemory, State};
+use crate::{NoMemory, Replaced, State};
 use res_path::Name;
-use std::alloc::{AllocError, Global};
+use std::alloc::AllocFailed;
 
-/// A save that is under way.
-#[derive(Drop)]
-pub(crate) struct Saving<M> {
-    // Whose state was set since it began, and the state that it replaced; the first first.
-    pub(crate) replaced: Vec<(Name, Option<State<M>>)>,
-    // Without states, but with a place for each of these.
-    pub(crate) given: Vec<State<M>>,
-}
-
-/// A save in which nothing was set yet. It takes no memory.
-pub(crate) fn begun<M: Drop>(alloc: Global) -> Saving<M>
-    ensures replaced { result.replaced.items ≡ [] }
-    ensures given { result.given.items ≡ [] }
-{
-    Saving {
-        replaced: Vec::new(alloc),
-        given: Vec::new(alloc),
-    }
-}
-
-/// Keeps the state, and the one that it replaces for the save's end.
+/// Keeps the state, and the one that it replaces behind the others that were replaced. Where memory wants nothing has
+/// changed, and the state comes back.
 pub(crate) fn set_in_save<M: Drop>(
     kept: &mut States<M>,
-    saving: &mut Saving<M>,
+    replaced: &mut Vec<Replaced<M>>,
     new: State<M>,
-) -> Result<(), NoMemory>
-    requires { IsReady kept.old saving.old }
-    ensures ready { IsReady kept.new saving.new }
+) -> Result<(), AllocFailed<State<M>>>
+    requires { AllThere kept.old replaced.old.items }
+    ensures there { AllThere kept.new replaced.new.items }
     ensures kept { OnOk result (kept.new ≡ map.insert kept.old new.participant new) }
-    ensures replaced { OnOk result (saving.new.replaced.items ≡ saving.old.replaced.items ++ (new.participant, map.get kept.old new.participant) ∷ []) }
-    ensures begin { undone kept.new saving.new.replaced.items ≡ undone kept.old saving.old.replaced.items }
+    ensures replaced { OnOk result (replaced.new.items ≡ replaced.old.items ++ record { participant = new.participant; before = map.get kept.old new.participant } ∷ []) }
     ensures same_kept { OnErr result (kept.new ≡ kept.old) }
-    ensures same_replaced { OnErr result (saving.new.replaced.items ≡ saving.old.replaced.items) }
+    ensures same_replaced { OnErr result (replaced.new.items ≡ replaced.old.items) }
+    ensures back { IfErr result (λ e. e.value ≡ new) }
 {
-    let Some(places) = saving.replaced.len().checked_add(1) else {
-        return Err(AllocError);
+    let Ok((name, participant)) = prepared(replaced, &new.participant) else {
+        return Err(AllocFailed { value: new });
     };
-    saving.given.reserve(places)?;
-    saving.replaced.reserve(1)?;
-    let name = new.participant.copy()?;
-    let before = kept.put(new)?;
-    saving.replaced.push_reserved((name, before));
+    let before = kept.put(name, new)?;
+    replaced.push_reserved(Replaced {
+        participant,
+        before,
+    });
     Ok(())
 }
 
-/// The states that were replaced, the last first. It takes no memory.
-pub(crate) fn replaced_in<M: Drop>(saving: Saving<M>) -> Vec<State<M>>
-    requires empty { saving.given.items ≡ [] }
-    requires places { vec_len saving.replaced ≤ vec_capacity saving.given }
-    ensures { result.items ≡ befores saving.replaced.items }
+/// Makes a place for one more that is replaced. Gives the name twice.
+fn prepared<M: Drop>(replaced: &mut Vec<Replaced<M>>, name: &Name) -> Result<(Name, Name), NoMemory>
+    ensures items { replaced.new.items ≡ replaced.old.items }
+    ensures names { IfOk result (λ names. names ≡ (name.now, name.now)) }
+    ensures place { OnOk result (vec_len replaced.new < vec_capacity replaced.new) }
 {
-    let Saving {
-        mut replaced,
-        mut given,
-    } = saving;
-    move_befores(&mut replaced, &mut given);
-    given
+    replaced.reserve(1)?;
+    Ok((name.copy()?, name.copy()?))
 }
 
-fn move_befores<M: Drop>(replaced: &mut Vec<(Name, Option<State<M>>)>, given: &mut Vec<State<M>>)
-    requires { vec_len given.old + vec_len replaced.old ≤ vec_capacity given.old }
-    ensures { given.new.items ≡ given.old.items ++ befores replaced.old.items }
-{
-    while let Some((_, before)) = replaced.pop() {
-        give(given, before);
-    }
-}
-
-/// The states are those from before the save again. Gives those that were set in it, the last first. It takes no memory.
-pub(crate) fn undo<M: Drop>(kept: &mut States<M>, saving: Saving<M>) -> Vec<State<M>>
-    requires { IsReady kept.old saving }
-    ensures kept { kept.new ≡ undone kept.old saving.replaced.items }
-    ensures given { result.items ≡ set_since kept.old saving.replaced.items }
-{
-    let Saving {
-        mut replaced,
-        mut given,
-    } = saving;
-    put_all_back(kept, &mut replaced, &mut given);
-    given
-}
-
-fn put_all_back<M: Drop>(
+/// Puts what was replaced last back, if more than so many were replaced. Gives the state in its place. It takes no memory.
+pub(crate) fn undo_in_save<M: Drop>(
     kept: &mut States<M>,
-    replaced: &mut Vec<(Name, Option<State<M>>)>,
-    given: &mut Vec<State<M>>,
-)
-    requires there { AllThere kept.old replaced.old.items }
-    requires places { vec_len given.old + vec_len replaced.old ≤ vec_capacity given.old }
-    ensures kept { kept.new ≡ undone kept.old replaced.old.items }
-    ensures given { given.new.items ≡ given.old.items ++ set_since kept.old replaced.old.items }
+    replaced: &mut Vec<Replaced<M>>,
+    count: usize,
+) -> Option<State<M>>
+    requires { AllThere kept.old replaced.old.items }
+    ensures there { AllThere kept.new replaced.new.items }
+    ensures undone { IfSome result (λ gone. (last : Replaced M) × (replaced.old.items ≡ replaced.new.items ++ last ∷ []) × (count ≤ length replaced.new.items)
+        × (map.get kept.old last.participant ≡ Some gone) × (kept.new ≡ set_at kept.old last.participant last.before)) }
+    ensures none { result ≡ nothing → length replaced.old.items ≤ count }
+    ensures same_kept { result ≡ nothing → kept.new ≡ kept.old }
+    ensures same_replaced { result ≡ nothing → replaced.new.items ≡ replaced.old.items }
 {
-    while let Some((name, before)) = replaced.pop() {
-        let gone = kept.put_back(&name, before);
-        give(given, gone);
+    if replaced.len() <= count {
+        return None;
+    }
+    match replaced.pop() {
+        None => None,
+        Some(
+            Replaced {
+                participant,
+                before,
+            },
+        ) => kept.put_back(&participant, before),
     }
 }
 
-/// Puts the state, if there is one, behind the others.
-fn give<M: Drop>(given: &mut Vec<State<M>>, state: Option<State<M>>)
-    requires { vec_len given.old < vec_capacity given.old }
-    ensures items { given.new.items ≡ given.old.items ++ option_to_list state }
-    ensures len { vec_len given.new ≤ vec_len given.old + 1 }
-    ensures capacity { vec_capacity given.new ≡ vec_capacity given.old }
+/// Takes what was replaced last.
+pub(crate) fn take_in_save<M: Drop>(replaced: &mut Vec<Replaced<M>>) -> Option<Replaced<M>>
+    ensures last { IfSome result (λ last. replaced.old.items ≡ replaced.new.items ++ last ∷ []) }
+    ensures none { result ≡ nothing → replaced.old.items ≡ [] }
+    ensures same { result ≡ nothing → replaced.new.items ≡ replaced.old.items }
 {
-    if let Some(state) = state {
-        given.push_reserved(state);
-    }
+    replaced.pop()
 }

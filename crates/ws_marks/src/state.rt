@@ -10,3 +10,11 @@ pub struct State<M> {
     /// The tree as it was then, where the participant asked for what changes.
     pub tree: Option<M>,
 }
+
+/// What a participant kept before its state was set in a save.
+#[derive(Drop)]
+pub struct Replaced<M> {
+    pub participant: Name,
+    /// The state that was replaced, where it kept one.
+    pub before: Option<State<M>>,
+}

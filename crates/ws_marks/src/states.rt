@@ -1,5 +1,5 @@
 //! States by participant.
-ghost use Rattle.std.specs.Prelude.{◌≡◌, IfOk, IfSome, IsSome, OnOk, OnErr, Some};
+ghost use Rattle.std.specs.Prelude.{◌≡◌, IfErr, IfOk, IfSome, IsSome, OnOk, OnErr, Some};
 ghost use Rattle.std.specs.BTreeMap.{get, Updates};
 ghost use Rattle.std.specs.FinMap as map;
 ghost use Rattle.std.specs.List.{slice_get};
@@ -7,9 +7,9 @@ ghost use Rattle.std.specs.Option.{option_copied, option_map};
 ghost use Rattle.ws_marks.specs.Marked.{set_at, state_after};
 ghost use Rattle.ws_marks.specs.Places.{name_cmp};
 
-use crate::{NoMemory, State};
+use crate::State;
 use res_path::Name;
-use std::alloc::Global;
+use std::alloc::{AllocFailed, Global};
 use std::collections::BTreeMap;
 use std::collections::btree_map::Range;
 use std::marker::Model;
@@ -52,16 +52,24 @@ impl<M: Drop> States<M> {
         self.states.get(name)
     }
 
-    /// Puts the state in the place of the participant's, which it gives.
-    pub(crate) fn put(&mut self, new: State<M>) -> Result<Option<State<M>>, NoMemory>
+    /// Puts the state in the place of the participant's, which it gives. Where memory wants the state comes back.
+    pub(crate) fn put(
+        &mut self,
+        name: Name,
+        new: State<M>,
+    ) -> Result<Option<State<M>>, AllocFailed<State<M>>>
+        requires { name ≡ new.participant }
         ensures before { IfOk result (λ before. before ≡ map.get self.old new.participant) }
         ensures ok { OnOk result (self.new ≡ map.insert self.old new.participant new) }
         ensures err { OnErr result (self.new ≡ self.old) }
+        ensures back { IfErr result (λ e. e.value ≡ new) }
         ensures named { IfSome (map.get self.old new.participant) (λ s. s.participant ≡ new.participant) }
     {
-        let _ = &self.states;
-        let name = new.participant.copy()?;
-        Ok(self.states.insert(name, new)?)
+        let before = match self.states.insert(name, new) {
+            Ok(before) => before,
+            Err(failed) => return Err(without_name(failed)),
+        };
+        Ok(before)
     }
 
     /// Puts the state, or none, in the place of the one of this name, which it gives. It takes no memory.
@@ -87,6 +95,14 @@ impl<M: Drop> States<M> {
             Some(name) => first(self.states.range((Bound::Excluded(name), Bound::Unbounded))),
         }
     }
+}
+
+/// The state that could not be put.
+fn without_name<M: Drop>(failed: AllocFailed<(Name, State<M>)>) -> AllocFailed<State<M>>
+    ensures { result.value ≡ failed.value.1 }
+{
+    let (_, state) = failed.value;
+    AllocFailed { value: state }
 }
 
 /// Puts the state in the place of the one of this name, which it gives.

@@ -1,5 +1,5 @@
 -- Contents by their parts, and what calls answer.
-use Rattle.std.specs.Prelude.{◌≡◌, Bool, Some, None}
+use Rattle.std.specs.Prelude.{◌≡◌, Bool, None}
 use Rattle.proj_desc.specs.Causes.{desc_cause}
 use Rattle.op_kind.specs.declared.op.Op.{Op}
 use Rattle.op_kind.specs.declared.op.Op.TheVariants.{Describe}

@@ -1,8 +1,7 @@
-use Rattle.std.proofs.Common.{◌∙◌, ap, refl, subst, sym}
+use Rattle.std.proofs.Common.{◌∙◌, ap, subst, sym}
 use Rattle.tree_memory.specs.Spared.{left}
 use Rattle.std.specs.FinMap.{insert}
 use Rattle.op_kind.specs.Resources.{Resources}
-use Rattle.core_event.specs.declared.reply.Answer.{Answer}
 use Rattle.core_event.specs.declared.reply.Answer.TheVariants.{Committed}
 use Rattle.core_event.specs.Twice.{twice}
 use Rattle.ws_content.specs.States.{with_built}

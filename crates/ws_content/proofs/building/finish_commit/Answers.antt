@@ -1,5 +1,4 @@
-use Rattle.std.proofs.Common.{◌∙◌, ap, refl, subst, sym}
-use Rattle.tree_memory.specs.Spared.{left}
+use Rattle.std.proofs.Common.{◌∙◌}
 use Rattle.ws_content.proofs.Calls.{moved}
 use Rattle.ws_content.proofs.building.finish_commit.Goals as goal
 

@@ -1,4 +1,4 @@
-use Rattle.std.proofs.Common.{◌∙◌, ap, refl, subst, sym}
+use Rattle.std.proofs.Common.{subst}
 use Rattle.tree_memory.specs.Spared.{left}
 use Rattle.std.specs.FinMap.{insert}
 use Rattle.ws_content.specs.States.{with_built}
@@ -18,8 +18,8 @@ settle-requires g c =
       c.in-Ok.ensures.holds c.requires.0 c.requires.1 (c.in_ok-replied.ensures.holds c.requires.0 c.requires.1 c.requires.2),
     )
 
-pub abandon-requires : goal.abandon-requires
-abandon-requires g c =
+pub give_up_if-requires : goal.give_up_if-requires
+give_up_if-requires g c =
     let k = c.requires in
     let t = g.T.TreeRep.tree c.args.tree.now.tree in
     ready_there g.T.Remembers.number (left g.T.TreeRep.remembered c.set_built.new.tree) c.set_built.new.marks c.in_ok-replied.field-0.told k.0 t c.args.tells
@@ -39,6 +39,6 @@ pub returns-in-Err-clause-kept : goal.returns-in-Err-clause-kept
 returns-in-Err-clause-kept g c start v h =
     let t = g.T.TreeRep.tree c.args.tree.now.tree in
     let on = c.in_ok-replied.ensures.holds start v h in
-    abandoned g.T.Remembers.number (left g.T.TreeRep.remembered c.set_built.new.tree) (left g.T.TreeRep.remembered c.abandon.new.tree) c.set_built.new.marks c.in_ok-replied.field-0.told
-    c.abandon.ensures.others start v t c.args.tells (c.in-Err.ensures.same start v on)
+    abandoned g.T.Remembers.number (left g.T.TreeRep.remembered c.set_built.new.tree) (left g.T.TreeRep.remembered c.give_up_if.new.tree) c.set_built.new.marks c.in_ok-replied.field-0.told
+    c.give_up_if.ensures.others start v t c.args.tells (c.in-Err.ensures.same start v on)
     (c.in-Err.ensures.ready start v t c.args.tells c.in_ok-replied.field-0.told on (c.in_ok-replied.ensures.ready start v h))

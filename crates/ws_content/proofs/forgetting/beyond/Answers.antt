@@ -1,5 +1,4 @@
-use Rattle.std.proofs.Common.{◌∙◌, ap, refl, subst, sym}
-use Rattle.tree_memory.specs.Spared.{left}
+use Rattle.std.proofs.Common.{◌∙◌, ap, sym}
 use Rattle.std.proofs.Common.{rules}
 use Rattle.proj_desc.specs.Canonical.{described}
 use Rattle.ws_content.proofs.Calls.{counted}

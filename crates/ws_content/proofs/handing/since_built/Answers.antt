@@ -1,4 +1,4 @@
-use Rattle.std.proofs.Common.{◌∙◌, ap, refl, subst, sym}
+use Rattle.std.proofs.Common.{◌∙◌, ap, sym}
 use Rattle.tree_memory.specs.Spared.{left}
 use Rattle.std.specs.Option.{option_copied}
 use Rattle.ws_content.proofs.Calls.{cut_since, none_since, others_since}

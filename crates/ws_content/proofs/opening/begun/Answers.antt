@@ -37,7 +37,7 @@ returns-clause-holds g c v h =
     c.in_ok-start.ensures.fresh c.in_ok-start.ensures.own c.in_ok-start.ensures.others c.give_up.ensures.others v h in
     let next = grown number b d c.args.opened.marks (number c.in_ok-told.told) told.fresh told.others n begun first in
     let ready = grown_ready number b d c.args.opened.marks c.in_ok-told.told u true refl told.fresh told.own n begun first in
-    subst (λ x. Holds number n (left g.T.TreeRep.remembered c.settle.new.tree) c.settle.new.marks (record { start = t; told = x; built = v.built }))
+    subst (λ x. Holds number n (left g.T.TreeRep.remembered c.settle.new.tree) c.settle.new.marks (record v { start = t; told = x }))
     (c.give_up.ensures.tree ∙ c.in_ok-start.ensures.tree)
     (c.settle.ensures.holds n begun u true next ready)
 

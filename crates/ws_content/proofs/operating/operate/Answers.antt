@@ -1,4 +1,4 @@
-use Rattle.std.proofs.Common.{◌∙◌, ap, refl, subst, sym}
+use Rattle.std.proofs.Common.{◌∙◌, ap, subst, sym}
 use Rattle.tree_memory.specs.Spared.{left}
 use Rattle.std.specs.Option.{option_map}
 use Rattle.op_kind.specs.Resources.{Resources, resources}

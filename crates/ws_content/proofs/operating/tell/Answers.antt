@@ -1,4 +1,3 @@
-use Rattle.tree_memory.specs.Spared.{left}
 use Rattle.ws_content.proofs.operating.tell.Goals as goal
 
 pub settle-requires : goal.settle-requires

@@ -1,17 +1,16 @@
-use Rattle.std.proofs.Common.{sym, ap, subst, ◌∙◌, ◌<◌, refl}
-use Rattle.std.specs.Prelude.{Some, is_some}
+use Rattle.std.proofs.Common.{sym, ap, subst, ◌∙◌, ◌<◌}
 use Rattle.std.specs.FinMap.{len}
 use Rattle.tree_memory.specs.Spared.{left}
 use Rattle.ws_marks.specs.Marked.{Marked, first_from}
 use Rattle.ws_marks.specs.Places.{place_of}
-use Rattle.ws_content.specs.Inside.Held.{AsBuilt}
 use Rattle.ws_content.proofs.Forgotten.{fewer_left}
+use Rattle.ws_content.proofs.Holding.{built_used}
 use Rattle.ws_content.proofs.Steps.{first_taken, none_left, none_taken}
 use Rattle.ws_content.proofs.remembering.forget_first.Goals as goal
 
 pub give_up-requires : goal.give_up-requires
 give_up-requires g c =
-    c.requires.2.held.there (g.T.Remembers.number c.in-Some.record.tree) (AsBuilt (place_of c.in-Some.record) c.in-Some.record c.in-Some.ensures.own refl)
+    c.requires.2.held.there (g.T.Remembers.number c.in-Some.record.tree) (built_used g.T.Remembers.number c.requires.0 c.args.marks.now (place_of c.in-Some.record) c.in-Some.record c.in-Some.ensures.own)
 
 pub returns-in-None-clause-holds : goal.returns-in-None-clause-holds
 returns-in-None-clause-holds g c =

@@ -1,5 +1,5 @@
 use Rattle.tree_memory.specs.Spared.{left}
-use Rattle.ws_content.proofs.Steps.{settled, unsettled}
+use Rattle.ws_content.proofs.Steps.{settled}
 use Rattle.ws_content.proofs.remembering.settle.Goals as goal
 
 pub returns-in-Some-clause-holds : goal.returns-in-Some-clause-holds

@@ -6,6 +6,6 @@ use Rattle.ws_core.proofs.opening.content_of.Goals as goal
 pub returns : goal.returns
 returns c =
     let partners = c.of-partners.ensures ∙ c.into_vec.ensures in
-    let built = ap (map shown_built) (c.as_slice-records.ensures.value ∙ c.in_ok-records.ensures) ∙ shown_so c.args.durable.built in
-    let kept = ap (map shown_kept) (c.as_slice-states.ensures.value ∙ c.in_ok-states.ensures) ∙ kept_so c.args.durable.kept in
+    let built = ap (map shown_built) (c.as_slice.ensures.value ∙ c.in_ok-records.ensures) ∙ shown_so c.args.durable.built in
+    let kept = ap (map shown_kept) (c.as_slice-2.ensures.value ∙ c.in_ok-states.ensures) ∙ kept_so c.args.durable.kept in
     c.in_ok-content.ensures ∙ opened_contents c.args.durable _ _ _ partners built kept

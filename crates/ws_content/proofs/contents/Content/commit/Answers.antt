@@ -1,7 +1,7 @@
 use Rattle.std.proofs.Common.{◌≡◌, true, ◌∙◌, ap, refl, subst, sym}
-use Rattle.std.specs.Prelude.{IfOk, Some}
+use Rattle.std.specs.Prelude.{IfOk}
 use Rattle.std.specs.Option.{option_map}
-use Rattle.std.specs.FinMap.{insert, remove}
+use Rattle.std.specs.FinMap.{insert}
 use Rattle.op_kind.specs.Resources.{Resources, resources}
 use Rattle.tree_memory.specs.Spared.{left}
 use Rattle.core_event.specs.Twice.{doubled, twice}

@@ -9,15 +9,15 @@ use Rattle.ws_marks.proofs.states.States.put.Goals as goal
 
 pub invariant_of-self-2 : goal.invariant_of-self-2
 invariant_of-self-2 g c =
-    subst AllNamed (sym (one_put name_cmp_total name_cmp_exact c.self.inside.states.entries c.insert.new.self.entries c.in_ok-name.name c.args.new c.in_ok-insert.ensures.updates.0))
-    (named_put (map.from_entries c.self.inside.states.entries) c.in_ok-name.name c.args.new c.self.invariant (sym c.in_ok-name.ensures))
+    subst AllNamed (sym (one_put name_cmp_total name_cmp_exact c.self.inside.states.entries c.insert.new.self.entries c.args.name c.args.new c.in-Ok.ensures.updates.0))
+    (named_put (map.from_entries c.self.inside.states.entries) c.args.name c.args.new c.self.invariant (sym c.requires))
 
 pub returns-clause-before : goal.returns-clause-before
 returns-clause-before g c =
-    c.in_ok-insert.ensures.old ∙ ap (get name_cmp c.self.inside.states) c.in_ok-name.ensures ∙ sym (get_is name_cmp_total c.self.inside.states.entries c.args.new.participant)
+    c.in-Ok.ensures.old ∙ ap (get name_cmp c.self.inside.states) c.requires ∙ sym (get_is name_cmp_total c.self.inside.states.entries c.args.new.participant)
     ∙ ap (λ (m : States g.row.M.Denot). map.get m c.args.new.participant) c.self.view_is
 
 pub returns-clause-ok : goal.returns-clause-ok
 returns-clause-ok g c =
-    one_put name_cmp_total name_cmp_exact c.self.inside.states.entries c.insert.new.self.entries c.in_ok-name.name c.args.new c.in_ok-insert.ensures.updates.0
-    ∙ (λ i. map.insert (c.self.view_is i) (c.in_ok-name.ensures i) c.args.new)
+    one_put name_cmp_total name_cmp_exact c.self.inside.states.entries c.insert.new.self.entries c.args.name c.args.new c.in-Ok.ensures.updates.0
+    ∙ (λ i. map.insert (c.self.view_is i) (c.requires i) c.args.new)
