@@ -1,13 +1,12 @@
 -- The rounds of a history that goes on, and what participants tell of its saves.
-use Rattle.std.proofs.Common.{◌≡◌, ℕ, List, [], ◌∷◌, ◌++◌, Option, Some, None, refl, sym, ap, ◌∙◌, subst}
+use Rattle.std.proofs.Common.{◌≡◌, ℕ, List, [], ◌∷◌, ◌++◌, Some, None, refl, sym, ap, ◌∙◌, subst}
 use Rattle.save_kind.specs.declared.answer.SaveAnswer.{SaveAnswer}
 use Rattle.save_kind.specs.declared.kind.SaveKind.{SaveKind}
-use Rattle.save_kind.specs.declared.state.PartState.{PartState}
 use Rattle.save_round.specs.Told.{Told}
 use Rattle.save_run.specs.Books.{Deed}
 use Rattle.save_run.specs.Saves.{CameTo}
 use Rattle.core_event.specs.declared.entry.Entry.{Entry}
-use Rattle.core_event.specs.declared.reply.Answer.TheVariants.{Done, Refused}
+use Rattle.core_event.specs.declared.reply.Answer.TheVariants.{Refused}
 use Rattle.core_event.specs.declared.reply.Refusal.{Refusal}
 use Rattle.core_event.specs.declared.service.ServiceEvent.{ServiceEvent}
 use Rattle.std.specs.Option.{option_to_list}

@@ -1,11 +1,8 @@
 -- The store of an open workspace, as its history goes on.
-use Rattle.std.proofs.Common.{◌≡◌, ◌⊎◌, inl, inr, ℕ, ◌+◌, Bool, true, false, List, [], ◌∷◌, ◌++◌, Option, Some, None, Result, Ok, Err, refl, sym, ap, ◌∙◌, subst, arith}
-use Rattle.std.specs.Prelude.{MatchResult, OnOk, OnErr}
+use Rattle.std.proofs.Common.{◌≡◌, ℕ, ◌+◌, false, List, [], ◌∷◌, ◌++◌, Option, Some, None, Result, Ok, Err, refl, sym, ap, ◌∙◌, subst, arith}
 use Rattle.std.specs.Option.{option_to_list}
 use Rattle.ws_outside.specs.declared.contents.Contents.{Contents}
-use Rattle.ws_outside.specs.Disk.{Each, LeavesOnly}
-use Rattle.ws_outside.specs.Faults.{Rose}
-use Rattle.ws_durable.specs.Saved.{Saved, saved}
+use Rattle.ws_durable.specs.Saved.{saved}
 use Rattle.save_kind.specs.declared.answer.SaveAnswer.{SaveAnswer}
 use Rattle.save_kind.specs.declared.answer.SaveAnswer.TheVariants as answer
 use Rattle.save_kind.specs.declared.kind.SaveKind.{SaveKind}
@@ -21,11 +18,10 @@ use Rattle.ws_core.specs.Histories.{after, replay}
 use Rattle.ws_core.specs.Sessions.{Session}
 use Rattle.save_history.specs.Durables.{durable_of}
 use Rattle.save_history.specs.Steps.{SaveStep, Begins, Keeps, Ends, NoSaves, failure, failure_in, failures, step_of, steps_of}
-use Rattle.save_history.specs.Points.{Points, IsAsked, first_points, points_from, points_of, with_begun, with_step}
-use Rattle.save_history.specs.Kept.{Keeper, HasRisenBy, IsAhead, IsKept, IsSafe, IsTried, disk_of, first_disk, points_at}
+use Rattle.save_history.specs.Points.{Points, IsAsked, first_points, points_from, points_of, with_step}
+use Rattle.save_history.specs.Kept.{Keeper, HasRisenBy, IsKept, IsSafe, IsTried, disk_of, first_disk, points_at}
 use Rattle.save_history.proofs.Walks.{failures_append, no_points, no_steps, points_append, steps_append}
-use Rattle.save_history.proofs.Points.{points_whole}
-use Rattle.save_history.proofs.Backed.{risen_first, risen_more, risen_same, safe_acknowledged, safe_begun, safe_first, told_rose, told_same, wrote_ahead, wrote_safe}
+use Rattle.save_history.proofs.Backed.{risen_first, safe_acknowledged, safe_begun, safe_first}
 
 module _ {D : Type 0} (k : Keeper D) (x y : Session) (opened : y.opened ≡ x.opened) where
   -- the points of a history that went on

@@ -1,5 +1,5 @@
 -- The steps of a save make one.
-use Rattle.std.proofs.Common.{◌≡◌, inl, inr, ℕ, Bool, true, false, List, [], ◌∷◌, ◌++◌, Option, Some, None, refl, sym, ap, ◌∙◌, subst, append_assoc, append-nil, if◌then◌else◌}
+use Rattle.std.proofs.Common.{◌≡◌, inl, inr, ℕ, Bool, false, List, [], ◌∷◌, ◌++◌, Some, None, refl, sym, ap, ◌∙◌, append-nil, if◌then◌else◌}
 use Rattle.std.specs.Prelude.{unwrap_or}
 use Rattle.save_kind.specs.declared.answer.SaveAnswer.{SaveAnswer}
 use Rattle.save_kind.specs.declared.answer.SaveAnswer.TheVariants as answer
@@ -7,7 +7,6 @@ use Rattle.save_kind.specs.declared.kind.SaveKind.{SaveKind}
 use Rattle.save_kind.specs.declared.state.PartState.{PartState}
 use Rattle.save_run.specs.declared.command.Saved.TheVariants.{Ended, Stopped}
 use Rattle.save_run.specs.Books.{EndsUnkept}
-use Rattle.core_event.specs.declared.entry.Entry.{Entry}
 use Rattle.job_manager.specs.declared.manager.JobManager.{JobManager}
 use Rattle.ws_elem.specs.Trees.{Tree}
 use Rattle.ws_marks.specs.Places.{States}
@@ -15,9 +14,9 @@ use Rattle.ws_content.specs.Saves.{is_saved, kept_before, kept_with}
 use Rattle.ws_content.specs.States.{Remembered}
 use Rattle.ws_core.specs.States.{Moment}
 use Rattle.ws_core.specs.Sessions.{Session}
-use Rattle.save_history.specs.Steps.{Begins, Keeps, Ends, states_kept, steps_of}
+use Rattle.save_history.specs.Steps.{states_kept, steps_of}
 use Rattle.save_history.specs.Saves.{WasKept, WasUnkept}
-use Rattle.save_history.specs.Stages.{HasBegun, HasEnded, HasKept, HasSaved, Stays, WasRefused, at_home, kept_by}
+use Rattle.save_history.specs.Stages.{HasBegun, HasEnded, HasKept, HasSaved, Stays, WasRefused, at_home}
 use Rattle.save_history.proofs.Stages.{stays_on}
 use Rattle.save_history.proofs.Walks.{then_one}
 use Rattle.save_history.proofs.Rounds.{steps_kept}

@@ -4,11 +4,9 @@ use Rattle.save_kind.specs.declared.answer.SaveAnswer.{SaveAnswer}
 use Rattle.save_kind.specs.declared.answer.SaveAnswer.TheVariants as answer
 use Rattle.save_kind.specs.declared.kind.SaveKind.{SaveKind}
 use Rattle.save_kind.specs.declared.state.PartState.{PartState}
-use Rattle.save_run.specs.declared.command.Saved.TheVariants.{Ended, Stopped}
-use Rattle.core_event.specs.declared.entry.Entry.{Entry}
 use Rattle.core_event.specs.declared.event.Event.TheVariants.{Service}
 use Rattle.core_event.specs.declared.reply.Answer.{Answer}
-use Rattle.core_event.specs.declared.reply.Answer.TheVariants.{Done, Refused}
+use Rattle.core_event.specs.declared.reply.Answer.TheVariants.{Refused}
 use Rattle.core_event.specs.declared.reply.Refusal.TheVariants.{ServicesOut}
 use Rattle.core_event.specs.declared.reply.Reply.{Reply}
 use Rattle.core_event.specs.declared.service.Outcomes.TheVariants as outcomes
@@ -16,7 +14,6 @@ use Rattle.core_event.specs.declared.service.Purpose.TheVariants as purposes
 use Rattle.core_event.specs.declared.service.ServiceEvent.{ServiceEvent}
 use Rattle.core_event.specs.declared.service.ServiceEvent.TheVariants.{Saving}
 use Rattle.core_event.specs.Replies.{is_attempt}
-use Rattle.job_manager.specs.declared.manager.JobManager.{JobManager}
 use Rattle.ws_content.specs.Saves.{is_saved, kept_before}
 use Rattle.ws_core.specs.States.{Moment}
 use Rattle.ws_core.specs.Ends.{ChecksIn}
@@ -25,7 +22,7 @@ use Rattle.ws_core.specs.Sessions.{IsConsistent, Session}
 use Rattle.ws_core.specs.Effects.{check_in, check_out, keep_states}
 use Rattle.ws_core.specs.Steps.{step}
 use Rattle.save_history.specs.Saves.{beginning, ending}
-use Rattle.save_history.specs.Stages.{HasBegun, HasEnded, HasKept, HasSaved, IsUnderWay, Starts, Stays, WasRefused, WentOn, at_home, number_of}
+use Rattle.save_history.specs.Stages.{HasBegun, HasEnded, HasKept, IsUnderWay, Starts, Stays, WasRefused, WentOn, number_of}
 use Rattle.save_history.proofs.Stepped.{begins_done, begins_refused, ends_done, is_under_way, keeps_done, save_may_end, untold}
 
 pub stays_on : (s t u : Moment) → Stays s t → Stays t u → Stays s u
@@ -72,7 +69,7 @@ module _ (x y : Session) (k : ℕ) (kind : SaveKind) (sound : IsConsistent x.sta
       let done = begins_done x.state k kind sound.quiet home in
       let is = now x y k (beginning kind) (check_out x.state k (purposes.Save kind)) done placed opened state history in record {
         went = went x y k (beginning kind) (check_out x.state k (purposes.Save kind)) done placed opened state history refl
-        (record { resources = refl; start = refl; told = refl; built = refl; manager = refl; builders = refl });
+            (record { resources = refl; start = refl; told = refl; built = refl; manager = refl; builders = refl });
         home = home;
         under_way = record { services = ap (λ (s : Moment). s.manager.passes.services) is; serving = ap (λ (s : Moment). s.desk.serving) is };
         kept = ap (λ (s : Moment). s.remembered.kept) is;
@@ -107,7 +104,7 @@ module _ (x y : Session) (k : ℕ) (kept : Bool) (sound : IsConsistent x.state) 
       let done = keeps_done x.state k sound.quiet under.services states (is_under_way x.state.desk.serving kept under.serving) in
       let is = now x y k (Saving states) (keep_states x.state states) done placed opened state history in record {
         went = went x y k (Saving states) (keep_states x.state states) done placed opened state history refl
-        (record { resources = refl; start = refl; told = refl; built = refl; manager = refl; builders = refl });
+            (record { resources = refl; start = refl; told = refl; built = refl; manager = refl; builders = refl });
         under_way = record { services = ap (λ (s : Moment). s.manager.passes.services) is ∙ under.services; serving = ap (λ (s : Moment). s.desk.serving) is };
         kept = ap (λ (s : Moment). s.remembered.kept) is;
         before = ap (λ (s : Moment). s.remembered.before) is;

@@ -1,6 +1,6 @@
 -- What the steps of a save are answered, and what they leave.
-use Rattle.std.proofs.Common.{◌≡◌, ℕ, Bool, true, false, ◌&&◌, not, eq-eqb, List, [], ◌∷◌, ◌++◌, Option, Some, None, refl, sym, ap, ◌∙◌, subst}
-use Rattle.std.specs.Option.{option_map, option_or}
+use Rattle.std.proofs.Common.{◌≡◌, ℕ, Bool, true, ◌&&◌, not, eq-eqb, List, [], ◌∷◌, Option, Some, None, refl, ap, ◌∙◌}
+use Rattle.std.specs.Option.{option_map}
 use Rattle.proj_desc.specs.FirstCause.{first_cause, when}
 use Rattle.save_kind.specs.declared.answer.SaveAnswer.{SaveAnswer}
 use Rattle.save_kind.specs.declared.answer.SaveAnswer.TheVariants as answer
@@ -8,7 +8,7 @@ use Rattle.save_kind.specs.declared.kind.SaveKind.{SaveKind}
 use Rattle.save_kind.specs.declared.state.PartState.{PartState}
 use Rattle.core_event.specs.declared.event.Event.TheVariants.{Service}
 use Rattle.core_event.specs.declared.reply.Answer.{Answer}
-use Rattle.core_event.specs.declared.reply.Answer.TheVariants.{Done, Refused}
+use Rattle.core_event.specs.declared.reply.Answer.TheVariants.{Refused}
 use Rattle.core_event.specs.declared.reply.Refusal.{Refusal}
 use Rattle.core_event.specs.declared.reply.Refusal.TheVariants.{NotServices, ServicesOut}
 use Rattle.core_event.specs.declared.reply.Reply.{Reply}

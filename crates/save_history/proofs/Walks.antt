@@ -1,5 +1,5 @@
 -- Histories in two parts, and entries that make no step of a save.
-use Rattle.std.proofs.Common.{◌≡◌, ℕ, ◌+◌, Bool, true, false, List, [], ◌∷◌, ◌++◌, Option, Some, None, refl, sym, ap, ◌∙◌, subst, arith, append_assoc, append-nil, if◌then◌else◌}
+use Rattle.std.proofs.Common.{◌≡◌, ◌+◌, Bool, true, false, List, [], ◌∷◌, ◌++◌, Option, None, refl, sym, ap, ◌∙◌, arith, append_assoc, if◌then◌else◌}
 use Rattle.std.specs.List.{AllByRecursion}
 use Rattle.std.specs.Option.{option_to_list}
 use Rattle.core_event.specs.declared.entry.Entry.{Entry}
@@ -10,7 +10,7 @@ use Rattle.core_event.specs.Events.{service_of}
 use Rattle.ws_core.specs.States.{Moment}
 use Rattle.ws_core.specs.Histories.{after, replay}
 use Rattle.save_history.specs.Durables.{durable_of}
-use Rattle.save_history.specs.Steps.{SaveStep, NoSaves, failures, failure_in, states_kept, step_in, step_of, steps_of, was_done}
+use Rattle.save_history.specs.Steps.{SaveStep, NoSaves, failures, step_in, step_of, steps_of, was_done}
 use Rattle.save_history.specs.Points.{Points, points_from, with_step}
 use Rattle.save_history.specs.Rounds.{Rounds, rounds_after, rounds_with}
 
