@@ -11,3 +11,4 @@ pub mod Checked
 pub mod Answered
 pub mod Built
 pub mod Taking
+pub mod KeptAlike

@@ -232,6 +232,13 @@ module _ {D : Type 0} (moment : D → ℕ) (left_since : D → ℕ → Contents 
 
   -- ---- a store that was kept through a run
 
+  pub store_none : (store : Saves D) (left : D) (kept : Option Durable) (opened : Moment) (h : List Entry) → kept ≡ None → left ≡ store.areas.disk → LeavesStore moment left_since may_leave faults store left kept opened h
+  store_none store left kept opened h none same = subst (λ k. LeavesStore moment left_since may_leave faults store left k opened h) (sym none) same
+
+  pub store_some : (store : Saves D) (left : D) (kept : Option Durable) (opened : Moment) (h : List Entry) → IsSome kept → KeepsStore moment left_since may_leave faults store left opened h → LeavesStore moment left_since may_leave faults store left kept opened h
+  store_some store left None opened h some k = let no : false ≡ true = some in cc
+  store_some store left (Some d) opened h some k = k
+
   module _ (held left : D) (d : Durable) (opened : Moment) (h : List Entry) (store : Saves D) (last : store.last ≡ d) (k : KeepsStore moment left_since may_leave faults store left opened h) where
     same_points : points_at k.space k.keeper ≡ run_points (saved d) opened h
     same_points = ap (λ b. points_of (saved b.last) k.space.opened k.space.history) k.began ∙ ap (λ e. points_of (saved e) k.space.opened k.space.history) last

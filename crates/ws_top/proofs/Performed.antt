@@ -8,7 +8,7 @@ use Rattle.rule_table.specs.Tables.{IsApart}
 use Rattle.core_event.specs.declared.entry.Entry.{Entry}
 use Rattle.save_round.specs.Told.{Told as PartTold}
 use Rattle.save_round.specs.Restoring.{kept_for_each, names}
-use Rattle.save_round.proofs.KeptFor.{kept_alike}
+use Rattle.ws_top.proofs.KeptAlike.{kept_alike}
 use Rattle.builder_api.specs.Told.{Told}
 use Rattle.run_text.specs.declared.writing.Unwritten.{Unwritten}
 use Rattle.run_text.specs.declared.writing.Unwritten.TheVariants.{Fault, Memory}

@@ -11,7 +11,7 @@ use Rattle.save_round.specs.Told.{Call, Told, Prepared, Saving, RolledBack}
 use Rattle.save_round.specs.Firsts.{FirstsHad, by_place}
 use Rattle.save_round.specs.Restoring.{HasStoppedRestoring, WereRestored, names, restoring}
 use Rattle.save_round.specs.Rounds.{HasStoppedPreparing}
-use Rattle.save_round.proofs.Restored.{same_names}
+use Rattle.ws_top.proofs.KeptAlike.{same_names}
 use Rattle.save_run.specs.Books.{Deed}
 use Rattle.save_run.specs.Saves.{CameTo, HadRound, HasStopped, HasStoppedAsking}
 use Rattle.save_history.specs.Rounds.{HadSave, HadSaves, Save, rounds_of}
