@@ -33,7 +33,7 @@ use Rattle.build_core.proofs.Leaves.{Leaves, served}
 
 -- a checkout that isn't refused answers the plan, and builds see what they saw
 pub checkout_leaves : (s : Moment) (k : ℕ) (kind : BuildKind) (scope : Option (List ℕ)) → first_cause (service_causes s k (Checkout (Build kind scope))) ≡ None
-    → Leaves (step s k (Service (Checkout (Build kind scope)))) (check_out s k scope)
+    → Leaves (step s k (Service (Checkout (Build kind scope)))) (check_out s k (Build kind scope))
 checkout_leaves s k kind scope none = served s k (Checkout (Build kind scope)) none
 
 -- ---- the project of a plan of one is open

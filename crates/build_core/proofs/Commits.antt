@@ -15,7 +15,7 @@ use Rattle.core_event.specs.declared.reply.Answer.TheVariants as answers
 use Rattle.core_event.specs.declared.reply.Refusal.TheVariants.{NoBuilder}
 use Rattle.core_event.specs.declared.reply.Reply.{Reply}
 use Rattle.core_event.specs.declared.service.ServiceEvent.TheVariants.{Clean, Commit}
-use Rattle.service_desk.specs.Desks.{idle}
+use Rattle.service_desk.specs.Desks.{idle, is_building}
 use Rattle.service_desk.specs.Refusals.{not_serving, unrooted}
 use Rattle.ws_content.specs.Deeds.{clean, commit, edit_refusal, record_of}
 use Rattle.ws_core.specs.States.{Moment, contents_of}
@@ -53,9 +53,9 @@ pub data Commits (s : Moment) (i : Item) (e : Edits) (next : Moment × Reply) : 
   AreMade : Leaves next (committed_to s i e, answers.Committed (touched_by s.resources (task i).output e) (length e.problems))
       → IsCommitted (state_of s) i e (touched_by s.resources (task i).output e) (length e.problems) (state_of next.0) → Commits s i e next
 
--- one of both it is for the command under way, of the pass that has the services and the rule of the root
+-- one of both it is for the command under way, of the pass that has the services for a build and the rule of the root
 pub commits : (s : Moment) (k : ℕ) (i : Item) (e : Edits) → IsConsistent s → IsItem (desc_at s.resources.tree) i → current s ≡ Some (site_of_item s.resources.tree i)
-    → not_serving s.manager.passes k ≡ None → unrooted s.manager.passes.rules k ≡ None → Commits s i e (step s k (Service (Commit e)))
+    → not_serving s.manager.passes (is_building s.desk.serving) k ≡ None → unrooted s.manager.passes.rules k ≡ None → Commits s i e (step s k (Service (Commit e)))
 commits s k i e x h at serving rooted = by (outputs.refusal s.resources (task i).output i.index e) refl
   where
     causes : (o : Option EditRefusal) → outputs.refusal s.resources (task i).output i.index e ≡ o → first_cause (service_causes s k (Commit e)) ≡ option_or (option_map edit_refusal o) None
@@ -95,14 +95,14 @@ cleans s k i h none =
     subst (Leaves (step s k (Service (Clean i.project i.index)))) (ap (clean_for s) (item_site s.resources.tree i h)) (served s k (Clean i.project i.index) none) in
     record { leaves = left; cleaned = subst (IsCleaned (state_of s) i) (sym left.state) (cleaned_meets s i h) }
 
--- the pass that has the services and the rule of the root cleans where there is a builder
-pub cleans_present : (s : Moment) (k : ℕ) (i : Item) → IsItem (desc_at s.resources.tree) i → not_serving s.manager.passes k ≡ None → unrooted s.manager.passes.rules k ≡ None
+-- the pass that has the services for a build and the rule of the root cleans where there is a builder
+pub cleans_present : (s : Moment) (k : ℕ) (i : Item) → IsItem (desc_at s.resources.tree) i → not_serving s.manager.passes (is_building s.desk.serving) k ≡ None → unrooted s.manager.passes.rules k ≡ None
     → has_builder s.desk.builders i ≡ true → Cleans s i (step s k (Service (Clean i.project i.index)))
 cleans_present s k i h serving rooted there = cleans s k i h
-    (site_refusal s.manager.passes s.resources.tree s.desk.builders k i h serving rooted ∙ ap (λ b. when (not b) (NoBuilder i.command.builder)) there)
+    (site_refusal s.manager.passes s.resources.tree s.desk k i h serving rooted ∙ ap (λ b. when (not b) (NoBuilder i.command.builder)) there)
 
 -- and is refused it where there is none
-pub cleans_missing : (s : Moment) (k : ℕ) (i : Item) → IsItem (desc_at s.resources.tree) i → not_serving s.manager.passes k ≡ None → unrooted s.manager.passes.rules k ≡ None
+pub cleans_missing : (s : Moment) (k : ℕ) (i : Item) → IsItem (desc_at s.resources.tree) i → not_serving s.manager.passes (is_building s.desk.serving) k ≡ None → unrooted s.manager.passes.rules k ≡ None
     → has_builder s.desk.builders i ≡ false → Leaves (step s k (Service (Clean i.project i.index))) (s, answers.Refused (NoBuilder i.command.builder))
 cleans_missing s k i h serving rooted away = refused s k (Clean i.project i.index) (NoBuilder i.command.builder)
-    (site_refusal s.manager.passes s.resources.tree s.desk.builders k i h serving rooted ∙ ap (λ b. when (not b) (NoBuilder i.command.builder)) away)
+    (site_refusal s.manager.passes s.resources.tree s.desk k i h serving rooted ∙ ap (λ b. when (not b) (NoBuilder i.command.builder)) away)

@@ -15,7 +15,7 @@ use Rattle.core_event.specs.declared.reply.Answer.{Answer}
 use Rattle.core_event.specs.declared.reply.Answer.TheVariants as answers
 use Rattle.core_event.specs.declared.reply.Refusal.TheVariants.{NoBuilder}
 use Rattle.core_event.specs.declared.service.ServiceEvent.TheVariants.{Handed}
-use Rattle.service_desk.specs.Desks.{under_way}
+use Rattle.service_desk.specs.Desks.{is_building, under_way}
 use Rattle.service_desk.specs.Refusals.{not_serving, unrooted}
 use Rattle.service_desk.specs.Sites.{site_in}
 use Rattle.ws_content.specs.Handing.{built_of, handing}
@@ -54,14 +54,14 @@ pub handed_leaves : (s : Moment) (k : ℕ) (i : Item) (kind : BuildKind) → IsI
     → Leaves (step s k (Service (Handed i.project i.index kind))) (handed_to s i kind)
 handed_leaves s k i kind h none = subst (Leaves (step s k (Service (Handed i.project i.index kind)))) (handed_is s i kind h) (served s k (Handed i.project i.index kind) none)
 
--- the pass that has the services and the rule of the root is handed what is due where there is a builder
-pub handed_present : (s : Moment) (k : ℕ) (i : Item) (kind : BuildKind) → IsItem (desc_at s.resources.tree) i → not_serving s.manager.passes k ≡ None → unrooted s.manager.passes.rules k ≡ None
+-- the pass that has the services for a build and the rule of the root is handed what is due where there is a builder
+pub handed_present : (s : Moment) (k : ℕ) (i : Item) (kind : BuildKind) → IsItem (desc_at s.resources.tree) i → not_serving s.manager.passes (is_building s.desk.serving) k ≡ None → unrooted s.manager.passes.rules k ≡ None
     → has_builder s.desk.builders i ≡ true → Leaves (step s k (Service (Handed i.project i.index kind))) (handed_to s i kind)
 handed_present s k i kind h serving rooted there = handed_leaves s k i kind h
-    (site_refusal s.manager.passes s.resources.tree s.desk.builders k i h serving rooted ∙ ap (λ b. when (not b) (NoBuilder i.command.builder)) there)
+    (site_refusal s.manager.passes s.resources.tree s.desk k i h serving rooted ∙ ap (λ b. when (not b) (NoBuilder i.command.builder)) there)
 
 -- and is refused it where there is none
-pub handed_missing : (s : Moment) (k : ℕ) (i : Item) (kind : BuildKind) → IsItem (desc_at s.resources.tree) i → not_serving s.manager.passes k ≡ None → unrooted s.manager.passes.rules k ≡ None
+pub handed_missing : (s : Moment) (k : ℕ) (i : Item) (kind : BuildKind) → IsItem (desc_at s.resources.tree) i → not_serving s.manager.passes (is_building s.desk.serving) k ≡ None → unrooted s.manager.passes.rules k ≡ None
     → has_builder s.desk.builders i ≡ false → Leaves (step s k (Service (Handed i.project i.index kind))) (s, answers.Refused (NoBuilder i.command.builder))
 handed_missing s k i kind h serving rooted away = refused s k (Handed i.project i.index kind) (NoBuilder i.command.builder)
-    (site_refusal s.manager.passes s.resources.tree s.desk.builders k i h serving rooted ∙ ap (λ b. when (not b) (NoBuilder i.command.builder)) away)
+    (site_refusal s.manager.passes s.resources.tree s.desk k i h serving rooted ∙ ap (λ b. when (not b) (NoBuilder i.command.builder)) away)

@@ -16,6 +16,7 @@ use Rattle.core_event.specs.declared.service.Purpose.TheVariants.{Build}
 use Rattle.core_event.specs.declared.service.ServiceEvent.TheVariants.{Checkout}
 use Rattle.job_manager.specs.Admission.{admission}
 use Rattle.job_manager.specs.Effects as managing
+use Rattle.service_desk.specs.Desks.{is_building}
 use Rattle.service_desk.specs.Refusals.{not_serving, root_rule, unless_contained, unrooted}
 use Rattle.ws_core.specs.States.{Moment}
 use Rattle.ws_core.specs.Refusals.{service_causes}
@@ -40,9 +41,9 @@ pub begun_rooted : (passes : Passes WsAtom) (k : ℕ) → unrooted (begun passes
 begun_rooted passes k = root_rooted (begun passes k root_rule).rules k
     (ap (option_map (λ (h : Held WsAtom). h.rule)) (newest_last (is_outer k) passes.rules (record { holder = k; rule = root_rule }) (same_pass k)))
 
--- the pass has the services after it has taken them
-pub out_serves : (passes : Passes WsAtom) (k : ℕ) → not_serving (checked_out passes k) k ≡ None
-out_serves passes k = ap (λ b. when (not b) (NotServices (Some k))) (eq-eqb k k refl)
+-- the pass has the services after it has taken them, for a build where it took them for one
+pub out_serves : (passes : Passes WsAtom) (k : ℕ) → not_serving (checked_out passes k) true k ≡ None
+out_serves passes k = ap (λ b. when (not (b && true)) (NotServices (Some k))) (eq-eqb k k refl)
 
 -- ---- steps
 
@@ -63,8 +64,10 @@ batch_rooted s k rooted = ap (λ m. unrooted m.passes.rules k) (batch_leaves s k
 
 -- and after a checkout that isn't refused the pass has both
 pub checkout_serves : (s : Moment) (k : ℕ) (kind : BuildKind) (scope : Option (List ℕ)) → first_cause (service_causes s k (Checkout (Build kind scope))) ≡ None
-    → not_serving (step s k (Service (Checkout (Build kind scope)))).0.manager.passes k ≡ None
-checkout_serves s k kind scope none = ap (λ m. not_serving m.passes k) (checkout_leaves s k kind scope none).manager ∙ out_serves s.manager.passes k
+    → not_serving (step s k (Service (Checkout (Build kind scope)))).0.manager.passes (is_building (step s k (Service (Checkout (Build kind scope)))).0.desk.serving) k ≡ None
+checkout_serves s k kind scope none =
+    let left = checkout_leaves s k kind scope none in
+    (λ j. not_serving ((left.manager j).passes) (is_building ((left.desk j).serving)) k) ∙ out_serves s.manager.passes k
 
 pub checkout_rooted : (s : Moment) (k : ℕ) (kind : BuildKind) (scope : Option (List ℕ)) → first_cause (service_causes s k (Checkout (Build kind scope))) ≡ None
     → unrooted s.manager.passes.rules k ≡ None → unrooted (step s k (Service (Checkout (Build kind scope)))).0.manager.passes.rules k ≡ None

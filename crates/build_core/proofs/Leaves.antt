@@ -1,5 +1,5 @@
 -- What a step leaves for builds is what its event does, told or not.
-use Rattle.std.proofs.Common.{◌≡◌, ℕ, Bool, true, false, [], ◌∷◌, refl, ap, subst}
+use Rattle.std.proofs.Common.{◌≡◌, ℕ, Bool, true, false, [], ◌∷◌, refl, ap, ◌∙◌, subst}
 use Rattle.std.specs.Prelude.{Some, None}
 use Rattle.proj_desc.specs.FirstCause.{first_cause}
 use Rattle.core_event.specs.declared.event.Event.{Event}
@@ -13,13 +13,14 @@ use Rattle.core_event.specs.declared.service.ServiceEvent.{ServiceEvent}
 use Rattle.core_event.specs.declared.service.ServiceEvent.TheVariants.{CheckIn}
 use Rattle.core_event.specs.Events.{operation_of, service_of}
 use Rattle.job_manager.specs.Effects as managing
+use Rattle.service_desk.specs.Desks.{may_end}
 use Rattle.service_desk.specs.Refusals.{not_serving}
 use Rattle.ws_core.specs.States.{Moment}
 use Rattle.ws_core.specs.Refusals.{service_causes}
 use Rattle.ws_core.specs.Effects.{check_in, managed, serve}
 use Rattle.ws_core.specs.Steps.{act, acted, step, tells, told}
-use Rattle.ws_core.proofs.Stepped.{act_managed}
-use Rattle.build_core.specs.States.{state_of}
+use Rattle.ws_core.proofs.Stepped.{act_managed, ended_built}
+use Rattle.build_core.specs.States.{records_of, state_of}
 
 -- after a step builds see what was done, and all but what is told last is as it was done
 pub record Leaves (next : Moment × Reply) (done : Moment × Answer) : Type 0 where
@@ -60,6 +61,13 @@ served s k x none = step_leaves s k (Service x) (serve s k x) (ap (λ r. acted r
 pub refused : (s : Moment) (k : ℕ) (x : ServiceEvent) (r : Refusal) → first_cause (service_causes s k x) ≡ Some r → Leaves (step s k (Service x)) (s, Refused r)
 refused s k x r is = step_leaves s k (Service x) (s, Refused r) (ap (λ c. acted c s k (Service x)) is)
 
--- the pass that has the services gives them back, and builds see what they saw
-pub check_in_leaves : (s : Moment) (k : ℕ) (outcome : Outcomes) → not_serving s.manager.passes k ≡ None → Leaves (step s k (Service (CheckIn outcome))) (check_in s)
+-- the pass that has the services gives them back
+pub check_in_leaves : (s : Moment) (k : ℕ) (outcome : Outcomes) → not_serving s.manager.passes (may_end s.desk.serving outcome) k ≡ None
+    → Leaves (step s k (Service (CheckIn outcome))) (check_in s outcome)
 check_in_leaves s k outcome serving = served s k (CheckIn outcome) (ap (λ c. first_cause (c ∷ [])) serving)
+
+-- and builds see what they saw
+pub check_in_same : (s : Moment) (k : ℕ) (outcome : Outcomes) → not_serving s.manager.passes (may_end s.desk.serving outcome) k ≡ None
+    → state_of (step s k (Service (CheckIn outcome))).0 ≡ state_of s
+check_in_same s k outcome serving =
+    (check_in_leaves s k outcome serving).state ∙ ap (λ built. record (state_of s) { records = records_of built }) (ended_built outcome s.remembered)

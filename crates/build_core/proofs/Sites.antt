@@ -24,8 +24,9 @@ use Rattle.build_due.specs.declared.site.Site.{Site}
 use Rattle.core_event.specs.declared.reply.Refusal.{Refusal}
 use Rattle.core_event.specs.declared.reply.Refusal.TheVariants.{NoBuilder, NoCommand, Operation}
 use Rattle.pass_table.specs.Passes.{Passes}
+use Rattle.service_desk.specs.declared.desk.Desk.{Desk}
 use Rattle.service_desk.specs.declared.desk.UnderWay.{UnderWay}
-use Rattle.service_desk.specs.Desks.{site_of}
+use Rattle.service_desk.specs.Desks.{is_building, site_of}
 use Rattle.service_desk.specs.Refusals.{commands_of, no_builder, not_serving, site_causes, unrooted}
 use Rattle.service_desk.specs.Sites.{site_in}
 use Rattle.build_core.specs.States.{site_of_item}
@@ -87,21 +88,21 @@ of_six a b c d e f ha hb hc hd he = (λ k. first_cause (ha k ∷ hb k ∷ hc k �
 abbrev pub has_builder : Names → Item → Bool
 has_builder builders i = list_any (bytes_eq i.command.builder) builders
 
--- the pass that has the services and the rule of the root is refused a command only where there is no builder for it
-pub site_refusal : (passes : Passes WsAtom) (t : Tree) (builders : Names) (k : ℕ) (i : Item) → IsItem (desc_at t) i → not_serving passes k ≡ None → unrooted passes.rules k ≡ None
-    → first_cause (site_causes passes t builders k i.project i.index) ≡ when (not (has_builder builders i)) (NoBuilder i.command.builder)
-site_refusal passes t builders k i h serving rooted =
+-- the pass that has the services for a build and the rule of the root is refused a command only where there is no builder for it
+pub site_refusal : (passes : Passes WsAtom) (t : Tree) (d : Desk) (k : ℕ) (i : Item) → IsItem (desc_at t) i → not_serving passes (is_building d.serving) k ≡ None → unrooted passes.rules k ≡ None
+    → first_cause (site_causes passes t d k i.project i.index) ≡ when (not (has_builder d.builders i)) (NoBuilder i.command.builder)
+site_refusal passes t d k i h serving rooted =
     let there = described_open t i.project h.desc h.described in
     let cs : List Command = commands_of t i.project in
     let says : cs ≡ h.desc.commands = ap (λ (o : Option Desc). unwrap_or (option_map (λ d. d.commands) o) []) h.described in
     let got : slice_get cs i.index ≡ Some i.command = ap (λ xs. slice_get xs i.index) says ∙ h.stands in
-    of_six (not_serving passes k) (unrooted passes.rules k)
+    of_six (not_serving passes (is_building d.serving) k) (unrooted passes.rules k)
     (when (not (contains_key t (i.project ∷ []))) (Operation (NotFound (i.project ∷ []))))
     (when (is_shut t (i.project ∷ [])) (Operation (ProjectClosed (i.project ∷ []))))
     (when (nat_le (length cs) i.index) (NoCommand (length cs)))
-    (no_builder builders (slice_get cs i.index))
+    (no_builder d.builders (slice_get cs i.index))
     serving rooted
     (ap (λ o. when (not (is_some o)) (Operation (NotFound (i.project ∷ [])))) there.got)
     (ap (λ o. when (has_closed o) (Operation (ProjectClosed (i.project ∷ [])))) there.got ∙ ap (λ b. when b (Operation (ProjectClosed (i.project ∷ [])))) (open_not_closed (is_project there.element.kind) there.element.opened there.kind there.opened))
     (ap (λ b. when b (NoCommand (length cs))) (lt-leb (length cs) i.index (slice_get_within cs i.index i.command got)))
-    ∙ ap (no_builder builders) got
+    ∙ ap (no_builder d.builders) got

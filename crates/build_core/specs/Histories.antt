@@ -15,7 +15,7 @@ use Rattle.core_event.specs.declared.service.ServiceEvent.TheVariants as service
 use Rattle.core_event.specs.Replies.{refusal_number}
 use Rattle.builder_api.specs.Told.{Told}
 use Rattle.pass_table.specs.Passes.{batches_of}
-use Rattle.job_manager.specs.declared.manager.JobManager.{JobManager}
+use Rattle.service_desk.specs.Desks.{is_building}
 use Rattle.service_desk.specs.Refusals.{not_serving, unrooted}
 use Rattle.build_run.specs.declared.answers.Given.{Given}
 use Rattle.build_run.specs.declared.answers.Given.TheVariants as given
@@ -59,10 +59,13 @@ taken_of answer = None
 
 abbrev pub service_deed : ServiceEvent → Answer → Option Deed
 service_deed (services.Checkout (purposes.Build kind scope)) a = option_map (λ x. Checkout kind scope x) (started_of a)
+service_deed (services.Checkout (purposes.Save kind)) a = None
 service_deed (services.CheckIn (outcomes.Build outcome)) a = Some (CheckIn outcome)
+service_deed (services.CheckIn (outcomes.Save answer)) a = None
 service_deed (services.Handed project index kind) a = option_map (λ x. Handing project index kind x) (given_of a)
 service_deed (services.Commit edits) a = option_map (λ x. Commit edits x) (taken_of a)
 service_deed (services.Clean project index) a = Some (CleanUp project index (number_of a))
+service_deed (services.Saving states) a = None
 
 -- what an event with its answer is of a build command, if it is one's
 abbrev pub deed_of : Event → Answer → Option Deed
@@ -84,9 +87,10 @@ abbrev pub entries_of : ℕ → Moment → List Entry → List books.Entry
 entries_of k s [] = []
 entries_of k s (x ∷ h) = entry_of k s x ++ entries_of k (after s x) h
 
--- whether a pass may build: it has the services, the rule of the root and an open batch
-abbrev pub may_build : JobManager → ℕ → Bool
-may_build m k = is_none (not_serving m.passes k) && is_none (unrooted m.passes.rules k) && not (batches_of m.passes k == 0)
+-- whether a pass may build: it has the services for a build, the rule of the root and an open batch
+abbrev pub may_build : Moment → ℕ → Bool
+may_build s k =
+    is_none (not_serving s.manager.passes (is_building s.desk.serving) k) && is_none (unrooted s.manager.passes.rules k) && not (batches_of s.manager.passes k == 0)
 
 -- what the pass has done, where its last entry is the last; its build command began after so many entries, when builders
 -- told this
@@ -97,7 +101,7 @@ book_of x k start began told = record {
   began = began;
   told = told;
   now = state_of x.state;
-  serving = may_build x.state.manager k;
+  serving = may_build x.state k;
   home = is_none x.state.manager.passes.services;
   has = λ name. list_any (bytes_eq name) x.state.desk.builders;
   under = option_map item_of (current x.state);

@@ -15,8 +15,6 @@ use Rattle.core_event.specs.declared.event.Event.{Event}
 use Rattle.core_event.specs.declared.event.Event.TheVariants as events
 use Rattle.core_event.specs.declared.reply.Answer.{Answer}
 use Rattle.core_event.specs.declared.reply.Refusal.{Refusal}
-use Rattle.core_event.specs.declared.service.Outcomes.{Outcomes}
-use Rattle.core_event.specs.declared.service.Outcomes.TheVariants as outcomes
 use Rattle.core_event.specs.declared.service.Purpose.TheVariants.{Build, Save}
 use Rattle.core_event.specs.declared.service.ServiceEvent.{ServiceEvent}
 use Rattle.core_event.specs.declared.service.ServiceEvent.TheVariants.{Checkout, CheckIn, Handed, Commit, Clean, Saving}
@@ -29,13 +27,12 @@ use Rattle.ws_marks.specs.declared.record.Record.{Record}
 use Rattle.ws_marks.proofs.Places.{place_cmp_exact, place_cmp_total}
 use Rattle.ws_content.specs.Deeds.{From, forgets, forgotten}
 use Rattle.ws_content.specs.Handing.{built_of}
-use Rattle.ws_content.specs.Saves.{ended, is_saved, save_ended}
-use Rattle.ws_content.specs.States.{Remembered}
 use Rattle.ws_core.specs.States.{Moment}
 use Rattle.ws_core.specs.Histories.{after, fresh_for, replay}
 use Rattle.ws_core.specs.Effects.{check_in, clean_for, commit_for, effect_by, hand, other_effect, serve}
 use Rattle.ws_core.specs.Refusals.{current, refusal}
 use Rattle.ws_core.specs.Steps.{act, acted, step}
+use Rattle.ws_core.proofs.Stepped.{ended_built}
 use Rattle.build_core.specs.States.{records_of}
 use Rattle.build_core.proofs.Leaves.{step_leaves}
 use Rattle.build_history.specs.Events.{has_committed, NoBuilds, is_of_build}
@@ -88,15 +85,6 @@ abbrev kept : Moment → Records
 kept s = records_of s.remembered.built
 
 -- ---- what an event does
-
--- giving the services back leaves what was built
-ended_built : (o : Outcomes) (r : Remembered) → (ended o r).built ≡ r.built
-ended_built (outcomes.Build outcome) r = refl
-ended_built (outcomes.Save answer) r = by (is_saved answer)
-  where
-    by : (b : Bool) → (save_ended b r).built ≡ r.built
-    by true = refl
-    by false = refl
 
 served_fewer : (s : Moment) (k : ℕ) (x : ServiceEvent) → has_committed (events.Service x) (serve s k x).1 ≡ false → AreFewer (kept s) (kept (serve s k x).0)
 served_fewer s k (Checkout (Build kind scope)) none = same_fewer (kept s) (kept s) refl

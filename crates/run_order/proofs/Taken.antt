@@ -27,9 +27,9 @@ use Rattle.core_event.specs.declared.event.Event.{Event}
 use Rattle.core_event.specs.declared.event.Event.TheVariants.{Enter, Leave, Schedule, Sleep, Wake, Cancel, Take, Finish, Begin, TryBegin, End, Transfer, Batch, EndBatch, Checkpoint, Operation, Service}
 use Rattle.core_event.specs.declared.reply.Refusal.{Refusal}
 use Rattle.core_event.specs.declared.reply.Reply.{Reply}
-use Rattle.core_event.specs.declared.service.Purpose.TheVariants.{Build}
+use Rattle.core_event.specs.declared.service.Purpose.TheVariants.{Build, Save}
 use Rattle.core_event.specs.declared.service.ServiceEvent.{ServiceEvent}
-use Rattle.core_event.specs.declared.service.ServiceEvent.TheVariants.{Checkout, CheckIn, Handed, Commit, Clean}
+use Rattle.core_event.specs.declared.service.ServiceEvent.TheVariants.{Checkout, CheckIn, Handed, Commit, Clean, Saving}
 use Rattle.core_event.specs.Replies.{answered}
 use Rattle.job_manager.specs.declared.manager.JobManager.{JobManager}
 use Rattle.job_manager.specs.Refusals.{refusal, by_job}
@@ -176,7 +176,9 @@ service_none count s k x =
   where
     served : (v : ServiceEvent) → giving count (serve s k v).1 ≡ 0
     served (Checkout (Build kind scope)) = refl
+    served (Checkout (Save kind)) = refl
     served (CheckIn outcome) = refl
+    served (Saving states) = refl
     served (Handed project index kind) = of (site_in s.resources.tree project index)
       where
         of : (o : Option Site) → giving count (hand s o kind).1 ≡ 0

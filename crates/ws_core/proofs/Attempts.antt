@@ -12,9 +12,9 @@ use Rattle.core_event.specs.declared.event.Event.TheVariants.{Enter, Leave, Sche
 use Rattle.core_event.specs.declared.reply.Answer.{Answer}
 use Rattle.core_event.specs.declared.reply.Refusal.{Refusal}
 use Rattle.core_event.specs.declared.reply.Reply.{Reply}
-use Rattle.core_event.specs.declared.service.Purpose.TheVariants.{Build}
+use Rattle.core_event.specs.declared.service.Purpose.TheVariants.{Build, Save}
 use Rattle.core_event.specs.declared.service.ServiceEvent.{ServiceEvent}
-use Rattle.core_event.specs.declared.service.ServiceEvent.TheVariants.{Checkout, CheckIn, Handed, Commit, Clean}
+use Rattle.core_event.specs.declared.service.ServiceEvent.TheVariants.{Checkout, CheckIn, Handed, Commit, Clean, Saving}
 use Rattle.core_event.specs.Events.{is_checkpoint, operation_of, service_of}
 use Rattle.core_event.specs.Replies.{answered, is_attempt}
 use Rattle.job_manager.specs.declared.manager.JobManager.{JobManager}
@@ -65,6 +65,8 @@ managed_same m k (Service x) h = cc
 -- nor is what is served
 serve_done : (s : Moment) (k : ℕ) (e : Event) (x : ServiceEvent) → is_attempt e (serve s k x).1 ≡ true → ⊥
 serve_done s k e (Checkout (Build kind scope)) h = cc
+serve_done s k e (Checkout (Save kind)) h = cc
+serve_done s k e (Saving states) h = cc
 serve_done s k e (CheckIn outcome) h = cc
 serve_done s k e (Handed project index kind) h = by (site_in s.resources.tree project index) h
   where

@@ -11,10 +11,9 @@ use Rattle.core_event.specs.declared.reply.Refusal.{Refusal}
 use Rattle.core_event.specs.declared.reply.Reply.{Reply}
 use Rattle.core_event.specs.declared.twice.Twice.{Twice}
 use Rattle.core_event.specs.declared.service.Outcomes.{Outcomes}
-use Rattle.core_event.specs.declared.service.Outcomes.TheVariants as outcomes
-use Rattle.core_event.specs.declared.service.Purpose.TheVariants.{Build}
+use Rattle.core_event.specs.declared.service.Purpose.TheVariants.{Build, Save}
 use Rattle.core_event.specs.declared.service.ServiceEvent.{ServiceEvent}
-use Rattle.core_event.specs.declared.service.ServiceEvent.TheVariants.{Checkout, CheckIn, Handed, Commit, Clean}
+use Rattle.core_event.specs.declared.service.ServiceEvent.TheVariants.{Checkout, CheckIn, Handed, Commit, Clean, Saving}
 use Rattle.core_event.specs.Events.{service_of}
 use Rattle.core_event.specs.Twice.{doubled}
 use Rattle.job_manager.specs.declared.manager.JobManager.{JobManager}
@@ -24,6 +23,7 @@ use Rattle.job_manager.proofs.Counts.{held_more, one_fewer}
 use Rattle.job_manager.proofs.Ended.{is_last}
 use Rattle.ws_core.specs.States.{Moment}
 use Rattle.build_due.specs.declared.site.Site.{Site}
+use Rattle.service_desk.specs.Desks.{may_end}
 use Rattle.service_desk.specs.Refusals.{not_serving}
 use Rattle.service_desk.specs.Sites.{site_in}
 use Rattle.ws_core.specs.Refusals.{current, refusal}
@@ -74,6 +74,8 @@ service_manager s k x =
 
     served : (v : ServiceEvent) → Is (serve s k v)
     served (Checkout (Build kind scope)) = (Some k, refl)
+    served (Checkout (Save kind)) = (Some k, refl)
+    served (Saving states) = (s.manager.passes.services, refl)
     served (CheckIn outcome) = (None, refl)
     served (Handed project index kind) = of (site_in s.resources.tree project index)
       where
@@ -129,7 +131,8 @@ ended_services m k e h = ap (λ x. (managing.outcome m k x).0.passes.services) h
     by (Some r) = refl
 
 -- a check-in leaves the rules, and no pass with the services
-checked_in_manager : (s : Moment) (k : ℕ) (outcome : Outcomes) → not_serving s.manager.passes k ≡ None → (step s k (Service (CheckIn outcome))).0.manager ≡ serving s.manager None
+checked_in_manager : (s : Moment) (k : ℕ) (outcome : Outcomes) → not_serving s.manager.passes (may_end s.desk.serving outcome) k ≡ None
+    → (step s k (Service (CheckIn outcome))).0.manager ≡ serving s.manager None
 checked_in_manager s k outcome none =
     let x = Service (CheckIn outcome) in
     told_manager (tells x (act s k x).0) (act s k x).0 (act s k x).1 ∙ ap (λ c. (acted (first_cause (c ∷ [])) s k x).0.manager) none
@@ -151,7 +154,7 @@ kept_stepped s k e len capacity after (inl h) fits more =
     let same = ap due_back (ended_services s.manager k e h) in
     omega (arith, held, out, one, same, fits, more)
 kept_stepped s k e len capacity after (inr h) fits more =
-    let now = ap (λ x. (step s k x).0.manager) h.gives ∙ checked_in_manager s k (outcomes.Build h.outcome) (not_refused s.manager.passes k h.serving) in
+    let now = ap (λ x. (step s k x).0.manager) h.gives ∙ checked_in_manager s k h.outcome (not_refused s.manager.passes (may_end s.desk.serving h.outcome) k h.serving h.fits) in
     let held : length (step s k e).0.manager.passes.rules ≡ length s.manager.passes.rules = ap (λ (m : JobManager). length m.passes.rules) now in
     let out : due_back (step s k e).0.manager.passes.services ≡ 0 = ap (λ (m : JobManager). due_back m.passes.services) now in
     let was : due_back s.manager.passes.services ≡ 1 = ap due_back h.serving in

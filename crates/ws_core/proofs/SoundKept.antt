@@ -1,6 +1,6 @@
 -- Each step keeps a state sound.
 use Rattle.std.proofs.Common.{◌≡◌, ◌⊎◌, inl, inr, ℕ, Bool, true, false, cond, not, ◌||◌, [], ◌∷◌, refl, sym, ap, ◌∙◌, subst}
-use Rattle.std.specs.Prelude.{Option, Some, None, Result, Ok, Err, IfOk, OnErr, IfSome}
+use Rattle.std.specs.Prelude.{List, if◌then◌else◌, Option, Some, None, Result, Ok, Err, IfOk, OnErr, IfSome, unwrap_or}
 use Rattle.std.specs.Option.{option_map, option_or}
 use Rattle.std.specs.Ordering.{eq_by_cmp}
 use Rattle.std.specs.FinMap.{get, get-empty, get-insert, get-remove, get-retain_keys, insert, remove}
@@ -31,9 +31,11 @@ use Rattle.core_event.specs.declared.reply.Answer.{Answer}
 use Rattle.core_event.specs.declared.reply.Refusal.{Refusal}
 use Rattle.core_event.specs.declared.reply.Refusal.TheVariants as refusals
 use Rattle.core_event.specs.declared.reply.Reply.{Reply}
-use Rattle.core_event.specs.declared.service.Purpose.TheVariants.{Build}
+use Rattle.core_event.specs.declared.service.Outcomes.{Outcomes}
+use Rattle.core_event.specs.declared.service.Outcomes.TheVariants as outcomes
+use Rattle.core_event.specs.declared.service.Purpose.TheVariants.{Build, Save}
 use Rattle.core_event.specs.declared.service.ServiceEvent.{ServiceEvent}
-use Rattle.core_event.specs.declared.service.ServiceEvent.TheVariants.{Checkout, CheckIn, Handed, Commit, Clean}
+use Rattle.core_event.specs.declared.service.ServiceEvent.TheVariants.{Checkout, CheckIn, Handed, Commit, Clean, Saving}
 use Rattle.core_event.specs.declared.twice.Twice.{Twice}
 use Rattle.core_event.specs.Twice.{doubled}
 use Rattle.core_event.specs.Events.{is_checkpoint}
@@ -41,21 +43,24 @@ use Rattle.job_manager.specs.Admission.{admission}
 use Rattle.job_manager.specs.Effects as managing
 use Rattle.job_manager.proofs.Apart.{Apart, outcome_apart}
 use Rattle.service_desk.specs.declared.desk.UnderWay.{UnderWay}
-use Rattle.service_desk.specs.Desks.{site_of}
+use Rattle.service_desk.specs.Desks.{is_building, site_of}
 use Rattle.service_desk.specs.Sites.{site_in}
+use Rattle.save_kind.specs.declared.state.PartState.{PartState}
 use Rattle.ws_marks.specs.declared.record.Record.{Record}
+use Rattle.ws_marks.specs.declared.state.State.{State}
 use Rattle.ws_marks.specs.Marked.{is_from}
-use Rattle.ws_marks.specs.Places.{Place, Records, place_cmp}
-use Rattle.ws_marks.proofs.Places.{place_cmp_exact, place_cmp_total}
+use Rattle.ws_marks.specs.Places.{Place, Records, States, name_cmp, place_cmp}
+use Rattle.ws_marks.proofs.Places.{name_cmp_total, place_cmp_exact, place_cmp_total}
 use Rattle.ws_content.specs.States.{Remembered, with_built, with_told}
 use Rattle.ws_content.specs.Deeds.{From, edit_refusal, forgets, forgotten, record_of}
+use Rattle.ws_content.specs.Saves.{ended, is_saved, kept_before, kept_with, save_begun, save_ended, state_of, states_kept}
 use Rattle.ws_core.specs.States.{Moment}
 use Rattle.ws_core.specs.Refusals.{current, edit_cause, no_build, service_causes}
-use Rattle.ws_core.specs.Effects.{clean_for, commit_for, hand, managed, operate, serve}
+use Rattle.ws_core.specs.Effects.{check_in, clean_for, commit_for, hand, keep_states, managed, operate, serve}
 use Rattle.ws_core.specs.Steps.{acted, act, told, tells, step}
 use Rattle.res_path.specs.Paths.{Names}
 use Rattle.ws_core.specs.Histories.{fresh_for}
-use Rattle.ws_core.specs.Sessions.{IsConsistent, IsPast, AsStart, AsTold, AsBuilt}
+use Rattle.ws_core.specs.Sessions.{IsConsistent, IsPast, AsStart, AsTold, AsBuilt, AsKept, AsBefore}
 use Rattle.ws_core.proofs.OpenOutput.{open_output}
 use Rattle.ws_core.proofs.Stepped.{Concern, OfOperation, OfService, OfManager, concern_of, act_keeps, act_managed}
 
@@ -119,6 +124,8 @@ past_of : (r : Remembered) (built : Records Tree) (now : Tree) → ((place : Pla
     → (u : Tree) → IsPast (with_built r built) u → IsPast r u ⊎ (u ≡ now)
 past_of r built now found u (AsStart e) = inl (AsStart e)
 past_of r built now found u (AsTold e) = inl (AsTold e)
+past_of r built now found u (AsKept name b got e) = inl (AsKept name b got e)
+past_of r built now found u (AsBefore before name b is got e) = inl (AsBefore before name b is got e)
 past_of r built now found u (AsBuilt place b got e) = by (found place b got)
   where
     by : (get r.built place ≡ Some b) ⊎ (b.tree ≡ now) → IsPast r u ⊎ (u ≡ now)
@@ -129,6 +136,8 @@ told_past : (r : Remembered) (now u : Tree) → IsPast (with_told r now) u → I
 told_past r now u (AsStart e) = inl (AsStart e)
 told_past r now u (AsTold e) = inr e
 told_past r now u (AsBuilt place b got e) = inl (AsBuilt place b got e)
+told_past r now u (AsKept name b got e) = inl (AsKept name b got e)
+told_past r now u (AsBefore before name b is got e) = inl (AsBefore before name b is got e)
 
 in_all : (c : Bool) (o : Option (Record Tree)) (b : Record Tree) → cond c o None ≡ Some b → o ≡ Some b
 in_all true o b h = h
@@ -154,6 +163,81 @@ removed_there built k place b h = in_others (eq_by_cmp place_cmp place k) (get b
 inserted_there : (built : Records Tree) (k : Place) (new : Record Tree) (place : Place) (b : Record Tree) → get (insert built k new) place ≡ Some b
     → (get built place ≡ Some b) ⊎ (b.tree ≡ new.tree)
 inserted_there built k new place b h = in_either (eq_by_cmp place_cmp place k) (get built place) new b (sym (get-insert place_cmp_total built k new place) ∙ h)
+
+-- ---- what participants keep
+
+same_states : (a b : States Tree) → ◌≡◌ {A = Option (States Tree)} (Some a) (Some b) → a ≡ b
+same_states a b h = cc
+
+no_states : (b : States Tree) → ◌≡◌ {A = Option (States Tree)} None (Some b) → ⊥
+no_states b h = cc
+
+-- what they kept when the save under way began, or keep where none is, is remembered
+before_past : (r : Remembered) (name : List ℕ) (b : State Tree) (u : Tree) → get (kept_before r) name ≡ Some b → b.tree ≡ Some u → IsPast r u
+before_past r name b u got e = by r.before refl got
+  where
+    by : (o : Option (States Tree)) → r.before ≡ o → get (unwrap_or o r.kept) name ≡ Some b → IsPast r u
+    by None is g = AsKept name b g e
+    by (Some before) is g = AsBefore before name b is g e
+
+-- so a save begins with what is remembered
+begun_past : (r : Remembered) (now u : Tree) → IsPast (save_begun r) u → IsPast r u ⊎ (u ≡ now)
+begun_past r now u (AsStart e) = inl (AsStart e)
+begun_past r now u (AsTold e) = inl (AsTold e)
+begun_past r now u (AsBuilt place b got e) = inl (AsBuilt place b got e)
+begun_past r now u (AsKept name b got e) = inl (AsKept name b got e)
+begun_past r now u (AsBefore before name b is got e) =
+    inl (before_past r name b u (ap (λ (m : States Tree). get m name) (same_states (kept_before r) before is) ∙ got) e)
+
+-- and ends with it
+ended_past : (outcome : Outcomes) (r : Remembered) (now u : Tree) → IsPast (ended outcome r) u → IsPast r u ⊎ (u ≡ now)
+ended_past (outcomes.Build outcome) r now u p = inl p
+ended_past (outcomes.Save answer) r now u p = by (is_saved answer) p
+  where
+    by : (b : Bool) → IsPast (save_ended b r) u → IsPast r u ⊎ (u ≡ now)
+    by true (AsStart e) = inl (AsStart e)
+    by true (AsTold e) = inl (AsTold e)
+    by true (AsBuilt place b got e) = inl (AsBuilt place b got e)
+    by true (AsKept name b got e) = inl (AsKept name b got e)
+    by true (AsBefore before name b is got e) = absurd (no_states before is)
+    by false (AsStart e) = inl (AsStart e)
+    by false (AsTold e) = inl (AsTold e)
+    by false (AsBuilt place b got e) = inl (AsBuilt place b got e)
+    by false (AsKept name b got e) = inl (before_past r name b u got e)
+    by false (AsBefore before name b is got e) = absurd (no_states before is)
+
+-- a tree that is kept now is the one that is there
+asked_tree : (needs : Bool) (now u : Tree) → ◌≡◌ {A = Option Tree} (if needs then Some now else None) (Some u) → u ≡ now
+asked_tree true now u h = let same : now ≡ u = cc in sym same
+asked_tree false now u h = cc
+
+put_there : (c : Bool) (o : Option (State Tree)) (new b : State Tree) → cond c (Some new) o ≡ Some b → (o ≡ Some b) ⊎ (new ≡ b)
+put_there true o new b h = let same : new ≡ b = cc in inr same
+put_there false o new b h = inl h
+
+kept_there : (now : Tree) (m : States Tree) (ps : List (List ℕ × PartState)) (name : List ℕ) (b : State Tree) (u : Tree) → get (kept_with now m ps) name ≡ Some b → b.tree ≡ Some u
+    → (get m name ≡ Some b) ⊎ (u ≡ now)
+kept_there now m [] name b u got e = inl got
+kept_there now m (p ∷ ps) name b u got e = by (kept_there now (insert m p.0 (state_of now p)) ps name b u got e)
+  where
+    last : (get m name ≡ Some b) ⊎ (state_of now p ≡ b) → (get m name ≡ Some b) ⊎ (u ≡ now)
+    last (inl g) = inl g
+    last (inr same) = inr (asked_tree p.1.needs_delta now u (ap (λ (x : State Tree). x.tree) same ∙ e))
+
+    by : (get (insert m p.0 (state_of now p)) name ≡ Some b) ⊎ (u ≡ now) → (get m name ≡ Some b) ⊎ (u ≡ now)
+    by (inl g) = last (put_there (eq_by_cmp name_cmp name p.0) (get m name) (state_of now p) b (sym (get-insert name_cmp_total m p.0 (state_of now p) name) ∙ g))
+    by (inr e) = inr e
+
+keeping_past : (r : Remembered) (now : Tree) (states : List (List ℕ × PartState)) (u : Tree) → IsPast (states_kept now r states) u → IsPast r u ⊎ (u ≡ now)
+keeping_past r now states u (AsStart e) = inl (AsStart e)
+keeping_past r now states u (AsTold e) = inl (AsTold e)
+keeping_past r now states u (AsBuilt place b got e) = inl (AsBuilt place b got e)
+keeping_past r now states u (AsKept name b got e) = by (kept_there now r.kept states name b u got e)
+  where
+    by : (get r.kept name ≡ Some b) ⊎ (u ≡ now) → IsPast r u ⊎ (u ≡ now)
+    by (inl g) = inl (AsKept name b g e)
+    by (inr same) = inr same
+keeping_past r now states u (AsBefore before name b is got e) = inl (AsBefore before name b is got e)
 
 -- ---- what each event leaves
 
@@ -209,7 +293,9 @@ no_cause (Some a) b r h = cc
 
 serve_steady : (s : Moment) (k : ℕ) (x : ServiceEvent) → first_cause (service_causes s k x) ≡ None → IsSteady s → IsSteady (serve s k x).0
 serve_steady s k (Checkout (Build kind scope)) h x = record { resources = x.resources; whole = x.whole; known = x.known; alike = x.alike; apart = x.apart }
-serve_steady s k (CheckIn outcome) h x = record { resources = x.resources; whole = x.whole; known = x.known; alike = x.alike; apart = x.apart }
+serve_steady s k (Checkout (Save kind)) h x = goes s (serve s k (Checkout (Save kind))).0 x x.resources (λ u k. k) (begun_past s.remembered s.resources.tree) x.apart
+serve_steady s k (CheckIn outcome) h x = goes s (check_in s outcome).0 x x.resources (λ u k. k) (ended_past outcome s.remembered s.resources.tree) x.apart
+serve_steady s k (Saving states) h x = goes s (keep_states s states).0 x x.resources (λ u k. k) (keeping_past s.remembered s.resources.tree states) x.apart
 serve_steady s k (Handed project index kind) h x = by (site_in s.resources.tree project index)
   where
     by : (o : Option Site) → IsSteady (hand s o kind).0
@@ -217,12 +303,12 @@ serve_steady s k (Handed project index kind) h x = by (site_in s.resources.tree 
     by (Some site) = record { resources = x.resources; whole = x.whole; known = x.known; alike = x.alike; apart = x.apart }
 serve_steady s k (Commit edits) h x = by (current s) refl h
   where
-    by : (o : Option Site) → current s ≡ o → first_cause (not_serving s.manager.passes k ∷ no_build o ∷ unrooted s.manager.passes.rules k ∷ edit_cause s.resources edits o ∷ []) ≡ None
+    by : (o : Option Site) → current s ≡ o → first_cause (not_serving s.manager.passes (is_building s.desk.serving) k ∷ no_build o ∷ unrooted s.manager.passes.rules k ∷ edit_cause s.resources edits o ∷ []) ≡ None
         → IsSteady (commit_for s o edits).0
     by None is g = x
     by (Some site) is g =
         commit_steady s site edits (under_output s.resources.tree s.desk.under site is)
-        (no_cause (not_serving s.manager.passes k) (unrooted s.manager.passes.rules k) (outputs.refusal s.resources site.output site.index edits) g) x
+        (no_cause (not_serving s.manager.passes (is_building s.desk.serving) k) (unrooted s.manager.passes.rules k) (outputs.refusal s.resources site.output site.index edits) g) x
 serve_steady s k (Clean project index) h x = by (site_in s.resources.tree project index) refl
   where
     by : (o : Option Site) → site_in s.resources.tree project index ≡ o → IsSteady (clean_for s o).0
@@ -278,10 +364,18 @@ fresh_sound builders =
         no : None ≡ Some b → ⊥
         no g = cc
 
+    nothing : (name : List ℕ) (b : State Tree) → get (fresh_for builders).remembered.kept name ≡ Some b → ⊥
+    nothing name b h = no (sym (get-empty name_cmp name) ∙ h)
+      where
+        no : None ≡ Some b → ⊥
+        no g = cc
+
     alone : (u : Tree) → IsPast (fresh_for builders).remembered u → u ≡ fresh_tree
     alone u (AsStart e) = e
     alone u (AsTold e) = e
     alone u (AsBuilt place b got e) = absurd (never place b got)
+    alone u (AsKept name b got e) = absurd (nothing name b got)
+    alone u (AsBefore before name b is got e) = absurd (no_states before is)
 
 -- ---- what stays
 

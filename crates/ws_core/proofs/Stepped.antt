@@ -18,9 +18,11 @@ use Rattle.core_event.specs.declared.reply.Refusal.{Refusal}
 use Rattle.core_event.specs.declared.reply.Refusal.TheVariants as refusals
 use Rattle.core_event.specs.declared.reply.Reply.{Reply}
 use Rattle.core_event.specs.declared.service.ServiceEvent.{ServiceEvent}
-use Rattle.core_event.specs.declared.service.ServiceEvent.TheVariants.{Checkout, CheckIn, Handed, Commit, Clean}
-use Rattle.core_event.specs.declared.service.Purpose.TheVariants.{Build}
+use Rattle.core_event.specs.declared.service.ServiceEvent.TheVariants.{Checkout, CheckIn, Handed, Commit, Clean, Saving}
+use Rattle.core_event.specs.declared.service.Purpose.{Purpose}
+use Rattle.core_event.specs.declared.service.Purpose.TheVariants.{Build, Save}
 use Rattle.core_event.specs.declared.service.Outcomes.{Outcomes}
+use Rattle.core_event.specs.declared.service.Outcomes.TheVariants as outcomes
 use Rattle.core_event.specs.Events.{is_checkpoint, is_read, operation_of, service_of}
 use Rattle.core_event.specs.declared.twice.Twice.{Twice}
 use Rattle.core_event.specs.Twice.{doubled, twice}
@@ -36,21 +38,23 @@ use Rattle.op_kind.specs.Effects as does
 use Rattle.ws_elem.specs.Trees.{Tree}
 use Rattle.builder_api.specs.declared.edits.Edits.{Edits}
 use Rattle.builder_api.specs.declared.kind.BuildKind.{BuildKind}
+use Rattle.save_kind.specs.declared.kind.SaveKind.{SaveKind}
+use Rattle.save_kind.specs.declared.state.PartState.{PartState}
 use Rattle.output_commit.specs.Committed as outputs
 use Rattle.output_edits.specs.declared.refusal.EditRefusal.{EditRefusal}
 use Rattle.build_due.specs.declared.site.Site.{Site}
 use Rattle.build_plan.specs.Plans.{plan}
 use Rattle.proj_desc.specs.FirstCause.{first_cause}
-use Rattle.pass_table.specs.Rows.{checked_in, checked_out}
 use Rattle.service_desk.specs.declared.desk.Desk.{Desk}
-use Rattle.service_desk.specs.Desks.{idle, left}
+use Rattle.service_desk.specs.Desks.{idle, is_building, is_saving, left, may_end}
 use Rattle.service_desk.specs.Refusals.{not_serving, unrooted}
 use Rattle.service_desk.specs.Sites.{site_in}
-use Rattle.ws_content.specs.States.{Contents}
+use Rattle.ws_content.specs.States.{Contents, Remembered}
 use Rattle.ws_content.specs.Deeds.{cleaned, commit, committed, edit_refusal, made, operated, operation, replied, reply_of}
+use Rattle.ws_content.specs.Saves.{ended, is_saved, save_begun, save_ended}
 use Rattle.ws_core.specs.States.{Moment, contents_of}
 use Rattle.ws_core.specs.Refusals.{current, edit_cause, no_build, other_refusal, refusal, refusal_by, service_causes}
-use Rattle.ws_core.specs.Effects.{clean_for, commit_for, effect_by, hand, managed, other_effect, serve}
+use Rattle.ws_core.specs.Effects.{check_in, clean_for, commit_for, effect_by, hand, keep_states, managed, other_effect, serve, taken_out}
 use Rattle.ws_core.specs.Steps.{acted, act, tell, tells, told, step}
 use Rattle.ws_core.specs.Inside.Parts.{desk_after, is_refused, moment}
 
@@ -92,9 +96,37 @@ concern_of (Service x) = OfService x refl
 abbrev Keeps : Moment → Moment × Answer → Type 0
 Keeps s d = (d.0.remembered.start ≡ s.remembered.start) × (d.0.remembered.told ≡ s.remembered.told)
 
+-- so they do at the end of a save
+pub ended_start : (outcome : Outcomes) (r : Remembered) → (ended outcome r).start ≡ r.start
+ended_start (outcomes.Build outcome) r = refl
+ended_start (outcomes.Save answer) r = by (is_saved answer)
+  where
+    by : (b : Bool) → (save_ended b r).start ≡ r.start
+    by true = refl
+    by false = refl
+
+pub ended_told : (outcome : Outcomes) (r : Remembered) → (ended outcome r).told ≡ r.told
+ended_told (outcomes.Build outcome) r = refl
+ended_told (outcomes.Save answer) r = by (is_saved answer)
+  where
+    by : (b : Bool) → (save_ended b r).told ≡ r.told
+    by true = refl
+    by false = refl
+
+-- and what was built last
+pub ended_built : (outcome : Outcomes) (r : Remembered) → (ended outcome r).built ≡ r.built
+ended_built (outcomes.Build outcome) r = refl
+ended_built (outcomes.Save answer) r = by (is_saved answer)
+  where
+    by : (b : Bool) → (save_ended b r).built ≡ r.built
+    by true = refl
+    by false = refl
+
 serve_keeps : (s : Moment) (k : ℕ) (x : ServiceEvent) → Keeps s (serve s k x)
 serve_keeps s k (Checkout (Build kind scope)) = (refl, refl)
-serve_keeps s k (CheckIn outcome) = (refl, refl)
+serve_keeps s k (Checkout (Save kind)) = (refl, refl)
+serve_keeps s k (CheckIn outcome) = (ended_start outcome s.remembered, ended_told outcome s.remembered)
+serve_keeps s k (Saving states) = (refl, refl)
 serve_keeps s k (Handed project index kind) = by (site_in s.resources.tree project index)
   where
     by : (o : Option Site) → Keeps s (hand s o kind)
@@ -371,17 +403,37 @@ served_still : (s : Moment) (k : ℕ) (x : ServiceEvent) → first_cause (servic
     → ((serve s k x).0, record { answer = (serve s k x).1; notice = None }) ≡ step s k (Service x)
 served_still s k x none h = sym (still (is_quiet (serve s k x).0.manager.passes) (serve s k x).0 (serve s k x).1 h) ∙ step_served s k x none
 
-pub checkout_so : (s : Moment) (k : ℕ) (kind : BuildKind) (scope : Option (List ℕ)) → first_cause (service_causes s k (Checkout (Build kind scope))) ≡ None
-    → (is_quiet s.manager.passes ≡ true → s.remembered.told ≡ s.resources.tree)
-    → (record s { manager = record (s.manager) { passes = checked_out s.manager.passes k } }, record { answer = Plan (plan s.resources.tree scope); notice = None })
-    ≡ step s k (Service (Checkout (Build kind scope)))
-checkout_so s k kind scope none h = served_still s k (Checkout (Build kind scope)) none h
+pub build_so : (s : Moment) (k : ℕ) (purpose : Purpose) (kind : BuildKind) (scope : Option (List ℕ)) → purpose ≡ Build kind scope
+    → first_cause (service_causes s k (Checkout purpose)) ≡ None → (is_quiet s.manager.passes ≡ true → s.remembered.told ≡ s.resources.tree)
+    → (taken_out s k purpose, record { answer = Plan (plan s.resources.tree scope); notice = None }) ≡ step s k (Service (Checkout purpose))
+build_so s k purpose kind scope is none h =
+    subst (λ p. first_cause (service_causes s k (Checkout p)) ≡ None → (taken_out s k p, record { answer = Plan (plan s.resources.tree scope); notice = None }) ≡ step s k (Service (Checkout p)))
+    (sym is) (λ allowed. served_still s k (Checkout (Build kind scope)) allowed h) none
 
-pub check_in_so : (s : Moment) (k : ℕ) (outcome : Outcomes) → not_serving s.manager.passes k ≡ None
+pub save_so : (s : Moment) (k : ℕ) (purpose : Purpose) (kind : SaveKind) → purpose ≡ Save kind
+    → first_cause (service_causes s k (Checkout purpose)) ≡ None → (is_quiet s.manager.passes ≡ true → s.remembered.told ≡ s.resources.tree)
+    → (record (taken_out s k purpose) { remembered = save_begun s.remembered }, record { answer = Done; notice = None }) ≡ step s k (Service (Checkout purpose))
+save_so s k purpose kind is none h =
+    subst (λ p. first_cause (service_causes s k (Checkout p)) ≡ None → (record (taken_out s k p) { remembered = save_begun s.remembered }, record { answer = Done; notice = None }) ≡ step s k (Service (Checkout p)))
+    (sym is) (λ allowed. served_still s k (Checkout (Save kind)) allowed h) none
+
+pub check_in_so : (s : Moment) (k : ℕ) (outcome : Outcomes) → not_serving s.manager.passes (may_end s.desk.serving outcome) k ≡ None
     → (is_quiet s.manager.passes ≡ true → s.remembered.told ≡ s.resources.tree)
-    → (record s { manager = record (s.manager) { passes = checked_in s.manager.passes }; desk = idle s.desk }, record { answer = Done; notice = None })
-    ≡ step s k (Service (CheckIn outcome))
-check_in_so s k outcome serving h = served_still s k (CheckIn outcome) (ap (λ c. first_cause (c ∷ [])) serving) h
+    → ((check_in s outcome).0, record { answer = Done; notice = None }) ≡ step s k (Service (CheckIn outcome))
+check_in_so s k outcome serving h = served_still s k (CheckIn outcome) (ap (λ c. first_cause (c ∷ [])) serving) (λ q. ended_told outcome s.remembered ∙ h q)
+
+pub keeping_so : (s : Moment) (k : ℕ) (states : List (List ℕ × PartState)) → not_serving s.manager.passes (is_saving s.desk.serving) k ≡ None
+    → (is_quiet s.manager.passes ≡ true → s.remembered.told ≡ s.resources.tree)
+    → ((keep_states s states).0, record { answer = (keep_states s states).1; notice = None }) ≡ step s k (Service (Saving states))
+keeping_so s k states serving h = served_still s k (Saving states) (ap (λ c. first_cause (c ∷ [])) serving) h
+
+-- a call that keeps states
+pub keeping_called : (w : Bool) (s : Moment) (k : ℕ) (states : List (List ℕ × PartState)) (now : Moment) (o : Result (Twice Reply) AllocError)
+    → not_serving s.manager.passes (is_saving s.desk.serving) k ≡ None → (is_quiet s.manager.passes ≡ true → s.remembered.told ≡ s.resources.tree)
+    → IfOk o (λ r. (now, r) ≡ doubled w ((keep_states s states).0, record { answer = (keep_states s states).1; notice = None }))
+    → IfOk o (λ r. (now, r) ≡ doubled w (step s k (Service (Saving states))))
+keeping_called w s k states now (Ok r) serving h so = so ∙ ap (doubled w) (keeping_so s k states serving h)
+keeping_called w s k states now (Err e) serving h so = tt
 
 -- of the command at the place, if there is one
 pub handed_so : (s : Moment) (k : ℕ) (project : List ℕ) (index : ℕ) (kind : BuildKind) (site : Option Site) → site_in s.resources.tree project index ≡ site
@@ -405,8 +457,8 @@ handed_called w s k project index kind site now (Ok r) at none h so = so ∙ ap 
 handed_called w s k project index kind site now (Err e) at none h so = tt
 
 -- whether its edits are refused or made
-pub commit_so : (s : Moment) (k : ℕ) (edits : Edits) (site : Site) (told_there : Bool) → current s ≡ Some site → not_serving s.manager.passes k ≡ None
-    → unrooted s.manager.passes.rules k ≡ None → told_there ≡ is_quiet s.manager.passes
+pub commit_so : (s : Moment) (k : ℕ) (edits : Edits) (site : Site) (told_there : Bool) → current s ≡ Some site
+    → not_serving s.manager.passes (is_building s.desk.serving) k ≡ None → unrooted s.manager.passes.rules k ≡ None → told_there ≡ is_quiet s.manager.passes
     → (moment (replied told_there (committed (contents_of s) site edits)).0 s.manager s.desk, (replied told_there (committed (contents_of s) site edits)).1)
     ≡ step s k (Service (Commit edits))
 commit_so s k edits site told_there there serving rooted is =
@@ -414,7 +466,7 @@ commit_so s k edits site told_there there serving rooted is =
     ∙ by (outputs.refusal s.resources site.output site.index edits)
     ∙ ap (λ o. tell (Service (Commit edits)) (done (causes None o None) o)) (sym there)
     ∙ ap (λ c. tell (Service (Commit edits)) (done (causes c (current s) None) (current s))) (sym serving)
-    ∙ ap (λ c. tell (Service (Commit edits)) (done (causes (not_serving s.manager.passes k) (current s) c) (current s))) (sym rooted)
+    ∙ ap (λ c. tell (Service (Commit edits)) (done (causes (not_serving s.manager.passes (is_building s.desk.serving) k) (current s) c) (current s))) (sym rooted)
     ∙ ap (tell (Service (Commit edits))) (acted_so (refusal s k (Service (Commit edits))))
   where
     shown : Contents × Reply → Moment × Reply

@@ -1,5 +1,5 @@
 -- What was done, entry by entry.
-use Rattle.std.specs.Prelude.{◌≡◌, ℕ, Bool, true, false, ◌&&◌, List, [], ◌∷◌, ◌++◌, map, if◌then◌else◌, None}
+use Rattle.std.specs.Prelude.{◌≡◌, ℕ, Bool, true, false, ◌&&◌, List, [], ◌∷◌, ◌++◌, map, if◌then◌else◌}
 use Rattle.std.specs.Option.{option_to_list}
 use Rattle.std.specs.FinMap.{empty}
 use Rattle.std.specs.List.{list_any}
@@ -14,6 +14,7 @@ use Rattle.core_event.specs.Replies.{is_attempt, some_nodes}
 use Rattle.job_manager.specs.Managers.{first_manager}
 use Rattle.res_path.specs.Paths.{Names}
 use Rattle.service_desk.specs.Desks.{desk_of}
+use Rattle.ws_content.specs.States.{tree_alone}
 use Rattle.ws_core.specs.States.{Moment}
 use Rattle.ws_core.specs.Steps.{step, tells}
 
@@ -21,7 +22,7 @@ use Rattle.ws_core.specs.Steps.{step, tells}
 abbrev pub fresh_for : Names → Moment
 fresh_for builders = record {
   resources = record { tree = fresh_tree; shelf = empty; next_node = 2; next_stamp = 1; next_marker = 1; partners = [] };
-  remembered = record { start = fresh_tree; told = fresh_tree; built = empty; kept = empty; before = None };
+  remembered = tree_alone fresh_tree;
   manager = first_manager;
   desk = desk_of builders;
 }

@@ -1,4 +1,5 @@
 -- What only the crate's own functions speak of.
 pub mod Codes
+pub mod Kept
 pub mod Parts
 pub mod Rooms

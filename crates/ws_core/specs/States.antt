@@ -12,7 +12,7 @@ pub record Moment : Type 0 where
   pub remembered : Remembered
   -- the jobs, and the passes with what each has
   pub manager : JobManager
-  -- the builders' names, and the command under way
+  -- the builders' names, the command under way, and for what a pass has the services
   pub desk : Desk
 
 -- what is there, with what is remembered

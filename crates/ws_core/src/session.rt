@@ -7,6 +7,7 @@ ghost use Rattle.ws_elem.specs.Trees.{fresh_tree};
 ghost use Rattle.job_queue.specs.Queues.{live};
 ghost use Rattle.core_event.specs.Twice.{twice};
 ghost use Rattle.ws_core.specs.Steps.{step};
+ghost use Rattle.ws_core.specs.Durables.{durable_of, kept_since};
 ghost use Rattle.ws_core.specs.Histories.{entry_of, fresh, fresh_for, has_entered, Legal, notices, replay, told_of, written};
 ghost use Rattle.ws_core.specs.Sessions.{IsConsistent};
 ghost use Rattle.ws_core.specs.Opened.{IsOpenable, opened_of};
@@ -15,10 +16,11 @@ ghost use Rattle.ws_core.specs.Ends.{ChecksIn};
 ghost use Rattle.ws_core.specs.Inside.Rooms.{Fits, HasRoom, IsKept};
 ghost use Rattle.job_manager.specs.Ends.{EndsLast};
 
-use crate::{Entry, Event, History, NoMemory, Outcomes, Reply, ServiceEvent, State, Twice, WsRule};
+use crate::{Entry, Event, History, NoMemory, Reply, ServiceEvent, State, Twice, WsRule};
 use delta_kind::Delta;
 use elem_tree::LayerTree;
 use rule_table::RuleTable;
+use save_round::KeptState;
 use sched_rules::WsAtom;
 use service_desk::BuilderNames;
 use std::alloc::{AllocError, Global};
@@ -46,7 +48,7 @@ pub struct JobCount {
 /// within each non-null one that it began before, and no rules of two passes conflict.
 ///
 /// There is room for an entry for each rule that is held, and for one more while a pass has the services: so a rule is
-/// ended without memory, and so is a build.
+/// ended without memory, and so is a build or a save.
 #[derive(Drop)]
 pub struct Core<T: Remembers + Drop> {
     state: State<T>,
@@ -101,8 +103,8 @@ impl Core<LayerTree> {
     }
 
     /// The workspace opened from what was kept, in which nothing was done, with builders of these names: its tree is told,
-    /// and what was built last is remembered with its trees, each by what differs from the next. What participants keep is
-    /// let go. Costs a walk of each tree.
+    /// and what was built last and what participants keep is remembered with its trees, each by what differs from the next.
+    /// No save is under way. Costs a walk of each tree.
     pub fn of(
         alloc: Global,
         durable: Durable,
@@ -143,8 +145,8 @@ impl<T: Remembers + Drop> Core<T> {
     /// Does the event of a pass that has entered and hasn't left, writes it into the history with its reply, and gives
     /// the reply. An event that only found that it must wait leaves no entry: a Take that is answered that no job is
     /// there, and one that is refused since another pass's rule is in the way, but for the form that doesn't wait. Where
-    /// memory wants, nothing was done; it never wants where a rule is ended that the pass began last, and where a build is
-    /// ended by the pass that has the services while a batch is open.
+    /// memory wants, nothing was done; it never wants where a rule is ended that the pass began last, and where the pass that
+    /// has the services gives them back as it may.
     pub fn step(&mut self, alloc: Global, pass: u64, event: Event) -> Result<Reply, NoMemory>
         requires { has_entered pass self.old.state ≡ true }
         ensures opened { self.new.opened ≡ self.old.opened }
@@ -243,6 +245,26 @@ impl<T: Remembers + Drop> Core<T> {
         self.state.since_start(alloc)
     }
 
+    /// What of the workspace lasts over a save, as a value of its own that shares the texts: the tree, what lies below closed
+    /// projects, the counters and the partners, what was built last and what participants keep, as all of it is now, also in a
+    /// batch. It has no jobs, passes and rules, no batch and no history, not which tree was told, and of what is kept and of
+    /// all elements no transient markers. Costs a put for each element of the tree, and for each tree that was built last or is
+    /// kept a copy of it, of what was recorded since then, and a look at each of its elements.
+    pub fn durable(&self, alloc: Global) -> Result<Durable, NoMemory>
+        ensures { IfOk result (λ d. saved d ≡ durable_of self.now.state) }
+    {
+        self.state.durable(alloc)
+    }
+
+    /// What participants keep, as they get it when a session begins: in the order of their names, each with its bytes and, where
+    /// it asked for that, what changed since they were kept. Of a save under way it has what is kept now. Costs what was
+    /// recorded since then for each that asked for it, and no walk of a tree.
+    pub fn kept_states(&self, alloc: Global) -> Result<Vec<KeptState>, NoMemory>
+        ensures { IfOk result (λ kept. kept.items ≡ kept_since self.now.state) }
+    {
+        self.state.kept_states(alloc)
+    }
+
     /// How many jobs wait or are run, and how many were finished.
     pub fn jobs(&self) -> JobCount
         ensures live { result.live ≡ live self.now.state.manager.jobs }
@@ -298,8 +320,7 @@ fn advance<T: Remembers + Drop>(
 }
 
 /// Room for an entry of the event, and then for one for each rule that may be held and one for the services. It takes no
-/// memory where the event ends the rule that the pass began last, and where it ends the build of the pass while a batch is
-/// open.
+/// memory where the event ends the rule that the pass began last, and where the pass gives back the services as it may.
 fn make_room<T: Remembers + Drop>(
     entries: &mut Vec<Entry>,
     state: &State<T>,
@@ -332,16 +353,15 @@ fn is_kept<T: Remembers + Drop>(state: &State<T>, pass: u64, event: &Event) -> b
     ends_last(state.manager().passes.rules(), pass, event) || checks_in(state, pass, event)
 }
 
-/// Whether the event ends the build of the pass that has the services, while a batch is open.
+/// Whether the pass that has the services gives them back by the event, as it may.
 fn checks_in<T: Remembers + Drop>(state: &State<T>, pass: u64, event: &Event) -> bool
     ensures ends { result ≡ true → ChecksIn state.now pass event.now }
     ensures all { ChecksIn state.now pass event.now → result ≡ true }
 {
-    let Event::Service(ServiceEvent::CheckIn(Outcomes::Build(_))) = event else {
+    let Event::Service(ServiceEvent::CheckIn(outcome)) = event else {
         return false;
     };
-    let passes = &state.manager().passes;
-    passes.serves(pass) && !passes.is_quiet()
+    state.may_check_in(pass, outcome)
 }
 
 /// Whether the event ends the rule that the pass began last.

@@ -1,32 +1,30 @@
 //! The state of a workspace.
-ghost use Rattle.std.specs.Prelude.{◌≡◌, [], map, IfOk};
+ghost use Rattle.std.specs.Prelude.{◌≡◌, IfOk};
 ghost use Rattle.std.specs.List.{AllByRecursion};
 ghost use Rattle.delta_kind.specs.Deltas.{delta};
 ghost use Rattle.op_kind.specs.Resources.{resources};
 ghost use Rattle.ws_elem.specs.Trees.{fresh_tree};
 ghost use Rattle.ws_durable.specs.Saved.{saved};
 ghost use Rattle.built_read.specs.Records.{HasCommand};
-ghost use Rattle.ws_content.specs.States.{at_places, shown_built};
+ghost use Rattle.ws_core.specs.Durables.{durable_of, kept_since};
 ghost use Rattle.ws_core.specs.Histories.{fresh_for};
 ghost use Rattle.ws_core.specs.Opened.{opened_of};
-ghost use Rattle.ws_core.specs.States.{contents_of};
 
+use crate::opening::content_of;
 use crate::{JobManager, NoMemory};
-use built_read::records_of;
 use delta_kind::Delta;
 use elem_tree::LayerTree;
-use op_kind::{Partners, Side};
+use op_kind::Side;
+use save_round::KeptState;
 use service_desk::{BuilderNames, Desk};
 use std::alloc::Global;
 use std::marker::Model;
 use tree_memory::Remembers;
 use ws_content::Content;
 use ws_durable::Durable;
-use ws_elem::ElemMap;
-use ws_marks::Record;
 
 /// The state of a workspace over a tree that remembers. A contract sees the record of its resources, the trees that are
-/// remembered, the jobs and passes, and the builders' names with the command under way.
+/// remembered, the jobs and passes, and the builders' names with the command under way and what the services were taken for.
 #[derive(Drop)]
 pub struct State<T: Remembers + Drop> {
     pub(crate) content: Content<T>,
@@ -51,8 +49,7 @@ impl<T: Remembers + Drop> Model for State<T> {
 }
 
 impl State<LayerTree> {
-    /// The workspace as it is opened from what was kept: pass 0 is there, no job, and these builders. What participants
-    /// keep is let go.
+    /// The workspace as it is opened from what was kept: pass 0 is there, no job, and these builders. No save is under way.
     pub fn opened(
         alloc: Global,
         durable: Durable,
@@ -105,63 +102,26 @@ impl<T: Remembers + Drop> State<T> {
         &self.manager
     }
 
+    /// What of the state lasts over a save, as a value of its own that shares the texts. Costs a put for each element of the
+    /// tree, and a copy of each tree that was built last or is kept.
+    pub fn durable(&self, alloc: Global) -> Result<Durable, NoMemory>
+        ensures { IfOk result (λ d. saved d ≡ durable_of self.now) }
+    {
+        self.content.durable(alloc)
+    }
+
+    /// What participants keep, in the order of their names, each with what changed since then where it asked for that. Costs
+    /// what was recorded since then, and no walk of a tree.
+    pub fn kept_states(&self, alloc: Global) -> Result<Vec<KeptState>, NoMemory>
+        ensures { IfOk result (λ kept. kept.items ≡ kept_since self.now) }
+    {
+        self.content.kept_states(alloc)
+    }
+
     /// What changed since the workspace was opened. Costs what was recorded since then, and no walk of a tree.
     pub fn since_start(&self, alloc: Global) -> Result<Delta, NoMemory>
         ensures { IfOk result (λ d. d ≡ delta self.now.remembered.start self.now.resources.tree) }
     {
         self.content.since_start(alloc)
-    }
-}
-
-/// What was kept, but for what participants keep, with what was built last as it is remembered.
-fn content_of(alloc: Global, durable: Durable) -> Result<Content<LayerTree>, NoMemory>
-    requires { AllByRecursion HasCommand durable.built }
-    ensures { IfOk result (λ c. c ≡ contents_of (opened_of (saved durable) [])) }
-{
-    let Durable {
-        next_node,
-        next_stamp,
-        next_marker,
-        partners,
-        tree,
-        shelf,
-        built,
-        kept: _,
-    } = durable;
-    let partners = Partners::of(partners.into_vec());
-    let side = Side {
-        shelf,
-        next_node,
-        next_stamp,
-        next_marker,
-        partners,
-    };
-    let records = records_of(alloc, built)?;
-    let content = layered(alloc, records.as_slice(), &tree, side)?;
-    Ok(content)
-}
-
-/// The tree with what stands beside it, and with what was built last as it is remembered by layers.
-fn layered(
-    alloc: Global,
-    built: &[Record<ElemMap>],
-    tree: &ElemMap,
-    side: Side,
-) -> Result<Content<LayerTree>, NoMemory>
-    ensures { IfOk result (λ c. c ≡ record {
-      resources = resources tree.now.map side;
-      remembered = record { start = tree.now.map; told = tree.now.map; built = at_places (map shown_built built.now) };
-    }) }
-{
-    let first = first_tree(built, tree);
-    let layers = LayerTree::of(alloc, first.copy()?);
-    Content::opened(alloc, layers, first, built, tree, side)
-}
-
-/// The tree with which remembering is best begun: the last record's, and where there is none the tree.
-fn first_tree<'a>(records: &'a [Record<ElemMap>], tree: &'a ElemMap) -> &'a ElemMap {
-    match records.last() {
-        Some(last) => &last.tree,
-        None => tree,
     }
 }

@@ -33,8 +33,8 @@ impl<T: Remembers + Drop> State<T> {
     /// Does the event of the pass, or refuses it with the first cause in the order of its list, and tells what changed
     /// where it is a telling place: each checkpoint, and each other event that leaves no batch open. A refused event
     /// changes nothing. Gives the reply, with a copy where one is wanted. Where memory wants, the state stays as it was; it
-    /// never wants where the pass ends the rule that it began last, and where it has the services and ends its build while
-    /// a batch is open.
+    /// never wants where the pass ends the rule that it began last, and where it has the services and gives them back as it
+    /// may.
     ///
     /// An operation costs what `ws_ops::apply` does, a commit what `output_commit::commit_edits` does, and a telling place
     /// what was recorded since the one before.

@@ -137,6 +137,7 @@ impl<D: Disk, P: Participant> SavedWorkspace<D, P> {
             &mut self.core,
             &mut self.keeper,
             &mut self.participants,
+            1,
             kind,
         )
     }

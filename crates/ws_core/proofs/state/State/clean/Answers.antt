@@ -18,7 +18,7 @@ returns-in-Err-clause-ok g c =
     let k = c.args.pass in
     let w = c.args.wants_copy in
     let x = Clean c.args.project.now c.args.index in
-    let causes : Tree → Option Refusal = λ t. first_cause (site_causes i.manager.passes t i.desk.builders k c.args.project.now c.args.index) in
+    let causes : Tree → Option Refusal = λ t. first_cause (site_causes i.manager.passes t i.desk k c.args.project.now c.args.index) in
     refused_for w s k x c.in-Err.error c.refuse_for.result (causes i.content.resources.tree)
     (λ r h. sym (ap (λ (z : Moment). first_cause (service_causes z k x)) c.self.view_is) ∙ h)
     (subst (Judges (causes i.content.resources.tree)) c.in-Err.is (subst (λ t. Judges (causes t) c.site_for-found.result) c.tree.ensures c.site_for-found.ensures.judged)) c.refuse_for.ensures c.requires

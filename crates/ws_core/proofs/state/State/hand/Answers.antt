@@ -25,7 +25,7 @@ returns-in-Ok-clause-ok g c =
     let project = c.args.project.now in
     let index = c.args.index in
     let kind = c.args.kind in
-    let causes : Tree → Option Refusal = λ t. first_cause (site_causes i.manager.passes t i.desk.builders k project index) in
+    let causes : Tree → Option Refusal = λ t. first_cause (site_causes i.manager.passes t i.desk k project index) in
     let none : causes s.resources.tree ≡ None = subst (Judges (causes s.resources.tree)) c.in-Ok.is (subst (λ t. Judges (causes t) c.site_for-found.result) c.tree.ensures c.site_for-found.ensures.judged) in
     let there = subst (λ r. IfOk r (λ site. site_in s.resources.tree project index ≡ Some site)) c.in-Ok.is (subst (λ t. IfOk c.site_for-found.result (λ site. site_in t project index ≡ Some site)) c.tree.ensures c.site_for-found.ensures.site) in
     let x = Handed project index kind in
@@ -42,7 +42,7 @@ returns-in-Err-clause-ok g c =
     let k = c.args.pass in
     let w = c.args.wants_copy in
     let x = Handed c.args.project.now c.args.index c.args.kind in
-    let causes : Tree → Option Refusal = λ t. first_cause (site_causes i.manager.passes t i.desk.builders k c.args.project.now c.args.index) in
+    let causes : Tree → Option Refusal = λ t. first_cause (site_causes i.manager.passes t i.desk k c.args.project.now c.args.index) in
     refused_for w s k x c.in-Err.error c.refuse_for.result (causes i.content.resources.tree)
     (λ r h. sym (ap (λ (z : Moment). first_cause (service_causes z k x)) c.self.view_is) ∙ h)
     (subst (Judges (causes i.content.resources.tree)) c.in-Err.is (subst (λ t. Judges (causes t) c.site_for-found.result) c.tree.ensures c.site_for-found.ensures.judged)) c.refuse_for.ensures c.requires

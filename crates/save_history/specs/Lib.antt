@@ -1,0 +1,7 @@
+pub mod Durables
+pub mod Steps
+pub mod Points
+pub mod Rounds
+pub mod Saves
+pub mod Kept
+pub mod Stages

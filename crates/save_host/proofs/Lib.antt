@@ -1,0 +1,5 @@
+pub mod Writing
+pub mod Books
+pub mod Places
+pub mod Hosting
+pub mod Answered
