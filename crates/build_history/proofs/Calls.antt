@@ -1,5 +1,5 @@
 -- Calls of histories, and of their entries as builds read them.
-use Rattle.std.proofs.Common.{◌≡◌, ℕ, cond, eq-eqb, List, [], ◌∷◌, ◌++◌, map, Option, Some, None, refl, sym, ap, ◌∙◌, subst, append_assoc, append-nil}
+use Rattle.std.proofs.Common.{◌≡◌, ℕ, false, cond, eq-eqb, List, [], ◌∷◌, ◌++◌, map, Option, Some, None, refl, sym, ap, ◌∙◌, subst, append_assoc, append-nil}
 use Rattle.std.specs.List.{AllByRecursion, flat_map}
 use Rattle.std.specs.Option.{option_map, option_to_list}
 use Rattle.builder_api.specs.Told.{Told, Built, Cleaned}
@@ -25,8 +25,9 @@ use Rattle.ws_core.specs.Histories.{after, replay}
 use Rattle.build_core.specs.States.{state_of}
 use Rattle.build_core.specs.Histories.{deed_of, entries_of, entry_of, service_deed, started_of, taken_of}
 use Rattle.build_history.specs.Calls.{NamedCall, WereCalled, calls, calls_for, calls_of, command_at, service_calls}
-use Rattle.build_history.specs.Events.{IsOwn, NoServices}
+use Rattle.build_history.specs.Events.{IsOwn, NoBuilds, is_of_build}
 use Rattle.build_history.proofs.Lists.{flat_append}
+use Rattle.build_history.proofs.Others.{otherwise}
 
 -- ---- histories
 
@@ -66,18 +67,14 @@ plain_calls s events.Checkpoint a none = refl
 plain_calls s (events.Operation op) a none = refl
 plain_calls s (events.Service x) a none = absurd (let is : Some x ≡ None = none in cc)
 
--- the entries of events that don't concern the services
-pub no_services : (h : List Entry) (xs : List (ℕ × Event)) → map (λ (x : Entry). (x.pass, x.event)) h ≡ xs → AllByRecursion (λ (a : ℕ × Event). service_of a.1 ≡ None) xs → NoServices h
-no_services h xs are none = by h (subst (AllByRecursion (λ (a : ℕ × Event). service_of a.1 ≡ None)) (sym are) none)
-  where
-    by : (h : List Entry) → AllByRecursion (λ (a : ℕ × Event). service_of a.1 ≡ None) (map (λ (x : Entry). (x.pass, x.event)) h) → NoServices h
-    by [] all = tt
-    by (x ∷ h) all = (all.0, by h all.1)
+-- nor does one that asks nothing of them for a build
+pub other_calls : (s : Moment) (e : Event) (a : Answer) → is_of_build e ≡ false → calls_of s e a ≡ []
+other_calls s e a other = otherwise (λ v. calls_of s v a ≡ []) (λ v none. plain_calls s v a none) (λ kind. refl) (λ answer. refl) (λ states. refl) e other
 
 -- a history of such events asks nothing
-pub no_calls : (s : Moment) (h : List Entry) → NoServices h → calls s h ≡ []
+pub no_calls : (s : Moment) (h : List Entry) → NoBuilds h → calls s h ≡ []
 no_calls s [] all = refl
-no_calls s (x ∷ h) all = (λ i. plain_calls s x.event x.reply.answer all.0 i ++ no_calls (after s x) h all.1 i)
+no_calls s (x ∷ h) all = (λ i. other_calls s x.event x.reply.answer all.0 i ++ no_calls (after s x) h all.1 i)
 
 -- ---- entries, as builds read them
 
@@ -107,7 +104,10 @@ service_read s (services.Checkout (purposes.Build kind scope)) a = by (started_o
     by : (o : Option Started) → [] ≡ deed_asks (state_of s) (option_map (λ z. Checkout kind scope z) o)
     by None = refl
     by (Some z) = refl
+service_read s (services.Checkout (purposes.Save kind)) a = refl
 service_read s (services.CheckIn (outcomes.Build outcome)) a = refl
+service_read s (services.CheckIn (outcomes.Save answer)) a = refl
+service_read s (services.Saving states) a = refl
 service_read s (services.Commit edits) a = by (taken_of a)
   where
     by : (o : Option Taken) → [] ≡ deed_asks (state_of s) (option_map (λ z. Commit edits z) o)

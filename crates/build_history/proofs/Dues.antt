@@ -71,6 +71,7 @@ step_due s k (events.Service (services.Checkout purpose)) = tt
 step_due s k (events.Service (services.CheckIn outcome)) = tt
 step_due s k (events.Service (services.Commit edits)) = tt
 step_due s k (events.Service (services.Clean project index)) = tt
+step_due s k (events.Service (services.Saving states)) = tt
 
 -- where each reply is the step's, what is handed is due
 pub replies_due : (s : Moment) (h : List Entry) → AreReplies s h → AreDue s h

@@ -1,5 +1,5 @@
 -- What was handed last, over histories and over their entries as builds read them.
-use Rattle.std.proofs.Common.{◌≡◌, ℕ, ◌+◌, List, [], ◌∷◌, ◌++◌, map, Option, Some, None, refl, sym, ap, ◌∙◌, subst, arith}
+use Rattle.std.proofs.Common.{◌≡◌, ℕ, ◌+◌, false, List, [], ◌∷◌, ◌++◌, map, Option, Some, None, refl, sym, ap, ◌∙◌, subst, arith}
 use Rattle.std.specs.Prelude.{IfSome}
 use Rattle.std.specs.List.{AllByRecursion}
 use Rattle.std.specs.Option.{IsSomeAnd, option_map, option_or, option_to_list}
@@ -31,10 +31,11 @@ use Rattle.ws_core.specs.Histories.{after, replay}
 use Rattle.build_core.specs.States.{state_of}
 use Rattle.build_core.specs.Histories.{deed_of, entries_of, service_deed, started_of}
 use Rattle.build_history.specs.Calls.{command_at}
-use Rattle.build_history.specs.Events.{IsOwn, NoServices}
+use Rattle.build_history.specs.Events.{IsOwn, NoBuilds, is_of_build}
 use Rattle.build_history.specs.Handings.{AnswersHandings, AreRight, AreTold, Handing, HaveRisen, IsOf, IsRight, committed_by, failed_by, failure, failures, handed_by, handed_with, handing_of}
 use Rattle.build_history.proofs.Calls.{own_entry}
 use Rattle.build_history.proofs.Counts.{risen_none, risen_on}
+use Rattle.build_history.proofs.Others.{otherwise}
 
 -- ---- numbers
 
@@ -102,27 +103,32 @@ plain_nothing events.Checkpoint a none = record { committed = refl; failed = ref
 plain_nothing (events.Operation op) a none = record { committed = refl; failed = refl }
 plain_nothing (events.Service x) a none = absurd (let is : Some x ≡ None = none in cc)
 
-plain_right : (ms : Meanings) (last : Option Handing) (s : Moment) (h : List Entry) → NoServices h → AreRight ms last s h
+-- nor does one that asks nothing of them for a build
+other_nothing : (e : Event) (a : Answer) → is_of_build e ≡ false → IsNothing e a
+other_nothing e a other = otherwise (λ v. IsNothing v a) (λ v none. plain_nothing v a none)
+    (λ kind. record { committed = refl; failed = refl }) (λ answer. record { committed = refl; failed = refl }) (λ states. record { committed = refl; failed = refl }) e other
+
+plain_right : (ms : Meanings) (last : Option Handing) (s : Moment) (h : List Entry) → NoBuilds h → AreRight ms last s h
 plain_right ms last s [] none = tt
 plain_right ms last s (x ∷ h) none = (
-  subst (λ o. IfSome o (λ edits. IsSomeAnd last (IsRight ms (state_of s) edits))) (sym (plain_nothing x.event x.reply.answer none.0).committed) tt,
+  subst (λ o. IfSome o (λ edits. IsSomeAnd last (IsRight ms (state_of s) edits))) (sym (other_nothing x.event x.reply.answer none.0).committed) tt,
   plain_right ms (handed_with last s x) (after s x) h none.1,
 )
 
-plain_told : (last : Option Handing) (s : Moment) (h : List Entry) → NoServices h → AreTold last s h
+plain_told : (last : Option Handing) (s : Moment) (h : List Entry) → NoBuilds h → AreTold last s h
 plain_told last s [] none = tt
 plain_told last s (x ∷ h) none = (
-  subst (λ o. IfSome o (λ at. IsSomeAnd last (IsOf at))) (sym (plain_nothing x.event x.reply.answer none.0).failed) tt,
+  subst (λ o. IfSome o (λ at. IsSomeAnd last (IsOf at))) (sym (other_nothing x.event x.reply.answer none.0).failed) tt,
   plain_told (handed_with last s x) (after s x) h none.1,
 )
 
-plain_failures : (name : List ℕ) (last : Option Handing) (s : Moment) (h : List Entry) → NoServices h → failures name last s h ≡ 0
+plain_failures : (name : List ℕ) (last : Option Handing) (s : Moment) (h : List Entry) → NoBuilds h → failures name last s h ≡ 0
 plain_failures name last s [] none = refl
 plain_failures name last s (x ∷ h) none = none_more (failure name (failed_by x.event) last) (failures name (handed_with last s x) (after s x) h)
-    (ap (λ o. failure name o last) (plain_nothing x.event x.reply.answer none.0).failed) (plain_failures name (handed_with last s x) (after s x) h none.1)
+    (ap (λ o. failure name o last) (other_nothing x.event x.reply.answer none.0).failed) (plain_failures name (handed_with last s x) (after s x) h none.1)
 
 -- nor does a history of such events
-pub plain_answers : (ms : Meanings) (last : Option Handing) (s : Moment) (h : List Entry) (told : List Told) → NoServices h → AnswersHandings ms last s h told told
+pub plain_answers : (ms : Meanings) (last : Option Handing) (s : Moment) (h : List Entry) (told : List Told) → NoBuilds h → AnswersHandings ms last s h told told
 plain_answers ms last s h told none = record {
   right = plain_right ms last s h none;
   told = plain_told last s h none;
@@ -231,7 +237,10 @@ service_read descs (services.Checkout (purposes.Build kind scope)) a = by (start
     by : (o : Option Started) → IsRead descs (events.Service (services.Checkout (purposes.Build kind scope))) a (option_map (λ z. Checkout kind scope z) o)
     by None = record { handed = refl; committed = refl; failed = refl }
     by (Some z) = record { handed = refl; committed = refl; failed = refl }
+service_read descs (services.Checkout (purposes.Save kind)) a = record { handed = refl; committed = refl; failed = refl }
 service_read descs (services.CheckIn (outcomes.Build outcome)) a = outcome_read descs outcome a
+service_read descs (services.CheckIn (outcomes.Save answer)) a = record { handed = refl; committed = refl; failed = refl }
+service_read descs (services.Saving states) a = record { handed = refl; committed = refl; failed = refl }
 service_read descs (services.Handed project index kind) a = handing_read descs project index kind a
 service_read descs (services.Commit edits) a = commit_read descs edits a
 service_read descs (services.Clean project index) a = record { handed = refl; committed = refl; failed = refl }

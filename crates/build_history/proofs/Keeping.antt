@@ -65,6 +65,9 @@ commit_read edits (answers.Refused refusal) = refl
 service_commits : (x : ServiceEvent) (a : Answer) → has_committed (events.Service x) a ≡ commits_in (service_deed x a)
 service_commits (services.Commit edits) a = commit_read edits a
 service_commits (services.CheckIn (outcomes.Build outcome)) a = refl
+service_commits (services.CheckIn (outcomes.Save answer)) a = refl
+service_commits (services.Saving states) a = refl
+service_commits (services.Checkout (purposes.Save kind)) a = refl
 service_commits (services.Clean project index) a = refl
 service_commits (services.Checkout (purposes.Build kind scope)) a = by (started_of a)
   where

@@ -1,4 +1,5 @@
 pub mod Lists
+pub mod Others
 pub mod Calls
 pub mod Counts
 pub mod Handings

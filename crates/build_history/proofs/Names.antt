@@ -7,9 +7,9 @@ use Rattle.build_due.specs.declared.site.Site.{Site}
 use Rattle.core_event.specs.declared.entry.Entry.{Entry}
 use Rattle.core_event.specs.declared.event.Event.{Event}
 use Rattle.core_event.specs.declared.reply.Refusal.{Refusal}
-use Rattle.core_event.specs.declared.service.Purpose.TheVariants.{Build}
+use Rattle.core_event.specs.declared.service.Purpose.TheVariants.{Build, Save}
 use Rattle.core_event.specs.declared.service.ServiceEvent.{ServiceEvent}
-use Rattle.core_event.specs.declared.service.ServiceEvent.TheVariants.{Checkout, CheckIn, Handed, Commit, Clean}
+use Rattle.core_event.specs.declared.service.ServiceEvent.TheVariants.{Checkout, CheckIn, Handed, Commit, Clean, Saving}
 use Rattle.core_event.specs.Events.{operation_of, service_of}
 use Rattle.op_kind.specs.declared.op.Op.{Op}
 use Rattle.service_desk.specs.declared.desk.Desk.{Desk}
@@ -24,7 +24,9 @@ use Rattle.build_history.specs.Settled.{is_builder}
 
 served_names : (s : Moment) (k : ℕ) (x : ServiceEvent) → (serve s k x).0.desk.builders ≡ s.desk.builders
 served_names s k (Checkout (Build kind scope)) = refl
+served_names s k (Checkout (Save kind)) = refl
 served_names s k (CheckIn outcome) = refl
+served_names s k (Saving states) = refl
 served_names s k (Handed project index kind) = of (site_in s.resources.tree project index)
   where
     of : (o : Option Site) → (hand s o kind).0.desk.builders ≡ s.desk.builders

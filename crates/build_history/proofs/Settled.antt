@@ -25,10 +25,11 @@ use Rattle.ws_core.specs.States.{Moment}
 use Rattle.ws_core.specs.Histories.{after, replay}
 use Rattle.build_core.specs.States.{state_of}
 use Rattle.build_core.specs.Histories.{deed_of, entries_of, given_of, service_deed, taken_of}
-use Rattle.build_history.specs.Events.{IsOwn, NoServices}
+use Rattle.build_history.specs.Events.{IsOwn, NoBuilds, is_of_build}
 use Rattle.build_history.specs.Settled.{AllSettled, Build, IsSettled, begun_by, begun_with, is_builder, is_settling, last_begun}
 use Rattle.build_history.proofs.Calls.{own_entry}
 use Rattle.build_history.proofs.Names.{same_builders, step_names}
+use Rattle.build_history.proofs.Others.{otherwise}
 
 -- ---- histories
 
@@ -73,11 +74,16 @@ plain_builds events.Checkpoint a none = record { begun = refl; settling = refl }
 plain_builds (events.Operation op) a none = record { begun = refl; settling = refl }
 plain_builds (events.Service x) a none = absurd (let is : Some x ≡ None = none in cc)
 
+-- nor does one that asks nothing of them for a build
+pub other_builds : (e : Event) (a : Answer) → is_of_build e ≡ false → IsNoBuild e a
+other_builds e a other = otherwise (λ v. IsNoBuild v a) (λ v none. plain_builds v a none)
+    (λ kind. record { begun = refl; settling = refl }) (λ answer. record { begun = refl; settling = refl }) (λ states. record { begun = refl; settling = refl }) e other
+
 -- nor does a history of such events
-pub plain_settled : (ms : Meanings) (last : Option Build) (s : Moment) (h : List Entry) → NoServices h → AllSettled ms last s h
+pub plain_settled : (ms : Meanings) (last : Option Build) (s : Moment) (h : List Entry) → NoBuilds h → AllSettled ms last s h
 plain_settled ms last s [] none = tt
 plain_settled ms last s (x ∷ h) none = (
-  (λ is. absurd (let no : true ≡ false = sym is ∙ (plain_builds x.event x.reply.answer none.0).settling in cc)),
+  (λ is. absurd (let no : true ≡ false = sym is ∙ (other_builds x.event x.reply.answer none.0).settling in cc)),
   plain_settled ms (begun_with last x) (after s x) h none.1,
 )
 
@@ -142,7 +148,10 @@ module _ (kind : BuildKind) (scope : Option (List ℕ)) where
 
 service_begins : (x : ServiceEvent) (a : Answer) → begun_by (events.Service x) a ≡ begins_in (service_deed x a)
 service_begins (services.Checkout (purposes.Build kind scope)) a = checkout_begins kind scope a
+service_begins (services.Checkout (purposes.Save kind)) a = refl
 service_begins (services.CheckIn (outcomes.Build outcome)) a = refl
+service_begins (services.CheckIn (outcomes.Save answer)) a = refl
+service_begins (services.Saving states) a = refl
 service_begins (services.Clean project index) a = refl
 service_begins (services.Handed project index kind) a = by (given_of a)
   where
@@ -192,6 +201,9 @@ settles_read events.EndBatch a is = is
 settles_read events.Checkpoint a is = is
 settles_read (events.Operation op) a is = is
 settles_read (events.Service (services.Checkout (purposes.Build kind scope))) a is = absurd (let no : false ≡ true = is in cc)
+settles_read (events.Service (services.Checkout (purposes.Save kind))) a is = absurd (let no : false ≡ true = is in cc)
+settles_read (events.Service (services.CheckIn (outcomes.Save answer))) a is = absurd (let no : false ≡ true = is in cc)
+settles_read (events.Service (services.Saving states)) a is = absurd (let no : false ≡ true = is in cc)
 settles_read (events.Service (services.Handed project index kind)) a is = absurd (let no : false ≡ true = is in cc)
 settles_read (events.Service (services.Commit edits)) a is = absurd (let no : false ≡ true = is in cc)
 settles_read (events.Service (services.Clean project index)) a is = absurd (let no : false ≡ true = is in cc)

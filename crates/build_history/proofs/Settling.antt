@@ -22,7 +22,7 @@ use Rattle.ws_core.specs.Sessions.{Session}
 use Rattle.ws_core.specs.Steps.{step}
 use Rattle.build_core.specs.States.{records_of}
 use Rattle.build_core.specs.Histories.{book_of, entries_of}
-use Rattle.build_history.specs.Events.{IsOwn, NoServices, has_committed}
+use Rattle.build_history.specs.Events.{IsOwn, NoBuilds, has_committed}
 use Rattle.build_history.specs.Settled.{AllSettled, AreSound, Build, IsSettled, KeepsBuilt, is_builder, last_begun}
 use Rattle.build_history.proofs.Called.{went_on}
 use Rattle.build_history.proofs.Keeping.{AreReplies, all_sound, deed_commits, later_replies, sound_from, sound_to}
@@ -189,8 +189,8 @@ keeps_on ms s t u g h placed p q = record {
   sound = q.sound;
 }
 
--- where no event concerns the services
-pub plain_keeps : (ms : Meanings) (s t : Moment) (h : List Entry) → t ≡ replay s h → NoServices h → AreSound ms s → KeepsBuilt ms s t h
+-- where nothing is asked of the services for a build
+pub plain_keeps : (ms : Meanings) (s t : Moment) (h : List Entry) → t ≡ replay s h → NoBuilds h → AreSound ms s → KeepsBuilt ms s t h
 plain_keeps ms s t h placed none sound = record {
   settled = λ last. plain_settled ms last s h none;
   sound = subst (AreSound ms) (sym placed)

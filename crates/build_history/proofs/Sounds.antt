@@ -15,9 +15,9 @@ use Rattle.core_event.specs.declared.event.Event.{Event}
 use Rattle.core_event.specs.declared.event.Event.TheVariants as events
 use Rattle.core_event.specs.declared.reply.Answer.{Answer}
 use Rattle.core_event.specs.declared.reply.Refusal.{Refusal}
-use Rattle.core_event.specs.declared.service.Purpose.TheVariants.{Build}
+use Rattle.core_event.specs.declared.service.Purpose.TheVariants.{Build, Save}
 use Rattle.core_event.specs.declared.service.ServiceEvent.{ServiceEvent}
-use Rattle.core_event.specs.declared.service.ServiceEvent.TheVariants.{Checkout, CheckIn, Handed, Commit, Clean}
+use Rattle.core_event.specs.declared.service.ServiceEvent.TheVariants.{Checkout, CheckIn, Handed, Commit, Clean, Saving}
 use Rattle.core_event.specs.Events.{operation_of, service_of}
 use Rattle.op_kind.specs.declared.op.Op.{Op}
 use Rattle.service_desk.specs.Sites.{site_in}
@@ -29,12 +29,14 @@ use Rattle.ws_content.specs.Deeds.{From, forgets, forgotten}
 use Rattle.ws_content.specs.Handing.{built_of}
 use Rattle.ws_core.specs.States.{Moment}
 use Rattle.ws_core.specs.Histories.{after, fresh_for, replay}
-use Rattle.ws_core.specs.Effects.{clean_for, commit_for, effect_by, hand, other_effect, serve}
+use Rattle.ws_core.specs.Effects.{check_in, clean_for, commit_for, effect_by, hand, other_effect, serve}
 use Rattle.ws_core.specs.Refusals.{current, refusal}
 use Rattle.ws_core.specs.Steps.{act, acted, step}
+use Rattle.ws_core.proofs.Stepped.{ended_built}
 use Rattle.build_core.specs.States.{records_of}
 use Rattle.build_core.proofs.Leaves.{step_leaves}
-use Rattle.build_history.specs.Events.{has_committed, NoServices}
+use Rattle.build_history.specs.Events.{has_committed, NoBuilds, is_of_build}
+use Rattle.build_history.proofs.Others.{otherwise}
 
 -- each record of the later ones is one of the earlier ones
 abbrev AreFewer : Records → Records → Type 0
@@ -86,7 +88,9 @@ kept s = records_of s.remembered.built
 
 served_fewer : (s : Moment) (k : ℕ) (x : ServiceEvent) → has_committed (events.Service x) (serve s k x).1 ≡ false → AreFewer (kept s) (kept (serve s k x).0)
 served_fewer s k (Checkout (Build kind scope)) none = same_fewer (kept s) (kept s) refl
-served_fewer s k (CheckIn outcome) none = same_fewer (kept s) (kept s) refl
+served_fewer s k (Checkout (Save kind)) none = same_fewer (kept s) (kept s) refl
+served_fewer s k (CheckIn outcome) none = same_fewer (kept s) (kept (check_in s outcome).0) (ap records_of (ended_built outcome s.remembered))
+served_fewer s k (Saving states) none = same_fewer (kept s) (kept s) refl
 served_fewer s k (Handed project index kind) none = by (site_in s.resources.tree project index)
   where
     by : (o : Option Site) → AreFewer (kept s) (kept (hand s o kind).0)
@@ -164,12 +168,16 @@ plain_commits events.Checkpoint a none = refl
 plain_commits (events.Operation op) a none = refl
 plain_commits (events.Service x) a none = absurd (let is : Some x ≡ None = none in cc)
 
+-- nor does one that asks nothing of them for a build
+pub other_commits : (e : Event) (a : Answer) → is_of_build e ≡ false → has_committed e a ≡ false
+other_commits e a other = otherwise (λ v. has_committed v a ≡ false) (λ v none. plain_commits v a none) (λ kind. refl) (λ answer. refl) (λ states. refl) e other
+
 -- so a history of such events keeps records sound
-pub plain_sound : (ms : Meanings) (has : List ℕ → Bool) (s : Moment) (h : List Entry) → NoServices h
+pub plain_sound : (ms : Meanings) (has : List ℕ → Bool) (s : Moment) (h : List Entry) → NoBuilds h
     → Sound ms has (records_of s.remembered.built) → Sound ms has (records_of (replay s h).remembered.built)
 plain_sound ms has s [] all sound = sound
 plain_sound ms has s (x ∷ h) all sound =
-    plain_sound ms has (after s x) h all.1 (step_sound ms has s x.pass x.event (plain_commits x.event (step s x.pass x.event).1.answer all.0) sound)
+    plain_sound ms has (after s x) h all.1 (step_sound ms has s x.pass x.event (other_commits x.event (step s x.pass x.event).1.answer all.0) sound)
 
 -- nothing was built in the fresh workspace
 pub fresh_sound : (ms : Meanings) (has : List ℕ → Bool) (builders : Names) → Sound ms has (records_of (fresh_for builders).remembered.built)

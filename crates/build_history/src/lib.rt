@@ -7,6 +7,6 @@
 //! this holds of the entries of a build that was answered or that memory stopped, and `Handings` and `Settling` how it goes
 //! on over histories; `Sounds` has that each event that commits nothing keeps records sound. Below these, `Calls`,
 //! `Handings`, `Settled` and `Keeping` go along a history and its entries as builds read them, `Went` and `Parts` have of
-//! what the entries of a build are made, `Counts` how failure counts rise, `Names` that the builders' names stay, and
-//! `Lists` what holds of all lists.
+//! what the entries of a build are made, `Others` which events and entries ask nothing of the services for a build, `Counts`
+//! how failure counts rise, `Names` that the builders' names stay, and `Lists` what holds of all lists.
 #![tactic(auto)]

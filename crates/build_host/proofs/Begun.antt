@@ -31,6 +31,7 @@ use Rattle.job_manager.specs.declared.manager.JobManager.{JobManager}
 use Rattle.job_manager.specs.Admission.{admission}
 use Rattle.job_manager.specs.Effects as managing
 use Rattle.pass_table.specs.Passes.{batches_of}
+use Rattle.service_desk.specs.Desks.{is_building}
 use Rattle.service_desk.specs.Refusals.{not_serving, root_rule, unrooted}
 use Rattle.ws_core.specs.States.{Moment}
 use Rattle.ws_core.specs.Histories.{has_entered, replay}
@@ -46,6 +47,7 @@ use Rattle.run_order.proofs.Managed.{step_services}
 use Rattle.build_host.specs.Hosts.{Asked, checkout}
 use Rattle.build_host.proofs.Batches.{batch_open}
 use Rattle.build_host.proofs.Growing.{length_after, mine_grows, since_grows}
+use Rattle.build_host.proofs.Handing.{Serving}
 use Rattle.build_history.proofs.Names.{step_names}
 use Rattle.build_host.proofs.Keeping.{step_keeps}
 use Rattle.build_host.proofs.Lists.{drop_all}
@@ -212,11 +214,11 @@ admitted x m h = by (admission x.state.manager.passes.rules 1 root_rule) refl
         let got : Some (refusal_number r) ≡ None = sym (ap number_of answer) ∙ h.done in
         cc
 
-may_from : (m : JobManager) → not_serving m.passes 1 ≡ None → unrooted m.passes.rules 1 ≡ None → (batches_of m.passes 1 == 0) ≡ false → may_build m 1 ≡ true
-may_from m a b c = λ i. is_none (a i) && is_none (b i) && not (c i)
+may_from : (s : Moment) → Serving s 1 → unrooted s.manager.passes.rules 1 ≡ None → (batches_of s.manager.passes 1 == 0) ≡ false → may_build s 1 ≡ true
+may_from s a b c = λ i. is_none (a i) && is_none (b i) && not (c i)
 
 -- the services are out with the worker, which has the rule of the root and an open batch
-pub may_then : (kind : BuildKind) (scope : Option (List ℕ)) (x m n y : Session) (p : Plan) → has_entered 1 x.state ≡ true → Batched x m n → Asked kind scope n y (started.Plan p) → may_build y.state.manager 1 ≡ true
+pub may_then : (kind : BuildKind) (scope : Option (List ℕ)) (x m n y : Session) (p : Plan) → has_entered 1 x.state ≡ true → Batched x m n → Asked kind scope n y (started.Plan p) → may_build y.state 1 ≡ true
 may_then kind scope x m n y p there h g =
     let none = not_refused kind scope n y p g in
     let at_m : unrooted m.state.manager.passes.rules 1 ≡ None = ap (λ (s : Moment). unrooted s.manager.passes.rules 1) h.begun.steps.state ∙ begin_rooted x.state 1 (admitted x m h.begun) in
@@ -224,8 +226,8 @@ may_then kind scope x m n y p there h g =
     let there_m : has_entered 1 m.state ≡ true = ap (λ (s : Moment). has_entered 1 s) h.begun.steps.state ∙ (step_keeps x.state (events.Begin root_rule) there tt).worker there in
     let open_n : (batches_of n.state.manager.passes 1 == 0) ≡ false =
     ap (λ (s : Moment). batches_of s.manager.passes 1 == 0) h.steps.state ∙ ap (λ (z : JobManager). batches_of z.passes 1 == 0) (batch_leaves m.state 1).manager ∙ batch_open m.state.manager.passes there_m in
-    may_from y.state.manager
-    (ap (λ (s : Moment). not_serving s.manager.passes 1) g.steps.state ∙ checkout_serves n.state 1 kind scope none)
+    may_from y.state
+    (ap (λ (s : Moment). not_serving s.manager.passes (is_building s.desk.serving) 1) g.steps.state ∙ checkout_serves n.state 1 kind scope none)
     (ap (λ (s : Moment). unrooted s.manager.passes.rules 1) g.steps.state ∙ checkout_rooted n.state 1 kind scope none at_n)
     (ap (λ (s : Moment). batches_of s.manager.passes 1 == 0) g.steps.state ∙ ap (λ (z : JobManager). batches_of z.passes 1 == 0) (checkout_leaves n.state 1 kind scope none).manager ∙ open_n)
 

@@ -9,7 +9,7 @@ use Rattle.core_event.specs.declared.event.Event.TheVariants.{Service}
 use Rattle.core_event.specs.declared.reply.Answer.TheVariants as answers
 use Rattle.core_event.specs.declared.reply.Refusal.TheVariants.{NoBuilder}
 use Rattle.core_event.specs.declared.service.ServiceEvent.TheVariants as services
-use Rattle.service_desk.specs.Refusals.{not_serving, unrooted}
+use Rattle.service_desk.specs.Refusals.{unrooted}
 use Rattle.ws_core.specs.States.{Moment}
 use Rattle.ws_core.specs.Sessions.{Session}
 use Rattle.ws_core.specs.Steps.{step}
@@ -19,10 +19,10 @@ use Rattle.build_core.proofs.Commits.{cleans_missing, cleans_present, cleaned_to
 use Rattle.build_core.proofs.Sites.{has_builder}
 use Rattle.build_core.proofs.Turning.{cleaned_deed, uncleaned_deed}
 use Rattle.build_host.proofs.Growing.{book_after, finds_itself}
-use Rattle.build_host.proofs.Handing.{is_rooted, it_serves}
+use Rattle.build_host.proofs.Handing.{Serving, is_rooted, it_serves}
 
 -- whether the command is refused, and what it leaves: nothing was told, or that the builder was to clean
-pub clears : (k start : ℕ) (began told told' : List Told) (i : Item) (n : Option ℕ) (x y : Session) → start ≤ length x.history → may_build x.state.manager k ≡ true
+pub clears : (k start : ℕ) (began told told' : List Told) (i : Item) (n : Option ℕ) (x y : Session) → start ≤ length x.history → may_build x.state k ≡ true
     → IsItem (desc_at x.state.resources.tree) i → Steps k (Service (services.Clean i.project i.index)) x y → number_of (step x.state k (Service (services.Clean i.project i.index))).1.answer ≡ n
     → (n ≡ None → WasDone (Cleared i) told told') → ((m : ℕ) → n ≡ Some m → told' ≡ told)
     → Cleans (book_of x k start began told) i n (book_of y k start began told')
@@ -31,11 +31,11 @@ clears k start began told told' i n x y le may it steps is called quiet = by (ha
     s : Moment
     s = x.state
 
-    serving : not_serving s.manager.passes k ≡ None
-    serving = it_serves s.manager k may
+    serving : Serving s k
+    serving = it_serves s k may
 
     rooted : unrooted s.manager.passes.rules k ≡ None
-    rooted = is_rooted s.manager k may
+    rooted = is_rooted s k may
 
     by : (b : Bool) → has_builder s.desk.builders i ≡ b → Cleans (book_of x k start began told) i n (book_of y k start began told')
     by true there =

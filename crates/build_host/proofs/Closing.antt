@@ -26,8 +26,8 @@ abbrev pub check_in : BuildOutcome → Event
 check_in o = Service (CheckIn (Build o))
 
 -- no pass has the services then
-come_home : (o : BuildOutcome) (x m : Session) → may_build x.state.manager 1 ≡ true → Steps 1 (check_in o) x m → services m ≡ None
-come_home o x m may steps = ap (λ (s : Moment). s.manager.passes.services) steps.state ∙ ap (λ (z : JobManager). z.passes.services) (check_in_leaves x.state 1 (Build o) (it_serves x.state.manager 1 may)).manager
+come_home : (o : BuildOutcome) (x m : Session) → may_build x.state 1 ≡ true → Steps 1 (check_in o) x m → services m ≡ None
+come_home o x m may steps = ap (λ (s : Moment). s.manager.passes.services) steps.state ∙ ap (λ (z : JobManager). z.passes.services) (check_in_leaves x.state 1 (Build o) (it_serves x.state 1 may)).manager
 
 checked : (o : BuildOutcome) (x m : Session) → Steps 1 (check_in o) x m → mine m ≡ mine x ++ at (state_of x.state) (books.CheckIn o) ∷ []
 checked o x m steps = mine_grows 1 (check_in o) (books.CheckIn o) x m steps refl
@@ -39,7 +39,7 @@ batch_closed : (o : BuildOutcome) (x m n : Session) → Steps 1 (check_in o) x m
 batch_closed o x m n a b = more (mine x) (mine m) (mine n) (at (state_of x.state) (books.CheckIn o) ∷ []) (at (state_of m.state) books.EndBatch) (checked o x m a) (mine_grows 1 events.EndBatch books.EndBatch m n b refl)
 
 -- memory wanted after the outcome was checked in
-pub cut_first : (i : ℕ) (c told : List Told) (o : BuildOutcome) (x m y : Session) → may_build x.state.manager 1 ≡ true → Steps 1 (check_in o) x m → y ≡ m → IsCut (book_of x 1 i c told) o (book_of y 1 i c told)
+pub cut_first : (i : ℕ) (c told : List Told) (o : BuildOutcome) (x m y : Session) → may_build x.state 1 ≡ true → Steps 1 (check_in o) x m → y ≡ m → IsCut (book_of x 1 i c told) o (book_of y 1 i c told)
 cut_first i c told o x m y may steps same = inl (record {
   found = state_of x.state;
   finds = finds_itself (state_of x.state);
@@ -49,7 +49,7 @@ cut_first i c told o x m y may steps same = inl (record {
 })
 
 -- and after the batch was ended
-pub cut_second : (i : ℕ) (c told : List Told) (o : BuildOutcome) (x m n y : Session) → may_build x.state.manager 1 ≡ true → Steps 1 (check_in o) x m → Steps 1 events.EndBatch m n → y ≡ n
+pub cut_second : (i : ℕ) (c told : List Told) (o : BuildOutcome) (x m n y : Session) → may_build x.state 1 ≡ true → Steps 1 (check_in o) x m → Steps 1 events.EndBatch m n → y ≡ n
     → IsCut (book_of x 1 i c told) o (book_of y 1 i c told)
 cut_second i c told o x m n y may steps batch same = inr (
   state_of m.state,
@@ -62,7 +62,7 @@ cut_second i c told o x m n y may steps batch same = inr (
   },
 )
 
-pub closes : (i : ℕ) (c told : List Told) (o : BuildOutcome) (x m n y : Session) → may_build x.state.manager 1 ≡ true → Steps 1 (check_in o) x m → Steps 1 events.EndBatch m n → Steps 1 (events.End root_rule) n y
+pub closes : (i : ℕ) (c told : List Told) (o : BuildOutcome) (x m n y : Session) → may_build x.state 1 ≡ true → Steps 1 (check_in o) x m → Steps 1 events.EndBatch m n → Steps 1 (events.End root_rule) n y
     → Closes (book_of x 1 i c told) o (book_of y 1 i c told)
 closes i c told o x m n y may steps batch rule = record {
   first = state_of m.state;

@@ -77,13 +77,13 @@ finishes kind project s number (a ∷ []) rest (inr h) = record {
   tail = batch ∷ not_out kind project ∷ end_batch ∷ end_rule ∷ [];
   number = 15;
   stopped = inr (h.0, _, _, _, _, ap (λ z. z ∷ entries_of 1 s (batch ∷ not_out kind project ∷ end_batch ∷ end_rule ∷ [])) (item 0 a (a ∷ rest) _ h.5));
-  own = (own events.Batch answers.Done tt, (own (checkout kind project) (answers.Refused (NotContained [])) tt, (own events.EndBatch answers.Done tt, (own (events.End root_rule) answers.Done tt, tt))));
+  own = (own events.Batch answers.Done tt, (own (checkout kind project) (answers.Refused (NotContained [])) refl, (own events.EndBatch answers.Done tt, (own (events.End root_rule) answers.Done tt, tt))));
 }
 finishes kind project s number (a ∷ b ∷ []) rest (inr h) = record {
   tail = not_out kind project ∷ end_batch ∷ end_rule ∷ [];
   number = 15;
   stopped = inr (h.0, h.1, _, _, _, (λ i. item 0 a (a ∷ b ∷ rest) _ h.5 i ∷ item 1 a (a ∷ b ∷ rest) _ h.5 i ∷ entries_of 1 s (not_out kind project ∷ end_batch ∷ end_rule ∷ [])));
-  own = (own (checkout kind project) (answers.Refused (NotContained [])) tt, (own events.EndBatch answers.Done tt, (own (events.End root_rule) answers.Done tt, tt)));
+  own = (own (checkout kind project) (answers.Refused (NotContained [])) refl, (own events.EndBatch answers.Done tt, (own (events.End root_rule) answers.Done tt, tt)));
 }
 finishes kind project s number (a ∷ b ∷ c ∷ []) rest (inr h) = record {
   tail = end_batch ∷ end_rule ∷ [];

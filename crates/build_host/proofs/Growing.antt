@@ -59,7 +59,7 @@ booked mine since began told k s = record {
   began = began;
   told = told;
   now = state_of s;
-  serving = may_build s.manager k;
+  serving = may_build s k;
   home = is_none s.manager.passes.services;
   has = λ name. list_any (bytes_eq name) s.desk.builders;
   under = option_map item_of (site_of s.resources.tree s.desk.under);
@@ -76,7 +76,7 @@ book_after k start began told told' e deed x y done le steps did leaves = λ i. 
   began = began;
   told = told';
   now = (ap state_of steps.state ∙ leaves.state) i;
-  serving = may_build (manager i) k;
+  serving = may_build (record done.0 { manager = manager i; desk = desk i }) k;
   home = is_none (manager i).passes.services;
   has = λ name. list_any (bytes_eq name) (desk i).builders;
   under = option_map item_of (site_of ((ap (λ (s : Moment). s.resources.tree) steps.state ∙ ap (λ r. r.tree) leaves.resources) i) (desk i).under);

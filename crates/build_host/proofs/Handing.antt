@@ -16,8 +16,8 @@ use Rattle.core_event.specs.declared.reply.Answer.TheVariants as answers
 use Rattle.core_event.specs.declared.reply.Refusal.{Refusal}
 use Rattle.core_event.specs.declared.reply.Refusal.TheVariants.{NoBuilder}
 use Rattle.core_event.specs.declared.service.ServiceEvent.TheVariants as services
-use Rattle.job_manager.specs.declared.manager.JobManager.{JobManager}
 use Rattle.pass_table.specs.Passes.{batches_of}
+use Rattle.service_desk.specs.Desks.{is_building}
 use Rattle.service_desk.specs.Refusals.{not_serving, unrooted}
 use Rattle.ws_core.specs.States.{Moment}
 use Rattle.ws_core.specs.Sessions.{Session}
@@ -44,25 +44,22 @@ second_so : (a b : Bool) → (a && b) ≡ true → b ≡ true
 second_so true b h = h
 second_so false b h = cc
 
-pub it_serves : (m : JobManager) (k : ℕ) → may_build m k ≡ true → not_serving m.passes k ≡ None
-it_serves m k may = none_is (not_serving m.passes k) (first_so (is_none (not_serving m.passes k)) _ (first_so _ (not (batches_of m.passes k == 0)) may))
+-- it has the services for a build
+abbrev pub Serving : Moment → ℕ → Type 0
+Serving s k = not_serving s.manager.passes (is_building s.desk.serving) k ≡ None
 
-pub is_rooted : (m : JobManager) (k : ℕ) → may_build m k ≡ true → unrooted m.passes.rules k ≡ None
-is_rooted m k may = none_is (unrooted m.passes.rules k) (second_so (is_none (not_serving m.passes k)) _ (first_so _ (not (batches_of m.passes k == 0)) may))
+pub it_serves : (s : Moment) (k : ℕ) → may_build s k ≡ true → Serving s k
+it_serves s k may = none_is (not_serving s.manager.passes (is_building s.desk.serving) k) (first_so _ _ (first_so _ (not (batches_of s.manager.passes k == 0)) may))
 
-pub has_open : (m : JobManager) (k : ℕ) → may_build m k ≡ true → (batches_of m.passes k == 0) ≡ false
-has_open m k may = by (batches_of m.passes k == 0) (second_so _ (not (batches_of m.passes k == 0)) may)
-  where
-    by : (b : Bool) → not b ≡ true → b ≡ false
-    by true h = cc
-    by false h = refl
+pub is_rooted : (s : Moment) (k : ℕ) → may_build s k ≡ true → unrooted s.manager.passes.rules k ≡ None
+is_rooted s k may = none_is (unrooted s.manager.passes.rules k) (second_so (is_none (not_serving s.manager.passes (is_building s.desk.serving) k)) _ (first_so _ (not (batches_of s.manager.passes k == 0)) may))
 
 -- ---- what is handed
 
 abbrev handing_at : Moment → ℕ → Item → BuildKind → Answer
 handing_at s k i kind = (step s k (Service (services.Handed i.project i.index kind))).1.answer
 
-pub hands : (k start : ℕ) (began told : List Told) (i : Item) (kind : BuildKind) (g : Given) (x y : Session) → start ≤ length x.history → may_build x.state.manager k ≡ true
+pub hands : (k start : ℕ) (began told : List Told) (i : Item) (kind : BuildKind) (g : Given) (x y : Session) → start ≤ length x.history → may_build x.state k ≡ true
     → IsItem (desc_at x.state.resources.tree) i → Steps k (Service (services.Handed i.project i.index kind)) x y → given_of (handing_at x.state k i kind) ≡ Some g
     → Hands (book_of x k start began told) i kind g (book_of y k start began told)
 hands k start began told i kind g x y le may it steps is = by (has_builder x.state.desk.builders i) refl
@@ -70,11 +67,11 @@ hands k start began told i kind g x y le may it steps is = by (has_builder x.sta
     s : Moment
     s = x.state
 
-    serving : not_serving s.manager.passes k ≡ None
-    serving = it_serves s.manager k may
+    serving : Serving s k
+    serving = it_serves s k may
 
     rooted : unrooted s.manager.passes.rules k ≡ None
-    rooted = is_rooted s.manager k may
+    rooted = is_rooted s k may
 
     by : (b : Bool) → has_builder s.desk.builders i ≡ b → Hands (book_of x k start began told) i kind g (book_of y k start began told)
     by true there =

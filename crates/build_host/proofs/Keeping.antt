@@ -35,13 +35,13 @@ use Rattle.ws_core.specs.Sessions.{IsConsistent}
 use Rattle.std.specs.Prelude.{Result, Ok, Err, OnOk, OnErr}
 
 plain : (e : Event) → IsBuilding e → IsPlain 1 e
-plain e b = each (IsPlain 1) (λ rule. refl) refl (λ x. tt) refl (λ rule. refl) e b
+plain e b = each (IsPlain 1) (λ rule. refl) refl (λ x of. tt) refl (λ rule. refl) e b
 
 no_leave : (e : Event) → IsBuilding e → e ≡ Leave → ⊥
 no_leave e b is = subst IsBuilding is b
 
 none_scheduled : (e : Event) → IsBuilding e → scheduling (λ _. 1) e ≡ 0
-none_scheduled e b = each (λ v. scheduling (λ _. 1) v ≡ 0) (λ rule. refl) refl (λ x. refl) refl (λ rule. refl) e b
+none_scheduled e b = each (λ v. scheduling (λ _. 1) v ≡ 0) (λ rule. refl) refl (λ x of. refl) refl (λ rule. refl) e b
 
 -- the job that the worker runs
 kept_job : (m : JobManager) (e : Event) → IsBuilding e → job_of (outcome m 1 e).0.passes 1 ≡ job_of m.passes 1
@@ -52,7 +52,7 @@ kept_job m e b = by (refusal m 1 e)
     by None = each (λ v. job_of (decided None m 1 v).0.passes 1 ≡ job_of m.passes 1)
         (λ rule. refl)
         (batches_job m.passes (λ (pass : Pass). with_batches (pass.batches + 1) pass) (λ pass. refl))
-        (λ x. refl)
+        (λ x of. refl)
         (batches_job m.passes (λ (pass : Pass). with_batches (pass.batches - 1) pass) (λ pass. refl))
         (λ rule. refl) e b
 

@@ -72,7 +72,7 @@ unanswered_at (Err e) ms kind project x y first n b c told now none same h = (
       (subst (λ u. IsUnanswered ms kind project (book_of x 1 first u told) (book_of y 1 n c now)) same h),
 )
 
-module _ {A E : Type 0} (i : ℕ) (c told : List Told) (o : BuildOutcome) (x m y : Session) (may : may_build x.state.manager 1 ≡ true) (steps : Steps 1 (check_in o) x m) where
+module _ {A E : Type 0} (i : ℕ) (c told : List Told) (o : BuildOutcome) (x m y : Session) (may : may_build x.state 1 ≡ true) (steps : Steps 1 (check_in o) x m) where
   pub closes_at : (r : Result A E) → OnOk r ((then : Session) × Steps 1 events.EndBatch m then × Steps 1 (events.End root_rule) then y) → OnOk r (Closes (book_of x 1 i c told) o (book_of y 1 i c told))
   closes_at (Ok a) h = closes i c told o x m h.0 y may steps h.1 h.2
   closes_at (Err e) h = tt
@@ -89,13 +89,13 @@ closed_on (Err e) x m y rule is batch h = tt
 
 -- ---- what is handed is given or refused
 
-pub handed_answered : (s : Moment) (k : ℕ) (i : Item) (kind : BuildKind) → may_build s.manager k ≡ true → IsItem (desc_at s.resources.tree) i
+pub handed_answered : (s : Moment) (k : ℕ) (i : Item) (kind : BuildKind) → may_build s k ≡ true → IsItem (desc_at s.resources.tree) i
     → given_of (step s k (Service (services.Handed i.project i.index kind))).1.answer ≡ None → ⊥
 handed_answered s k i kind may it h = by (has_builder s.desk.builders i) refl
   where
     by : (b : Bool) → has_builder s.desk.builders i ≡ b → ⊥
-    by true there = let got = sym (ap given_of (handed_present s k i kind it (it_serves s.manager k may) (is_rooted s.manager k may) there).answer) ∙ h in cc
-    by false away = let got = sym (ap given_of (handed_missing s k i kind it (it_serves s.manager k may) (is_rooted s.manager k may) away).answer) ∙ h in cc
+    by true there = let got = sym (ap given_of (handed_present s k i kind it (it_serves s k may) (is_rooted s k may) there).answer) ∙ h in cc
+    by false away = let got = sym (ap given_of (handed_missing s k i kind it (it_serves s k may) (is_rooted s k may) away).answer) ∙ h in cc
 
 -- ---- histories that grow
 

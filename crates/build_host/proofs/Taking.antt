@@ -45,10 +45,10 @@ going s site is = by s.desk.under refl is
         let it = site_item s.resources.tree u.project u.index site h in
         (item u.project u.index site.command, ap item_of it.at, record { under = w; listed = it.listed; at = is ∙ ap (λ z. Some z) it.at })
 
-takes_item : (k start : ℕ) (began told : List Told) (e : Edits) (t : Taken) (x y : Session) (i : Item) → start ≤ length x.history → may_build x.state.manager k ≡ true → Going x.state i
+takes_item : (k start : ℕ) (began told : List Told) (e : Edits) (t : Taken) (x y : Session) (i : Item) → start ≤ length x.history → may_build x.state k ≡ true → Going x.state i
     → Steps k (Service (services.Commit e)) x y → taken_of (step x.state k (Service (services.Commit e))).1.answer ≡ Some t → Takes (book_of x k start began told) i e t (book_of y k start began told)
 takes_item k start began told e t x y i le may it steps is =
-    by (commits s k i e steps.sound it.listed it.at (it_serves s.manager k may) (is_rooted s.manager k may))
+    by (commits s k i e steps.sound it.listed it.at (it_serves s k may) (is_rooted s k may))
   where
     s : Moment
     s = x.state
@@ -88,7 +88,7 @@ takes_item k start began told e t x y i le may it steps is =
         )
 
 -- for the command under way, if there is one
-pub takes : (k start : ℕ) (began told : List Told) (e : Edits) (t : Taken) (x y : Session) → start ≤ length x.history → may_build x.state.manager k ≡ true
+pub takes : (k start : ℕ) (began told : List Told) (e : Edits) (t : Taken) (x y : Session) → start ≤ length x.history → may_build x.state k ≡ true
     → Steps k (Service (services.Commit e)) x y → taken_of (step x.state k (Service (services.Commit e))).1.answer ≡ Some t
     → IfSome (book_of x k start began told).under (λ i. Takes (book_of x k start began told) i e t (book_of y k start began told))
 takes k start began told e t x y le may steps is = by (current x.state) refl

@@ -1,5 +1,5 @@
 -- An event of a build leaves an entry: the one worker never waits.
-use Rattle.std.proofs.Common.{◌≡◌, ℕ, Bool, true, false, not, nat_le, List, [], ◌∷◌, length, Option, Some, None, refl, sym, ap, ◌∙◌}
+use Rattle.std.proofs.Common.{◌≡◌, ℕ, Bool, true, false, not, ◌&&◌, nat_le, List, [], ◌∷◌, length, Option, Some, None, refl, sym, ap, ◌∙◌}
 use Rattle.std.specs.Prelude.{slice_get}
 use Rattle.std.specs.Option.{option_map}
 use Rattle.std.specs.FinMap.{contains_key}
@@ -18,12 +18,13 @@ use Rattle.core_event.specs.declared.event.Event.{Event}
 use Rattle.core_event.specs.declared.event.Event.TheVariants.{Begin, Batch, EndBatch, End, Service}
 use Rattle.core_event.specs.declared.reply.Refusal.{Refusal}
 use Rattle.core_event.specs.declared.reply.Refusal.TheVariants as refusals
-use Rattle.core_event.specs.declared.service.Purpose.TheVariants.{Build}
+use Rattle.core_event.specs.declared.service.Purpose.TheVariants.{Build, Save}
 use Rattle.core_event.specs.declared.service.ServiceEvent.{ServiceEvent}
-use Rattle.core_event.specs.declared.service.ServiceEvent.TheVariants.{Checkout, CheckIn, Handed, Commit, Clean}
+use Rattle.core_event.specs.declared.service.ServiceEvent.TheVariants.{Checkout, CheckIn, Handed, Commit, Clean, Saving}
 use Rattle.core_event.specs.Replies.{is_attempt, is_conflict}
 use Rattle.pass_table.specs.Passes.{Passes, serves}
 use Rattle.sched_rules.specs.declared.ws_atom.WsAtom.{WsAtom}
+use Rattle.service_desk.specs.Desks.{is_building, is_saving, may_end}
 use Rattle.service_desk.specs.Refusals.{commands_of, no_builder, not_serving, project_causes, scope_causes, site_causes, unrooted}
 use Rattle.service_desk.specs.Sites.{site_in}
 use Rattle.ws_content.specs.Deeds.{edit_refusal}
@@ -60,8 +61,8 @@ calm_first [] all r h = cc
 calm_first (None ∷ os) all r h = calm_first os all.1 r h
 calm_first (Some x ∷ os) all r h = all.0 r h
 
-calm_serving : (passes : Passes WsAtom) (k : ℕ) → Calm (not_serving passes k)
-calm_serving passes k = calm_when (not (serves passes k)) (refusals.NotServices passes.services) refl
+calm_serving : (passes : Passes WsAtom) (fits : Bool) (k : ℕ) → Calm (not_serving passes fits k)
+calm_serving passes fits k = calm_when (not (serves passes k && fits)) (refusals.NotServices passes.services) refl
 
 calm_rooted : (s : Moment) (k : ℕ) → Calm (unrooted s.manager.passes.rules k)
 calm_rooted s k = calm_when _ (refusals.NotContained _) refl
@@ -84,9 +85,9 @@ calm_builder : (builders : Names) (o : Option Command) → Calm (no_builder buil
 calm_builder builders None r h = cc
 calm_builder builders (Some c) r h = calm_when _ (refusals.NoBuilder c.builder) refl r h
 
-calm_site : (s : Moment) (k : ℕ) (project : List ℕ) (index : ℕ) → AllCalm (site_causes s.manager.passes s.resources.tree s.desk.builders k project index)
+calm_site : (s : Moment) (k : ℕ) (project : List ℕ) (index : ℕ) → AllCalm (site_causes s.manager.passes s.resources.tree s.desk k project index)
 calm_site s k project index = (
-  calm_serving s.manager.passes k,
+  calm_serving s.manager.passes (is_building s.desk.serving) k,
   (
     calm_rooted s k,
     (
@@ -123,15 +124,19 @@ calm_commit s e (Some site) r h = calm_edits (outputs.refusal s.resources site.o
 
 calm_causes : (s : Moment) (k : ℕ) (x : ServiceEvent) → AllCalm (service_causes s k x)
 calm_causes s k (Checkout (Build kind scope)) = (calm_rooted s k, (calm_out s.manager.passes.services, calm_scope s.resources.tree scope))
-calm_causes s k (CheckIn outcome) = (calm_serving s.manager.passes k, tt)
+calm_causes s k (Checkout (Save kind)) = (calm_out s.manager.passes.services, tt)
+calm_causes s k (CheckIn outcome) = (calm_serving s.manager.passes (may_end s.desk.serving outcome) k, tt)
 calm_causes s k (Handed project index kind) = calm_site s k project index
-calm_causes s k (Commit edits) = (calm_serving s.manager.passes k, (calm_build (current s), (calm_rooted s k, (calm_commit s edits (current s), tt))))
+calm_causes s k (Commit edits) = (calm_serving s.manager.passes (is_building s.desk.serving) k, (calm_build (current s), (calm_rooted s k, (calm_commit s edits (current s), tt))))
 calm_causes s k (Clean project index) = calm_site s k project index
+calm_causes s k (Saving states) = (calm_serving s.manager.passes (is_saving s.desk.serving) k, tt)
 
 -- what is served is answered
 served_tried : (s : Moment) (k : ℕ) (x : ServiceEvent) → is_attempt (Service x) (serve s k x).1 ≡ false
 served_tried s k (Checkout (Build kind scope)) = refl
+served_tried s k (Checkout (Save kind)) = refl
 served_tried s k (CheckIn outcome) = refl
+served_tried s k (Saving states) = refl
 served_tried s k (Handed project index kind) = of (site_in s.resources.tree project index)
   where
     of : (o : Option Site) → is_attempt (Service (Handed project index kind)) (hand s o kind).1 ≡ false
@@ -163,7 +168,7 @@ pub building_tried : (s : Moment) (e : Event) → IsBuilding e → IsSingle s.ma
 building_tried s e b single = each (λ v. only_tried (entry_of s 1 v) ≡ false)
     (λ rule. never_tried s (Begin rule) tt single)
     (never_tried s Batch tt single)
-    (λ x. service_tried s 1 x)
+    (λ x of. service_tried s 1 x)
     (never_tried s EndBatch tt single)
     (λ rule. never_tried s (End rule) tt single) e b
 
@@ -191,6 +196,6 @@ commit_answered s k e h = by (first_cause (service_causes s k (Commit e))) refl
     made (Some site) none g = cc
 
     by : (r : Option Refusal) → first_cause (service_causes s k (Commit e)) ≡ r → ⊥
-    by None is = made (current s) (no_cause (not_serving s.manager.passes k) (no_build (current s)) (unrooted s.manager.passes.rules k) (edit_cause s.resources e (current s)) is)
+    by None is = made (current s) (no_cause (not_serving s.manager.passes (is_building s.desk.serving) k) (no_build (current s)) (unrooted s.manager.passes.rules k) (edit_cause s.resources e (current s)) is)
         (sym (ap taken_of (served s k (Commit e) is).answer) ∙ h)
     by (Some r) is = let got = sym (ap taken_of (refused s k (Commit e) r is).answer) ∙ h in cc

@@ -8,7 +8,7 @@ use Rattle.ws_core.specs.States.{Moment}
 use Rattle.ws_core.specs.Sessions.{Session}
 use Rattle.ws_core.specs.Histories.{replay}
 use Rattle.build_history.specs.Calls.{calls, WereCalled}
-use Rattle.build_history.specs.Events.{IsOwn, NoServices}
+use Rattle.build_history.specs.Events.{IsOwn, NoBuilds}
 use Rattle.build_history.proofs.Calls.{called_append, called_none, calls_append, no_calls}
 use Rattle.build_history.proofs.Handings.{answers_on, plain_answers}
 use Rattle.build_history.proofs.Names.{replay_append}
@@ -81,8 +81,8 @@ serves_on ms x y z a b c p q =
       keeps = λ sound. settling.keeps_on ms (reached x) (reached y) (reached z) p.entries q.entries on (p.keeps sound) (q.keeps (p.keeps sound).sound);
     }
 
--- without an event of the services no builder is called or fails, nothing is committed, and no build settles
-pub serves_quietly : (ms : Meanings) (x y : Session) (told : List Told) (l : List Entry) → y.opened ≡ x.opened → y.history ≡ x.history ++ l → NoServices l → Serves ms x y told told
+-- where nothing is asked of the services for a build, no builder is called or fails, nothing is committed, and no build settles
+pub serves_quietly : (ms : Meanings) (x y : Session) (told : List Told) (l : List Entry) → y.opened ≡ x.opened → y.history ≡ x.history ++ l → NoBuilds l → Serves ms x y told told
 serves_quietly ms x y told l o h quiet = record {
   opened = o;
   entries = l;

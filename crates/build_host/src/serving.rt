@@ -32,7 +32,7 @@ pub fn hand<T: Remembers + Drop>(
     kind: BuildKind,
 ) -> Result<Given, NoMemory>
     requires alone { IsAlone core.old.state }
-    requires may { may_build core.old.state.manager 1 ≡ true }
+    requires may { may_build core.old.state 1 ≡ true }
     requires described { IsItem (desc_at core.old.state.resources.tree) (item project.now index command.now) }
     ensures given { IfOk result (λ given. (first : ℕ) (began told : List Told) → first ≤ length core.old.history
         → Hands (book_of core.old 1 first began told) (item project.now index command.now) kind given (book_of core.new 1 first began told)) }
@@ -55,7 +55,7 @@ pub fn commit<T: Remembers + Drop>(
     edits: Edits,
 ) -> Result<Taken, NoMemory>
     requires alone { IsAlone core.old.state }
-    requires may { may_build core.old.state.manager 1 ≡ true }
+    requires may { may_build core.old.state 1 ≡ true }
     ensures taken { IfOk result (λ taken. (first : ℕ) (began told : List Told) → first ≤ length core.old.history
         → IfSome (book_of core.old 1 first began told).under (λ i. Takes (book_of core.old 1 first began told) i edits taken (book_of core.new 1 first began told))) }
     ensures same { OnErr result (core.new ≡ core.old) }

@@ -66,7 +66,7 @@ pub fn did<T: Remembers + Drop>(
 /// The worker, which may build, gives the services back. It takes no memory.
 pub fn check_in<T: Remembers + Drop>(core: &mut Core<T>, alloc: Global, outcome: BuildOutcome)
     requires alone { IsAlone core.old.state }
-    requires may { may_build core.old.state.manager 1 ≡ true }
+    requires may { may_build core.old.state 1 ≡ true }
     ensures steps { Steps 1 (Service (CheckIn (Build outcome))) core.old core.new }
     ensures goes { Goes core.old core.new }
 {

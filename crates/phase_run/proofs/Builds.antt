@@ -30,7 +30,7 @@ use Rattle.ws_core.specs.Histories.{after, replay}
 use Rattle.ws_core.specs.Sessions.{Session}
 use Rattle.build_core.specs.States.{state_of}
 use Rattle.build_core.specs.Histories.{book_of, deed_of, entries_of, given_of, service_deed, started_of, taken_of}
-use Rattle.build_history.specs.Events.{IsBuilding, IsOwn}
+use Rattle.build_history.specs.Events.{IsBuilding, IsOwn, is_for_build}
 use Rattle.build_history.proofs.Calls.{own_entry}
 use Rattle.build_history.proofs.Called.{went_on}
 use Rattle.build_history.proofs.Lists.{all_append, same_rest}
@@ -64,27 +64,30 @@ outcome_read (outcome.Refused n) = refl
 outcome_read outcome.Cleaned = refl
 outcome_read outcome.NoMemory = refl
 
-service_read : (x : ServiceEvent) (a : Answer) → wants_memory (events.Service x) ≡ wants_in (service_deed x a)
-service_read (services.CheckIn (outcomes.Build o)) a = outcome_read o
-service_read (services.Clean project index) a = refl
-service_read (services.Checkout (purposes.Build kind scope)) a = by (started_of a)
+service_read : (x : ServiceEvent) (a : Answer) → is_for_build x ≡ true → wants_memory (events.Service x) ≡ wants_in (service_deed x a)
+service_read (services.CheckIn (outcomes.Build o)) a of = outcome_read o
+service_read (services.CheckIn (outcomes.Save answer)) a of = absurd (let is : false ≡ true = of in cc)
+service_read (services.Saving states) a of = absurd (let is : false ≡ true = of in cc)
+service_read (services.Checkout (purposes.Save kind)) a of = absurd (let is : false ≡ true = of in cc)
+service_read (services.Clean project index) a of = refl
+service_read (services.Checkout (purposes.Build kind scope)) a of = by (started_of a)
   where
     by : (o : Option Started) → false ≡ wants_in (option_map (λ z. Checkout kind scope z) o)
     by None = refl
     by (Some z) = refl
-service_read (services.Handed project index kind) a = by (given_of a)
+service_read (services.Handed project index kind) a of = by (given_of a)
   where
     by : (o : Option Given) → false ≡ wants_in (option_map (λ z. Handing project index kind z) o)
     by None = refl
     by (Some z) = refl
-service_read (services.Commit edits) a = by (taken_of a)
+service_read (services.Commit edits) a of = by (taken_of a)
   where
     by : (o : Option Taken) → false ≡ wants_in (option_map (λ z. Commit edits z) o)
     by None = refl
     by (Some z) = refl
 
 event_read : (e : Event) (a : Answer) → IsBuilding e → wants_memory e ≡ wants_in (deed_of e a)
-event_read e a b = each (λ v. wants_memory v ≡ wants_in (deed_of v a)) (λ rule. refl) refl (λ x. service_read x a) refl (λ rule. refl) e b
+event_read e a b = each (λ v. wants_memory v ≡ wants_in (deed_of v a)) (λ rule. refl) refl (λ x of. service_read x a of) refl (λ rule. refl) e b
 
 first_calm : (s : Moment) (o : Option Deed) (es : List books.Entry) → AreCalm (option_to_list (option_map (at (state_of s)) o) ++ es) → (wants_in o ≡ false) × AreCalm es
 first_calm s None es h = (refl, h)

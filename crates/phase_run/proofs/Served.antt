@@ -1,36 +1,32 @@
--- What events of jobs, passes and commands leave to the builders: nothing.
-use Rattle.std.proofs.Common.{◌≡◌, ℕ, List, [], ◌∷◌, ◌++◌, map, refl, sym, ap, ◌∙◌, subst, append-nil}
-use Rattle.std.specs.Prelude.{None, Result, Ok, Err, OnOk, OnErr, MatchResult}
-use Rattle.std.specs.List.{AllByRecursion}
+-- What events that ask nothing of the services for a build leave to the builders: nothing.
+use Rattle.std.proofs.Common.{◌≡◌, ℕ, false, List, [], ◌∷◌, ◌++◌, map, refl, sym, ap, ◌∙◌, subst, append-nil}
+use Rattle.std.specs.Prelude.{Result, Ok, Err, OnOk, OnErr, MatchResult}
 use Rattle.builder_api.specs.Meanings.{Meanings}
 use Rattle.builder_api.specs.Told.{Told}
 use Rattle.core_event.specs.declared.entry.Entry.{Entry}
 use Rattle.core_event.specs.declared.event.Event.{Event}
 use Rattle.core_event.specs.declared.event.Event.TheVariants.{Enter, Leave, Schedule, Sleep, Wake, Cancel, Take, Finish, Begin, TryBegin, End, Transfer, Batch, EndBatch, Checkpoint, Operation, Service}
-use Rattle.core_event.specs.Events.{service_of}
 use Rattle.ws_core.specs.Histories.{entry_of, written}
 use Rattle.ws_core.specs.Sessions.{Session}
 use Rattle.run_order.proofs.Written.{finish_tried, written_more}
 use Rattle.run_order.specs.Alone.{IsCommand}
 use Rattle.run_order.specs.Lists.{entry, acts, Cut, Grew}
 use Rattle.run_order.specs.Parts.{CommandEntries}
+use Rattle.build_history.specs.Events.{NoBuilds, is_of_build}
 use Rattle.build_host.specs.Hosts.{Serves}
 use Rattle.build_host.specs.Laws.{serves_itself, serves_quietly}
 use Rattle.phase_run.specs.Inside.Doing.{Makes, Stops, TakesOne, TakesNone, Works}
 
-abbrev pub AllQuiet : List Entry → Type 0
-AllQuiet h = AllByRecursion (λ (x : Entry). service_of x.event ≡ None) h
-
-quiet_front : (h rest : List Entry) → AllQuiet (h ++ rest) → AllQuiet h
+quiet_front : (h rest : List Entry) → NoBuilds (h ++ rest) → NoBuilds h
 quiet_front [] rest q = tt
 quiet_front (x ∷ h) rest q = (q.0, quiet_front h rest q.1)
 
-module _ {A : Type 0} (act : A → ℕ × Event) (quiet : (x : A) → service_of (act x).1 ≡ None) where
-  quiet_acts : (xs : List A) (h : List Entry) → acts h ≡ map act xs → AllQuiet h
+module _ {A : Type 0} (act : A → ℕ × Event) (quiet : (x : A) → is_of_build (act x).1 ≡ false) where
+  quiet_acts : (xs : List A) (h : List Entry) → acts h ≡ map act xs → NoBuilds h
   quiet_acts [] [] e = tt
   quiet_acts [] (x ∷ h) e = cc
   quiet_acts (a ∷ xs) [] e = cc
-  quiet_acts (a ∷ xs) (x ∷ h) e = (ap (λ (p : ℕ × Event). service_of p.1) (head_of e) ∙ quiet a, quiet_acts xs h (tail_of e))
+  quiet_acts (a ∷ xs) (x ∷ h) e = (ap (λ (p : ℕ × Event). is_of_build p.1) (head_of e) ∙ quiet a, quiet_acts xs h (tail_of e))
     where
       head_of : acts (x ∷ h) ≡ map act (a ∷ xs) → (x.pass, x.event) ≡ act a
       head_of e = cc
@@ -50,8 +46,8 @@ module _ {A : Type 0} (act : A → ℕ × Event) (quiet : (x : A) → service_of
   either_serves (Ok x) ms xs a b told m = acts_serve ms xs a b told m
   either_serves (Err e) ms xs a b told m = cut_acts_serve ms xs a b told m
 
--- an event that a command may be is none of the services
-pub command_quiet : (e : Event) → IsCommand e → service_of e ≡ None
+-- an event that a command may be asks nothing of the services
+pub command_quiet : (e : Event) → IsCommand e → is_of_build e ≡ false
 command_quiet Enter c = absurd c
 command_quiet Leave c = absurd c
 command_quiet (Schedule n p u a) c = refl
@@ -70,8 +66,8 @@ command_quiet Checkpoint c = refl
 command_quiet (Operation op) c = refl
 command_quiet (Service x) c = absurd c
 
-event_quiet : (e : Event) (h : List Entry) → IsCommand e → CommandEntries 1 e h → AllQuiet h
-event_quiet e h c p = subst AllQuiet (sym p.1) (command_quiet e c, tt)
+event_quiet : (e : Event) (h : List Entry) → IsCommand e → CommandEntries 1 e h → NoBuilds h
+event_quiet e h c p = subst NoBuilds (sym p.1) (command_quiet e c, tt)
 
 pub event_serves : {X E : Type 0} (r : Result X E) (ms : Meanings) (e : Event) (a b : Session) (told : List Told) → IsCommand e
     → MatchResult r (λ _. Works (CommandEntries 1 e) a b) (λ _. Stops (Cut (CommandEntries 1 e)) a b) → Serves ms a b told told
@@ -90,7 +86,7 @@ pub none_serves : (ms : Meanings) (a b : Session) (told : List Told) → TakesNo
 none_serves ms a b told t = serves_quietly ms a b told [] t.opened (t.history ∙ sym (append-nil a.history)) tt
 
 -- an entry of its own was written
-pub one_serves : (ms : Meanings) (a b : Session) (told : List Told) (x : Entry) → b.opened ≡ a.opened → b.history ≡ a.history ++ x ∷ [] → service_of x.event ≡ None → Serves ms a b told told
+pub one_serves : (ms : Meanings) (a b : Session) (told : List Told) (x : Entry) → b.opened ≡ a.opened → b.history ≡ a.history ++ x ∷ [] → is_of_build x.event ≡ false → Serves ms a b told told
 one_serves ms a b told x o h quiet = serves_quietly ms a b told (x ∷ []) o h (quiet, tt)
 
 -- Finish was done, or wanted memory
@@ -99,7 +95,7 @@ pub finish_serves : {X E : Type 0} (r : Result X E) (ms : Meanings) (a b : Sessi
 finish_serves (Ok x) ms a b told o h e = one_serves ms a b told (entry_of a.state 1 Finish) o (h ∙ written_more a.history (entry_of a.state 1 Finish) (finish_tried a.state 1)) refl
 finish_serves (Err x) ms a b told o h e = same_serves ms a b told e
 
-acts_one : (k : ℕ) (e : Event) (h : List Entry) → service_of e ≡ None → acts h ≡ (k, e) ∷ [] → AllQuiet h
+acts_one : (k : ℕ) (e : Event) (h : List Entry) → is_of_build e ≡ false → acts h ≡ (k, e) ∷ [] → NoBuilds h
 acts_one k e h quiet is = quiet_acts {A = Unit {0}} (λ _. (k, e)) (λ _. quiet) (tt ∷ []) h is
 
 -- the worker entered
