@@ -12,13 +12,13 @@ use Rattle.save_run.specs.Saves as save_run
 use Rattle.save_run.specs.Saves.{CameTo, IsAnswered}
 use Rattle.ws_core.specs.Sessions.{Session}
 use Rattle.save_history.specs.Kept.{Keeper, IsKept}
-use Rattle.save_history.specs.Rounds.{HadSaves, Rounds, kept_in, rounds_of}
-use Rattle.save_history.specs.Stages.{HasSaved}
+use Rattle.save_history.specs.Rounds.{Rounds, kept_in}
 use Rattle.save_history.proofs.Rounds.{had_kept, had_same, had_unkept, home_kept, home_unkept, rounds_on, steps_stopped}
 use Rattle.save_history.proofs.Saved.{grew_kept, grew_unkept, made_kept, made_unkept, saved_kept, saved_stopped, saved_unkept}
 use Rattle.save_host.specs.declared.host.Try.{Try}
+use Rattle.save_host.specs.Inside.Answers.{Answers, IsUnanswered}
 use Rattle.save_host.specs.Inside.Hosts.{IsAt, IsFresh, IsStopped, IsBegun, AreKept, WasTried, IsOver, IsThrough, book_of}
-use Rattle.save_host.proofs.Places.{book_is, shape}
+use Rattle.save_host.proofs.Places.{book_is, fresh_of, shape}
 
 -- how the last deed ended a save, if it did
 abbrev ending_with : Option SaveAnswer → List Deed → Option SaveAnswer
@@ -50,14 +50,6 @@ module _ (kind : SaveKind) (deeds : List Deed) (o : SaveAnswer) (book : List Dee
 
   keeps_as : kept_in deeds ≡ kept_in book
   keeps_as = sym (kept_before_end deeds o) ∙ sym (ap kept_in is)
-
--- what holds of a save that was answered
-pub record Answers {D : Type 0} (moment : D → ℕ) (left_since : D → ℕ → Contents → Type 0) (may_leave : D → Contents → Type 0) (faults : D → ℕ)
-    (k : ℕ) (kind : SaveKind) (saved : Saved) (x y : Session) (keeper : Keeper D) (old new : List Told) : Type 0 where
-  pub made : HasSaved k kind saved x y
-  pub kept : IsKept moment left_since may_leave faults y keeper
-  pub home : (rounds_of x.history).under ≡ None → (rounds_of y.history).under ≡ None
-  pub had : (first : List Told) → HadSaves (rounds_of x.history).ended first old → HadSaves (rounds_of y.history).ended first new
 
 module _ {D : Type 0} (moment : D → ℕ) (left_since : D → ℕ → Contents → Type 0) (may_leave : D → Contents → Type 0) (faults : D → ℕ) (k : ℕ) (x y : Session) (keeper : Keeper D) (w : Option Try) (old new : List Told) where
   abbrev At : Type 0
@@ -128,3 +120,7 @@ module _ {D : Type 0} (moment : D → ℕ) (left_since : D → ℕ → Contents 
   pub answers : At → (kind : SaveKind) (saved : Saved) → IsAnswered kind saved (book_of x y w) old new → Done kind saved
   answers at kind (Ended o) is = ended_by at kind o is.deeds is.came (sym (book_is moment left_since may_leave faults k x y keeper w at) ∙ is.book)
   answers at kind (Stopped n) is = stopped_by at kind n is.1 (sym (book_is moment left_since may_leave faults k x y keeper w at) ∙ is.0)
+
+  -- and of one where memory wanted, and nothing was done
+  pub unanswered : At → book_of x y w ≡ [] → new ≡ old → IsUnanswered moment left_since may_leave faults x y keeper old new
+  unanswered at is quiet = let now = fresh_of moment left_since may_leave faults k x y keeper w at is in record { same = now.0; kept = now.2; quiet = quiet }
