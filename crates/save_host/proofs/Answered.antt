@@ -1,5 +1,6 @@
 -- What a save has done once it is answered.
-use Rattle.std.proofs.Common.{◌≡◌, ℕ, List, [], ◌∷◌, ◌++◌, Option, Some, None, refl, sym, ap, ◌∙◌, subst}
+use Rattle.std.proofs.Common.{◌≡◌, ℕ, List, [], ◌∷◌, ◌++◌, Option, Some, None, Result, Ok, Err, refl, sym, ap, ◌∙◌, subst}
+use Rattle.std.specs.Prelude.{IfOk, OnErr}
 use Rattle.ws_outside.specs.declared.contents.Contents.{Contents}
 use Rattle.save_kind.specs.declared.answer.SaveAnswer.{SaveAnswer}
 use Rattle.save_kind.specs.declared.kind.SaveKind.{SaveKind}
@@ -17,7 +18,7 @@ use Rattle.save_history.proofs.Rounds.{had_kept, had_same, had_unkept, home_kept
 use Rattle.save_history.proofs.Saved.{grew_kept, grew_unkept, made_kept, made_unkept, saved_kept, saved_stopped, saved_unkept}
 use Rattle.save_host.specs.declared.host.Try.{Try}
 use Rattle.save_host.specs.Inside.Answers.{Answers, IsUnanswered}
-use Rattle.save_host.specs.Inside.Hosts.{IsAt, IsFresh, IsStopped, IsBegun, AreKept, WasTried, IsOver, IsThrough, book_of}
+use Rattle.save_host.specs.Inside.Hosts.{IsAt, IsFresh, IsStopped, IsBegun, AreKept, WasTried, IsOver, IsThrough, IsReady, book_of}
 use Rattle.save_host.proofs.Places.{book_is, fresh_of, shape}
 
 -- how the last deed ended a save, if it did
@@ -124,3 +125,22 @@ module _ {D : Type 0} (moment : D → ℕ) (left_since : D → ℕ → Contents 
   -- and of one where memory wanted, and nothing was done
   pub unanswered : At → book_of x y w ≡ [] → new ≡ old → IsUnanswered moment left_since may_leave faults x y keeper old new
   unanswered at is quiet = let now = fresh_of moment left_since may_leave faults k x y keeper w at is in record { same = now.0; kept = now.2; quiet = quiet }
+
+  -- the same of what a host has come to that has the pass and the beginning that it had
+  module _ {E : Type 0} (r : Result Saved E) (l : ℕ) (began : Session) (pass : l ≡ k) (same : began ≡ x) (ready : IsReady moment left_since may_leave faults l began y keeper w) where
+    there : At
+    there = subst (λ n. IsAt moment left_since may_leave faults n x y keeper w) pass (subst (λ b. IsAt moment left_since may_leave faults l b y keeper w) same ready.at)
+
+    pub made_answered : (kind : SaveKind) → IfOk r (λ saved. IsAnswered kind saved (book_of began y w) old new) → IfOk r (λ saved. Done kind saved)
+    made_answered kind = by r
+      where
+        by : (r : Result Saved E) → IfOk r (λ saved. IsAnswered kind saved (book_of began y w) old new) → IfOk r (λ saved. Done kind saved)
+        by (Ok saved) is = answers there kind saved (subst (λ b. IsAnswered kind saved (book_of b y w) old new) same is)
+        by (Err e) is = tt
+
+    pub made_unanswered : OnErr r ((book_of began y w ≡ []) × (new ≡ old)) → OnErr r (IsUnanswered moment left_since may_leave faults x y keeper old new)
+    made_unanswered = by r
+      where
+        by : (r : Result Saved E) → OnErr r ((book_of began y w ≡ []) × (new ≡ old)) → OnErr r (IsUnanswered moment left_since may_leave faults x y keeper old new)
+        by (Ok saved) is = tt
+        by (Err e) is = unanswered there (subst (λ b. book_of b y w ≡ []) same is.0) is.1
