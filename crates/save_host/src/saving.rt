@@ -31,6 +31,7 @@ fn made<'a, D: Disk, P: Participant>(
     requires fresh { book_of host.old.began.now.value host.old.core.now host.old.written ≡ [] }
     ensures same_core { host.new.core.ghost_name ≡ host.old.core.ghost_name }
     ensures same_keeper { host.new.keeper.ghost_name ≡ host.old.keeper.ghost_name }
+    ensures began { host.new.keeper.now.began ≡ host.old.keeper.now.began }
     ensures answered { IfOk result (λ saved. Answers D.moment D.left_since D.may_leave D.faults host.old.pass kind saved host.old.began.now.value host.new.core.now host.new.keeper.now
         (map (λ p. P.tells p) parts.old) (map (λ p. P.tells p) parts.new)) }
     ensures unanswered { OnErr result (IsUnanswered D.moment D.left_since D.may_leave D.faults host.old.began.now.value host.new.core.now host.new.keeper.now
@@ -50,6 +51,7 @@ fn hosted<D: Disk, P: Participant>(
 ) -> Result<Saved, NoMemory>
     requires entered { has_entered pass core.old.state ≡ true }
     requires kept { IsKept D.moment D.left_since D.may_leave D.faults core.old keeper.old }
+    ensures began { keeper.new.began ≡ keeper.old.began }
     ensures answered { IfOk result (λ saved. Answers D.moment D.left_since D.may_leave D.faults pass kind saved core.old core.new keeper.new
         (map (λ p. P.tells p) parts.old) (map (λ p. P.tells p) parts.new)) }
     ensures unanswered { OnErr result (IsUnanswered D.moment D.left_since D.may_leave D.faults core.old core.new keeper.new
@@ -97,6 +99,8 @@ pub fn save<D: Disk, P: Participant>(
     ensures same { OnErr result (core.new ≡ core.old) }
     ensures entered { has_entered pass core.new.state ≡ true }
     ensures home { (rounds_of core.new.history).under ≡ None }
+    // the store is as save_history says, since it was opened
+    ensures began { keeper.new.began ≡ keeper.old.began }
     ensures kept { IsKept D.moment D.left_since D.may_leave D.faults core.new keeper.new }
     // participants had the calls of this save, and no others
     ensures had { (first : List Told) → HadSaves (rounds_of core.old.history).ended first (map (λ p. P.tells p) parts.old)

@@ -16,6 +16,7 @@ returns-clause-stays g c =
       refl,
       refl,
       refl,
+      refl,
       λ ready. finish_ready d.moment d.left_since d.may_leave d.faults s.pass s.began.now.value s.core.now c.check_in.new.core s.keeper.now s.written ready c.args.answer c.requires.ends c.check_in.ensures,
     )
 

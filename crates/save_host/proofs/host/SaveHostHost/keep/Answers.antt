@@ -17,6 +17,7 @@ returns-clause-stays g c =
       refl,
       refl,
       refl,
+      refl,
       λ ready. keep_ready d.moment d.left_since d.may_leave d.faults s.pass s.began.now.value s.core.now c.keep.new.core s.keeper.now s.written ready c.requires.begun.0 c.requires.begun.1 c.keep.result c.args.states e.kept e.same,
     )
 

@@ -11,6 +11,7 @@ returns-clause-stays g c =
       refl,
       refl,
       refl,
+      refl,
       λ ready. start_ready d.moment d.left_since d.may_leave d.faults s.pass s.began.now.value s.core.now c.begin.new.core s.keeper.now s.written ready c.begin.result c.args.kind c.requires.fresh e.starts e.same,
     )
 
