@@ -11,12 +11,12 @@ use Rattle.save_round.specs.Firsts.{FirstsHad}
 use Rattle.save_round.specs.Rounds.{HasStoppedSaving, HaveAnswered}
 use Rattle.save_run.specs.declared.host.WriteFault.{WriteFault}
 use Rattle.save_run.specs.declared.host.WriteFault.TheVariants as write
-use Rattle.save_run.specs.Books.{Deed, Start, Keep, Write, Finish, HasBegun, noted, outcome_of}
+use Rattle.save_run.specs.Books.{Deed, Start, Keep, Write, Finish, EndsUnkept, HasBegun, noted, outcome_of}
 use Rattle.save_run.specs.Saves.{CameTo, HasEnded, HasStopped}
 use Rattle.save_run.specs.Inside.Courses.{Gathered, HasStored, IsKeptOr, IsStored, Went, end_of, stop_of}
 use Rattle.save_run.proofs.Rounds.{asking_stopped, gather, nameless, round}
 
-unkept : (kind : SaveKind) (o : SaveAnswer) (b : List Deed) (xs ys : List Told) → HasBegun b kind → (o ≡ answer.Saved → ⊥) → CameTo kind o [] xs ys → Went kind o b xs ys
+unkept : (kind : SaveKind) (o : SaveAnswer) (b : List Deed) (xs ys : List Told) → HasBegun b kind → EndsUnkept o → CameTo kind o [] xs ys → Went kind o b xs ys
 unkept kind o b xs ys begun other came = record { deeds = []; came = came; book = begun; may = (kind, inl (begun, other)) }
 
 wrote : (kind : SaveKind) (states : List (List ℕ × PartState)) (result : Result (Unit {0}) WriteFault) (b : List Deed) (xs ys : List Told) → b ≡ Start kind None ∷ Keep states ∷ Write kind result ∷ []
@@ -34,7 +34,7 @@ stored_as kind states (Err write.TooLarge) b xs ys zs g (inr h) t = cc
 stored_as kind states (Err write.NumbersUsed) b xs ys zs g (inl is) t = wrote kind states (Err write.NumbersUsed) b xs zs is (states, refl, round kind RolledBack states xs ys zs g t)
 stored_as kind states (Err write.NumbersUsed) b xs ys zs g (inr h) t = cc
 stored_as kind states (Err write.Memory) b xs ys zs g (inl is) t = wrote kind states (Err write.Memory) b xs zs is (inr (inr (states, refl, round kind RolledBack states xs ys zs g t)))
-stored_as kind states (Err write.Memory) b xs ys zs g (inr h) t = unkept kind answer.NoMemory b xs zs h.1 (λ s. cc) (inr (inl (refl, (states, round kind RolledBack states xs ys zs g t))))
+stored_as kind states (Err write.Memory) b xs ys zs g (inr h) t = unkept kind answer.NoMemory b xs zs h.1 tt (inr (inl (refl, (states, round kind RolledBack states xs ys zs g t))))
 
 -- a save in which all answered
 pub went_stored : (kind : SaveKind) (states : List (List ℕ × PartState)) (o : SaveAnswer) (b : List Deed) (xs ys zs : List Told) → Gathered kind states xs ys → HasStored kind states o b ys zs → Went kind o b xs zs
@@ -42,11 +42,11 @@ went_stored kind states o b xs ys zs g h = subst (λ a. Went kind a b xs zs) (sy
 
 -- a save that a participant stopped
 pub went_stopped : (kind : SaveKind) (fault : RoundFault) (o : SaveAnswer) (b : List Deed) (xs ys : List Told) → HasBegun b kind → o ≡ stop_of fault → HasStopped kind fault xs ys → Went kind o b xs ys
-went_stopped kind (Failed name) o b xs ys begun is stop = subst (λ a. Went kind a b xs ys) (sym is) (unkept kind (answer.ParticipantFailed name) b xs ys begun (λ s. cc) (refl, stop))
-went_stopped kind Memory o b xs ys begun is stop = subst (λ a. Went kind a b xs ys) (sym is) (unkept kind answer.NoMemory b xs ys begun (λ s. cc) (inl (refl, stop)))
+went_stopped kind (Failed name) o b xs ys begun is stop = subst (λ a. Went kind a b xs ys) (sym is) (unkept kind (answer.ParticipantFailed name) b xs ys begun tt (refl, stop))
+went_stopped kind Memory o b xs ys begun is stop = subst (λ a. Went kind a b xs ys) (sym is) (unkept kind answer.NoMemory b xs ys begun tt (inl (refl, stop)))
 
 unnamed : (kind : SaveKind) (name : List ℕ) (b : List Deed) (xs ys : List Told) → Went kind (answer.ParticipantFailed name) b xs ys → Went kind answer.NoMemory b xs ys
-unnamed kind name b xs ys w = unkept kind answer.NoMemory b xs ys (w.book ∙ ap (λ ds. Start kind None ∷ ds) w.came.0) (λ s. cc) (inl (refl, nameless kind (Failed name) xs ys w.came.1))
+unnamed kind name b xs ys w = unkept kind answer.NoMemory b xs ys (w.book ∙ ap (λ ds. Start kind None ∷ ds) w.came.0) tt (inl (refl, nameless kind (Failed name) xs ys w.came.1))
 
 -- the same answer, or one whose name couldn't be copied
 pub went_or : (kind : SaveKind) (o o' : SaveAnswer) (b : List Deed) (xs ys : List Told) → IsKeptOr o o' → Went kind o b xs ys → Went kind o' b xs ys

@@ -1,5 +1,5 @@
 -- What a host has done for its save, as contracts see it.
-use Rattle.std.specs.Prelude.{◌≡◌, ◌≢◌, ◌⊎◌, ℕ, List, [], ◌∷◌, ◌++◌, Option, None, Result, Ok, Err}
+use Rattle.std.specs.Prelude.{◌≡◌, ◌⊎◌, ℕ, List, [], ◌∷◌, ◌++◌, Option, None, Result, Ok, Err}
 use Rattle.save_kind.specs.declared.answer.SaveAnswer.{SaveAnswer}
 use Rattle.save_kind.specs.declared.answer.SaveAnswer.TheVariants as answer
 use Rattle.save_kind.specs.declared.kind.SaveKind.{SaveKind}
@@ -38,6 +38,15 @@ outcome_of (Err write.TooLarge) = answer.SaveTooLarge
 outcome_of (Err write.NumbersUsed) = answer.SaveNumbers
 outcome_of (Err write.Memory) = answer.NoMemory
 
--- a save that began may end so: where nothing was kept not as saved, and after a write as that says
+-- a save in which nothing was kept ends so: a participant failed, or memory wanted
+abbrev pub EndsUnkept : SaveAnswer → Type 0
+EndsUnkept answer.Saved = ⊥
+EndsUnkept answer.SaveFailed = ⊥
+EndsUnkept (answer.ParticipantFailed name) = Unit {0}
+EndsUnkept answer.SaveTooLarge = ⊥
+EndsUnkept answer.SaveNumbers = ⊥
+EndsUnkept answer.NoMemory = Unit {0}
+
+-- a save that began may end so: as one in which nothing was kept, and after a write as that says
 abbrev pub MayEnd : List Deed → SaveAnswer → Type 0
-MayEnd deeds o = (kind : SaveKind) × ((HasBegun deeds kind × (o ≢ answer.Saved)) ⊎ ((result : Result (Unit {0}) WriteFault) × WasTried deeds kind result × (o ≡ outcome_of result)))
+MayEnd deeds o = (kind : SaveKind) × ((HasBegun deeds kind × EndsUnkept o) ⊎ ((result : Result (Unit {0}) WriteFault) × WasTried deeds kind result × (o ≡ outcome_of result)))

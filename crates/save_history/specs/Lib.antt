@@ -1,0 +1,6 @@
+pub mod Steps
+pub mod Points
+pub mod Rounds
+pub mod Saves
+pub mod Kept
+pub mod Stages

@@ -1,0 +1,2 @@
+-- Words that private code alone speaks of.
+pub mod Inside
