@@ -10,3 +10,6 @@ pub mod Responded
 pub mod Checked
 pub mod Answered
 pub mod Built
+pub mod Taking
+pub mod KeptAlike
+pub mod Blocks

@@ -9,6 +9,6 @@ returns-in_err-run_phase-clause-done g c = on_err _ _ c.from_residual.result c.f
 pub returns-clause-done : goal.returns-clause-done
 returns-clause-done g c = record {
   made = c.in_ok-run_phase.ensures.done;
-  told = tells_from c.history-from.result.now c.args.core.now.history c.run_phase.new.core.history c.in_ok-run_phase.ensures.done.grew.0 (map (λ l. g.L.Listener.heard l) c.args.listeners.now) (map (λ l. g.L.Listener.heard l) c.tell_since.new.listeners)
+  told = tells_from c.history-from.result.now c.args.space.now.core.history c.run_phase.new.space.core.history c.in_ok-run_phase.ensures.done.grew.0 (map (λ l. g.L.Listener.heard l) c.args.listeners.now) (map (λ l. g.L.Listener.heard l) c.tell_since.new.listeners)
       c.history-from.ensures.history c.in_ok-run_phase.ensures.done.grew.1 c.tell_since.ensures;
 }
