@@ -13,4 +13,4 @@ invariant-loop-name g l = Makes (Parts (Made g.M.Meanings.meaning) (jobs_plan l.
 -- each turn takes one that was left
 abbrev pub decreases-loop-name : goal.decreases-loop-name
 decreases-loop-name g l = left l.space.core.state
-    × (l.space.keeper.began ≡ l.fn.space.keeper.began) × (l.space.began.value ≡ l.fn.space.began.value)
+    × (l.space.keeper.began ≡ l.fn.space.keeper.began) × (l.space.began ≡ l.fn.space.began)
