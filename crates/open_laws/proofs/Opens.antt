@@ -4,7 +4,7 @@ use Rattle.std.proofs.lemmas.List.Elements.{recursion_from_All}
 use Rattle.std.specs.Prelude.{Option, Some, None, IfSome}
 use Rattle.std.specs.List.{All, AllByRecursion}
 use Rattle.ws_elem.specs.Stamps.{SameContents}
-use Rattle.ws_elem.specs.Trees.{Tree, Whole}
+use Rattle.ws_elem.specs.Trees.{Tree}
 use Rattle.proj_desc.specs.Canonical.{IsCommandText}
 use Rattle.op_kind.specs.Sound.{IsConsistent}
 use Rattle.op_kind.specs.Stamps.{IsKnown}
@@ -12,7 +12,6 @@ use Rattle.ws_durable.specs.Saved.{Saved, SavedBuilt, SavedKept, built_trees, ke
 use Rattle.save_form.specs.Laws.{FitEach}
 use Rattle.save_build.specs.Told.{AreFit}
 use Rattle.save_read.specs.Sayable.{IsSayableBuilt, IsSayableKept, IsSayableTree}
-use Rattle.save_valid.specs.Rules.{Each, IsBelow, counters_of}
 use Rattle.save_valid.specs.Descriptions.{IsBuiltIn}
 use Rattle.save_format.specs.Valid.{Valid}
 use Rattle.ws_core.specs.Opened.{IsOpenable, resources_of}
@@ -36,11 +35,11 @@ built_fit before (b ∷ bs) h = (h.0.tree.0, built_fit (Some b) bs h.1)
 
 kept_fit : (before : Option SavedKept) (ks : List SavedKept) → FitEach IsSayableKept before ks → AllByRecursion AreFit (kept_trees ks)
 kept_fit before [] h = tt
-kept_fit before (k ∷ ks) h = by k.tree h.0.tree
+kept_fit before (k ∷ ks) h = by k.tree h.0.tree (kept_fit (Some k) ks h.1)
   where
-    by : (o : Option Tree) → IfSome o IsSayableTree → AllByRecursion AreFit (with_tree o (kept_trees ks))
-    by None g = kept_fit (Some k) ks h.1
-    by (Some t) g = (g.0, kept_fit (Some k) ks h.1)
+    by : (o : Option Tree) → IfSome o IsSayableTree → AllByRecursion AreFit (kept_trees ks) → AllByRecursion AreFit (with_tree o (kept_trees ks))
+    by None g rest = rest
+    by (Some t) g rest = (g.0, rest)
 
 -- ---- what may be kept
 
