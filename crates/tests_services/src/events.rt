@@ -55,7 +55,7 @@ pub fn event(rt: &(impl Abort + AllocGlobal), text: &str) -> Event {
         "end" => Event::End(rule(rt, rest)),
         "batch" => Event::Batch,
         "endbatch" => Event::EndBatch,
-        "checkout" | "checkin" | "handed" | "commit" | "clean" => {
+        "checkout" | "checkin" | "handed" | "commit" | "clean" | "saving" => {
             Event::Service(service(rt, word, rest))
         }
         _ => Event::Operation(operation(rt, word, rest)),

@@ -2,7 +2,7 @@
 use crate::asserting::{cut, gives, holds, let_go, must, number};
 use crate::events::event;
 use crate::services::project;
-use crate::telling::told;
+use crate::telling::{told, told_kept};
 use core_event::NoMemory;
 use elem_tree::LayerTree;
 use std::alloc::Global;
@@ -40,6 +40,20 @@ fn last(rt: &(impl Abort + AllocGlobal), core: &Core<LayerTree>) -> String {
     }
 }
 
+/// What the event of the pass gives; or what participants keep, where that is asked.
+fn played(
+    rt: &(impl Abort + AllocGlobal),
+    core: &mut Core<LayerTree>,
+    pass: u64,
+    text: &str,
+) -> String {
+    if text == "kept" {
+        return told_kept(rt, must(rt, core.kept_states(rt.alloc())).as_slice());
+    }
+    perform(rt, core, pass, text);
+    last(rt, core)
+}
+
 /// The row has a pass, some events, and what each of them gives; the last of these holds for the rest.
 fn play_row(rt: &(impl Abort + AllocGlobal), core: &mut Core<LayerTree>, row: &str) {
     let (pass, rest) = cut(row, '|');
@@ -50,8 +64,12 @@ fn play_row(rt: &(impl Abort + AllocGlobal), core: &mut Core<LayerTree>, row: &s
         if let Some(answer) = answers.next() {
             wanted = answer;
         }
-        perform(rt, core, number(pass), text);
-        gives(rt, text, last(rt, core).as_str(), wanted);
+        gives(
+            rt,
+            text,
+            played(rt, core, number(pass), text).as_str(),
+            wanted,
+        );
     }
 }
 

@@ -162,6 +162,32 @@ const KNOT: &str =
 0|commit; handed /B 0 10|touched 0 problems 0; delta, since 10 /A/src/a=1 /B/out/a=1 of /A/src in /B/out
 0|commit; checkin unsettled /A /B|touched 0 problems 0; ok"#;
 
+/// What is refused without the services, while another pass has them and of who has them for something else; states that are
+/// kept, each in the place of its participant's, the last of several; and those that are kept again where a save didn't end as
+/// saved, each with its own tree.
+const SAVES: &str = r#"0|enter; batch; project /P; file /P/a 1|id 1; ok
+0|kept; saving a=1; checkin saved; checkin save-failed|; refused 33 none
+0|checkout save 1; checkout save 2; checkout build 10|ok; refused 32 0; refused 15 null
+1|checkout save 1; saving a=1; checkin save-failed; begin /; checkout build 10; end /|refused 32 0; refused 33 0; refused 33 0; ok; refused 32 0; ok
+0|handed /P 0 10; commit; clean /P 0; checkin settled; checkin saved; take; leave|refused 33 0; refused 33 0; refused 33 0; refused 33 0; refused 33 0; refused 42
+0|saving a=1 b*=2; kept; file /P/b 2; checkin cleaned; checkin saved|ok; a=1, b=2 since; ok; refused 33 0; ok
+0|kept; checkin saved; saving a=1|a=1, b=2 since, / *, /P *, /P/b +; refused 33 none
+0|checkout save 2; saving a*=3 c=4; kept|ok; ok; a=3 since, b=2 since, / *, /P *, /P/b +, c=4
+0|delete /P/a; saving c*=5; kept|ok; ok; a=3 since, / *, /P *, /P/a -, b=2 since, / *, /P *, /P/a -, /P/b +, c=5 since
+0|checkin save-failed; kept|ok; a=1, b=2 since, / *, /P *, /P/a -, /P/b +
+0|checkout save 1; saving b=9; checkin participant b; kept|ok; ok; ok; a=1, b=2 since, / *, /P *, /P/a -, /P/b +
+0|checkout save 1; checkin save-too-large; checkout save 1; checkin save-numbers; checkout save 1; checkin save-no-memory|ok
+0|checkout save 1; saving a=5 a*=6; checkin saved; kept|ok; ok; ok; a=6 since, b=2 since, / *, /P *, /P/a -, /P/b +
+0|delete /P; kept|ok; a=6 since, / *, /P -, /P/b -, b=2 since, / *, /P -, /P/a -
+0|checkout save 1; saving; checkin saved; kept|ok; ok; ok; a=6 since, / *, /P -, /P/b -, b=2 since, / *, /P -, /P/a -
+0|begin /; checkout build 10; saving a=1; checkin saved; checkin save-failed; checkin settled|ok; ok; refused 33 0; refused 33 0; refused 33 0; ok
+0|checkout save 1; saving a=; checkin saved; kept; leave|ok; ok; ok; a="", b=2 since, / *, /P -, /P/a -; refused 42"#;
+
+#[test]
+fn states_are_kept_where_a_save_ends_as_saved(rt: HostRuntime) {
+    play_all(&rt, SAVES);
+}
+
 #[test]
 fn what_concerns_the_services_is_refused_in_order(rt: HostRuntime) {
     play_all(&rt, REFUSALS);

@@ -1,6 +1,6 @@
 //! Entries as rows tell them: the answer and what follows it, a comma between the lines. Of what is handed that is also the
 //! kind and the files that are seen of the inputs and in the output, of a plan the projects with their builders and the
-//! knots; and what is told.
+//! knots; and what is told. Of what participants keep the names and the bytes, with what changed since where one asks for it.
 use crate::asserting::must;
 use builder_api::{Handed, Knots, Plan, PlanOrder};
 use core_event::{Answer, Entry, NoMemory, Refusal};
@@ -8,6 +8,7 @@ use delta_kind::Delta;
 use op_kind::{Entries, OpRefusal};
 use proj_desc::DescCause;
 use report_text::{put_counted, put_named, put_node, put_path, put_rule, put_shown, put_text};
+use save_round::KeptState;
 use std::process::Abort;
 
 fn put_delta(out: &mut Vec<u8>, delta: &Delta) -> Result<(), NoMemory> {
@@ -148,6 +149,27 @@ fn joined(rt: &(impl Abort + AllocGlobal), lines: &str) -> String {
         must(rt, out.push_str(line.trim()));
     }
     out
+}
+
+fn put_kept(out: &mut Vec<u8>, kept: &[KeptState]) -> Result<(), NoMemory> {
+    for state in kept {
+        put_named(out, "", state.name.text().as_bytes())?;
+        put_named(out, "=", state.bytes.as_slice())?;
+        if let Some(delta) = &state.delta {
+            put_text(out, " since")?;
+            put_text(out, "\n")?;
+            put_delta(out, delta)?;
+        } else {
+            put_text(out, "\n")?;
+        }
+    }
+    Ok(())
+}
+
+pub fn told_kept(rt: &(impl Abort + AllocGlobal), kept: &[KeptState]) -> String {
+    let mut lines = Vec::new(rt.alloc());
+    must(rt, put_kept(&mut lines, kept));
+    joined(rt, must(rt, str::from_utf8(lines.as_slice())))
 }
 
 pub fn told(rt: &(impl Abort + AllocGlobal), entry: &Entry) -> String {
