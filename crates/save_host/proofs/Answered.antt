@@ -4,15 +4,13 @@ use Rattle.std.specs.Prelude.{IfOk, OnErr}
 use Rattle.ws_outside.specs.declared.contents.Contents.{Contents}
 use Rattle.save_kind.specs.declared.answer.SaveAnswer.{SaveAnswer}
 use Rattle.save_kind.specs.declared.kind.SaveKind.{SaveKind}
-use Rattle.save_kind.specs.declared.state.PartState.{PartState}
 use Rattle.save_round.specs.Told.{Told}
 use Rattle.save_run.specs.declared.command.Saved.{Saved}
 use Rattle.save_run.specs.declared.command.Saved.TheVariants.{Ended, Stopped}
 use Rattle.save_run.specs.Books.{Deed, Start, Keep, Write, Finish, outcome_of}
-use Rattle.save_run.specs.Saves as save_run
 use Rattle.save_run.specs.Saves.{CameTo, IsAnswered}
 use Rattle.ws_core.specs.Sessions.{Session}
-use Rattle.save_history.specs.Kept.{Keeper, IsKept}
+use Rattle.save_history.specs.Kept.{Keeper}
 use Rattle.save_history.specs.Rounds.{Rounds, kept_in}
 use Rattle.save_history.proofs.Rounds.{had_kept, had_same, had_unkept, home_kept, home_unkept, rounds_on, steps_stopped}
 use Rattle.save_history.proofs.Saved.{grew_kept, grew_unkept, made_kept, made_unkept, saved_kept, saved_stopped, saved_unkept}

@@ -5,10 +5,10 @@ ghost use Rattle.save_history.specs.Durables.{durable_of};
 ghost use Rattle.save_history.specs.Kept.{IsKept, IsTried, points_at};
 ghost use Rattle.save_host.specs.Inside.Hosts.{IsReady, book_of};
 
+use crate::NoMemory;
 use crate::durable::kept_now;
 use crate::keeper::Keeper;
 use crate::steps::{begin, check_in, keep};
-use crate::NoMemory;
 use elem_tree::LayerTree;
 use save_kind::{PartStates, SaveAnswer, SaveKind};
 use save_run::{Host, WriteFault};

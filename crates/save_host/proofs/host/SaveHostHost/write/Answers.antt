@@ -12,7 +12,7 @@ returns-clause-stays g c =
       refl,
       c.write-result.ensures.began,
       λ ready. write_ready d.moment d.left_since d.may_leave d.faults s.pass s.began.now.value s.core.now s.core.now s.keeper.now s.written ready c.args.kind c.write-result.new.keeper
-      (record { kind = c.args.kind; result = c.write-result.result }) c.requires.kept c.write-result.ensures.tried,
+          (record { kind = c.args.kind; result = c.write-result.result }) c.requires.kept c.write-result.ensures.tried,
     )
 
 pub returns-clause-written : goal.returns-clause-written

@@ -2,7 +2,6 @@ use Rattle.std.proofs.Common.{refl, sym, ap, subst}
 use Rattle.ws_durable.specs.Saved.{saved}
 use Rattle.save_history.specs.Points.{IsAsked}
 use Rattle.save_history.specs.Kept.{Keeper, IsKept, IsTried, points_at}
-use Rattle.save_host.specs.Inside.Writes.{write_of}
 use Rattle.save_host.proofs.Writing.{tried}
 use Rattle.save_host.proofs.keeper.Keeper.write.Goals as goal
 
