@@ -1,11 +1,11 @@
 -- Participants that get what they kept, one after another.
-use Rattle.std.proofs.Common.{◌≡◌, ℕ, zero, suc, ◌+◌, ◌<◌, ◌≤◌, Bool, true, if◌then◌else◌, List, [], ◌∷◌, ◌++◌, length, map, get_or, slice_get, slice_set, Some, Result, Ok, Err, IsSome, IsSomeAnd, OnErr, refl, sym, ap, ap₂, ◌∙◌, subst, append-nil, arith}
+use Rattle.std.proofs.Common.{◌≡◌, ℕ, zero, suc, ◌+◌, ◌<◌, ◌≤◌, Bool, true, false, if◌then◌else◌, List, [], ◌∷◌, ◌++◌, length, map, get_or, slice_get, slice_set, Option, Some, None, Result, Ok, Err, IsSome, IsSomeAnd, OnErr, refl, sym, ap, ap₂, ◌∙◌, subst, append-nil, arith}
 use Rattle.std.proofs.lemmas.List.{length-map}
 use Rattle.std.specs.declared.alloc.AllocError.{AllocError}
 use Rattle.save_round.specs.declared.restoring.KeptState.{KeptState}
 use Rattle.save_round.specs.Told.{Call, Told, HadCalls}
 use Rattle.save_round.specs.Firsts.{HadWhere, FirstsHad, firsts, by_place}
-use Rattle.save_round.specs.Restoring.{HasStoppedRestoring, WereRestored, kept_under, names, restores, restoring}
+use Rattle.save_round.specs.Restoring.{HasStoppedRestoring, WereRestored, kept_for_each, kept_under, kept_where, names, restores, restoring}
 use Rattle.save_round.proofs.Called.{and_then, as_well, named_kept, none_had, one_had, same_firsts}
 use Rattle.save_round.proofs.Places.{before_it}
 
@@ -115,3 +115,29 @@ module _ {A : Type 0} (tells : A → Told) where
   pub one_has : (kept : List KeptState) (answer : Result (Unit {0}) AllocError) (xs : List A) (at : ℕ) (d : A) → at < length xs
       → OnErr answer (IsSome (kept_under kept (tells (get_or xs at d)).named)) → OnErr answer (IsSomeAnd (slice_get (names (map tells xs)) at) (λ name. IsSome (kept_under kept name)))
   one_has kept answer xs at d lt has = subst (λ name. OnErr answer (IsSomeAnd name (λ n. IsSome (kept_under kept n)))) (sym (name_at xs at d lt)) has
+
+  kept_at : (kept : List KeptState) (bs : List Bool) (xs : List A) (at : ℕ) (b : Bool) (d : A) → slice_get bs at ≡ Some b → at < length xs
+      → slice_get (kept_where kept bs (map tells xs)) at ≡ Some (if b then kept_under kept (tells (get_or xs at d)).named else None)
+  kept_at kept [] xs zero b d is lt = cc
+  kept_at kept [] xs (suc at) b d is lt = cc
+  kept_at kept (c ∷ bs) [] at b d is lt = absurd (omega (arith, lt))
+  kept_at kept (c ∷ bs) (x ∷ xs) zero b d is lt = ap (λ (o : Option Bool). by o) is
+    where
+      by : Option Bool → Option (Option KeptState)
+      by None = None
+      by (Some e) = Some (if e then kept_under kept (tells x).named else None)
+  kept_at kept (c ∷ bs) (x ∷ xs) (suc at) b d is lt = kept_at kept bs xs at b d is (omega (arith, lt))
+
+  -- what is kept for the one at a place, where it is the first of its name
+  pub is_kept : (kept : List KeptState) (xs ys : List A) (at : ℕ) (b : Bool) (d : A) → ys ≡ xs → slice_get (firsts (map tells ys)) at ≡ Some b → b ≡ true → at < length xs
+      → slice_get (kept_for_each kept (map tells xs)) at ≡ Some (kept_under kept (tells (get_or ys at d)).named)
+  is_kept kept xs ys at b d same is first lt =
+      subst (λ zs. slice_get (kept_for_each kept (map tells zs)) at ≡ Some (kept_under kept (tells (get_or ys at d)).named)) same
+      (kept_at kept (firsts (map tells ys)) ys at true d (is ∙ ap Some first) (subst (λ zs. at < length zs) (sym same) lt))
+
+  -- and where it isn't
+  pub not_kept : (kept : List KeptState) (xs ys : List A) (at : ℕ) (b : Bool) → ys ≡ xs → slice_get (firsts (map tells ys)) at ≡ Some b → b ≡ false → at < length xs
+      → slice_get (kept_for_each kept (map tells xs)) at ≡ Some None
+  not_kept kept [] ys at b same is later lt = absurd (omega (arith, lt))
+  not_kept kept (x ∷ xs) ys at b same is later lt =
+      kept_at kept (firsts (map tells (x ∷ xs))) (x ∷ xs) at false x (subst (λ zs. slice_get (firsts (map tells zs)) at ≡ Some false) same (is ∙ ap Some later)) lt

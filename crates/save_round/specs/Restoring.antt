@@ -1,5 +1,5 @@
 -- Participants that get what they kept.
-use Rattle.std.specs.Prelude.{◌≡◌, ℕ, true, List, [], ◌∷◌, map, Option, Some, None, Result, Ok, Err, IsSomeAnd, IsSome, slice_get}
+use Rattle.std.specs.Prelude.{◌≡◌, ℕ, Bool, true, if◌then◌else◌, List, [], ◌∷◌, map, Option, Some, None, Result, Ok, Err, IsSomeAnd, IsSome, slice_get}
 use Rattle.std.specs.List.{find}
 use Rattle.std.specs.Str.{bytes_eq}
 use Rattle.std.specs.declared.alloc.AllocError.{AllocError}
@@ -20,6 +20,16 @@ restores (Some k) answer = Restored k.bytes k.delta answer ∷ []
 abbrev pub restoring : List KeptState → Result (Unit {0}) AllocError → Option (List ℕ) → List Call
 restoring kept answer None = []
 restoring kept answer (Some name) = restores (kept_under kept name) answer
+
+-- what is kept for each that is marked, by its name
+abbrev pub kept_where : List KeptState → List Bool → List Told → List (Option KeptState)
+kept_where kept [] xs = []
+kept_where kept (b ∷ bs) [] = []
+kept_where kept (b ∷ bs) (x ∷ xs) = (if b then kept_under kept x.named else None) ∷ kept_where kept bs xs
+
+-- what is kept for each: something only for the first of a name
+abbrev pub kept_for_each : List KeptState → List Told → List (Option KeptState)
+kept_for_each kept all = kept_where kept (firsts all) all
 
 -- the name of each
 abbrev pub names : List Told → List (List ℕ)

@@ -19,5 +19,5 @@ pub use notes::Notes;
 pub use participant::{PartFault, Participant};
 pub use participants::Participants;
 pub use res_path::NoMemory;
-pub use restoring::{KeptState, restore_all};
+pub use restoring::{KeptState, kept_for, restore_all};
 pub use round::{RoundFault, SaveRound};

@@ -2,7 +2,7 @@
 ghost use Rattle.std.specs.Prelude.{◌≡◌, ◌∷◌, [], ◌<◌, ℕ, true, length, map, Some, Ok, OnOk, OnErr, IfErr, IsErr, IsSome, IsSomeAnd, option_copied, slice_get};
 ghost use Rattle.save_round.specs.Told.{HadCalls};
 ghost use Rattle.save_round.specs.Firsts.{firsts, FirstsHad, by_place};
-ghost use Rattle.save_round.specs.Restoring.{HasStoppedRestoring, WereRestored, kept_under, names, restores, restoring};
+ghost use Rattle.save_round.specs.Restoring.{HasStoppedRestoring, WereRestored, kept_for_each, kept_under, names, restores, restoring};
 
 use crate::pass::{is_first, is_named};
 use crate::{Participant, Participants};
@@ -72,6 +72,23 @@ fn restore_one<P: Participant>(one: &mut P, kept: &[KeptState]) -> Result<(), No
     match kept_of(kept, one) {
         Some(state) => one.restored(&state.bytes, state.delta.as_ref()),
         None => Ok(()),
+    }
+}
+
+/// What is kept for the participant at the place: something only where it is the first of its name.
+pub fn kept_for<'a, P: Participant>(
+    parts: &Participants<P>,
+    kept: &'a [KeptState],
+    at: usize,
+) -> Option<&'a KeptState>
+    requires { at < length parts.now }
+    ensures { slice_get (kept_for_each kept.now (map (λ p. P.tells p) parts.now)) at ≡ Some (option_copied result) }
+{
+    let all = parts.as_slice();
+    if is_first(all, at) {
+        kept_of(kept, &all[at])
+    } else {
+        None
     }
 }
 

@@ -7,3 +7,5 @@ pub mod Steps
 pub mod Calls
 pub mod Begun
 pub mod Keeps
+pub mod Listed
+pub mod Lasts

@@ -1,10 +1,13 @@
--- What participants keep, as a save begins, goes on and ends.
-use Rattle.std.specs.Prelude.{ℕ, Bool, true, false, if◌then◌else◌, List, [], ◌∷◌, Some, None, unwrap_or}
-use Rattle.std.specs.FinMap.{insert}
+-- What participants keep, as a save begins, goes on and ends, and as a session begins.
+use Rattle.std.specs.Prelude.{ℕ, Bool, true, false, if◌then◌else◌, List, [], ◌∷◌, map, Some, None, unwrap_or}
+use Rattle.std.specs.FinMap.{insert, values}
+use Rattle.std.specs.Option.{option_map}
 use Rattle.ws_elem.specs.Trees.{Tree}
+use Rattle.delta_kind.specs.Deltas.{delta}
 use Rattle.save_kind.specs.declared.answer.SaveAnswer.{SaveAnswer}
 use Rattle.save_kind.specs.declared.answer.SaveAnswer.TheVariants.{Saved, SaveFailed, ParticipantFailed, SaveTooLarge, SaveNumbers, NoMemory}
 use Rattle.save_kind.specs.declared.state.PartState.{PartState}
+use Rattle.save_round.specs.declared.restoring.KeptState.{KeptState}
 use Rattle.core_event.specs.declared.service.Outcomes.{Outcomes}
 use Rattle.core_event.specs.declared.service.Outcomes.TheVariants.{Build, Save}
 use Rattle.ws_marks.specs.declared.state.State.{State}
@@ -59,3 +62,13 @@ keeping c states = record c { remembered = states_kept c.resources.tree c.rememb
 
 abbrev pub saves_ended : Outcomes → Contents → Contents
 saves_ended outcome c = record c { remembered = ended outcome c.remembered }
+
+-- ---- what participants kept, as a session that begins has it
+
+-- a state, with what changed from its tree to this one where it has one
+abbrev pub state_since : Tree → State Tree → KeptState
+state_since t s = record { name = s.participant; bytes = s.bytes; delta = option_map (λ before. delta before t) s.tree }
+
+-- all kept states so, in the order of the participants' names
+abbrev pub kept_since : Remembered → Tree → List KeptState
+kept_since r t = map (state_since t) (values r.kept)

@@ -8,12 +8,16 @@ ghost use Rattle.core_event.specs.declared.reply.Refusal.TheVariants.{Operation}
 ghost use Rattle.core_event.specs.Twice.{doubled, twice};
 ghost use Rattle.ws_content.specs.Deeds.{cleaned, committed, edit_refusal, operated, replied};
 ghost use Rattle.ws_content.specs.Handing.{handing};
-ghost use Rattle.ws_content.specs.Saves.{is_saved, keeping, saves_begun, saves_ended};
+ghost use Rattle.ws_durable.specs.Saved.{saved};
+ghost use Rattle.ws_lasting.specs.Saved.{lasting_of};
+ghost use Rattle.ws_content.specs.Saves.{is_saved, keeping, kept_since, saves_begun, saves_ended};
 ghost use Rattle.ws_content.specs.States.{at_names, at_places, shown_built, shown_kept, tree_alone};
 ghost use Rattle.ws_content.specs.Inside.Parts.{TellsEdits, TellsOperation, refused_reply};
 
 use crate::handing::since_built;
+use crate::lasting::durable_content;
 use crate::opening::Opened;
+use crate::restoring::kept_states;
 use crate::{NoMemory, building, keeping, opening, operating};
 use build_due::Site;
 use builder_api::{BuildKind, Edits, Handed};
@@ -22,9 +26,11 @@ use delta_kind::Delta;
 use op_kind::{Op, OpError, OpRefusal, Side};
 use output_commit::{EditError, EditRefusal};
 use save_kind::{PartStates, SaveAnswer};
+use save_round::KeptState;
 use std::alloc::{AllocError, Global};
 use std::marker::Model;
 use tree_memory::{Remembers, Sparing};
+use ws_durable::Durable;
 use ws_elem::ElemMap;
 use ws_marks::{Marks, Record, State};
 
@@ -252,6 +258,24 @@ impl<T: Remembers + Drop> Content<T> {
         ensures { IfOk result (λ d. d ≡ delta self.now.remembered.start self.now.resources.tree) }
     {
         self.tree.since(alloc, &self.start)
+    }
+
+    /// What of all this lasts over a save, as a value of its own that shares the texts: the tree and what stands beside it, what
+    /// was built last and what participants keep, all without transient markers. Of a save under way it has what is kept now.
+    /// Costs a put for each element of the tree, and for each tree that was built last or is kept a copy of it and a look at
+    /// each of its elements.
+    pub fn durable(&self, alloc: Global) -> Result<Durable, NoMemory>
+        ensures { IfOk result (λ d. saved d ≡ lasting_of self.now.resources self.now.remembered.built self.now.remembered.kept) }
+    {
+        durable_content(alloc, &self.tree, &self.side, &self.marks)
+    }
+
+    /// What participants keep, in the order of their names, each with what changed since then where it asked for that. Costs
+    /// what was recorded since then for each of those, and no walk of a tree.
+    pub fn kept_states(&self, alloc: Global) -> Result<Vec<KeptState>, NoMemory>
+        ensures { IfOk result (λ kept. kept.items ≡ kept_since self.now.remembered self.now.resources.tree) }
+    {
+        kept_states(alloc, &self.tree, &self.marks)
     }
 
     /// The tree.

@@ -5,6 +5,8 @@
 //! - `keeping`: what participants keep: set in a save, put back, and let go.
 //! - `forgetting`: which operation forgets what was built last.
 //! - `handing`: what is due for a command.
+//! - `lasting`: what lasts over a save.
+//! - `restoring`: what participants kept, as a session that begins has it.
 //! - `opening`: the trees that are kept, led through as a workspace is opened.
 //! - `operating`: operations, and what is told of them.
 //! - `building`: commits of a builder's edits and cleanings, and what is told of them.
@@ -16,9 +18,11 @@ mod contents;
 mod forgetting;
 mod handing;
 mod keeping;
+mod lasting;
 mod opening;
 mod operating;
 mod remembering;
+mod restoring;
 
 pub use contents::Content;
 pub use res_path::NoMemory;

@@ -1,7 +1,7 @@
 -- A workspace that is opened from what was kept is sound.
 use Rattle.std.proofs.Common.{◌≡◌, ℕ, Bool, true, false, cond, List, [], ◌∷◌, ◌++◌, map, refl, sym, ap, ◌∙◌, subst}
 use Rattle.std.specs.Prelude.{Option, Some, None}
-use Rattle.std.specs.FinMap.{find, get, get-from_entries}
+use Rattle.std.specs.FinMap.{find, get-from_entries}
 use Rattle.std.specs.List.{AllByRecursion}
 use Rattle.std.specs.Ordering.{is_eq}
 use Rattle.ws_elem.specs.Stamps.{SameContents}
@@ -16,7 +16,7 @@ use Rattle.ws_durable.specs.declared.kept.Kept.{Kept}
 use Rattle.ws_durable.specs.Saved.{Saved, SavedBuilt, SavedKept, built_trees, kept_trees, saved, saved_built, saved_kept, with_tree}
 use Rattle.ws_marks.specs.declared.record.Record.{Record}
 use Rattle.ws_marks.specs.declared.state.State.{State}
-use Rattle.ws_marks.specs.Places.{Place, States, name_cmp, place_cmp, place_of}
+use Rattle.ws_marks.specs.Places.{Place, name_cmp, place_cmp, place_of}
 use Rattle.ws_marks.proofs.Places.{name_cmp_total, place_cmp_total}
 use Rattle.built_read.specs.Records.{HasCommand, record_of}
 use Rattle.ws_content.specs.States.{Contents, at_names, at_places, shown_built, shown_kept}

@@ -30,7 +30,6 @@ use Rattle.ws_core.specs.Refusals.{current, refusal}
 use Rattle.ws_core.specs.Effects.{clean_for, commit_for, hand, serve}
 use Rattle.ws_core.specs.Steps.{acted, act, told, tells, step}
 use Rattle.ws_core.specs.Inside.Rooms.{Fits, HasRoom, IsKept, due_back}
-use Rattle.ws_core.specs.Ends.{ChecksIn}
 use Rattle.job_manager.specs.Ends.{EndsLast}
 use Rattle.ws_core.proofs.ServingPass.{not_refused}
 use Rattle.ws_core.proofs.Stepped.{Concern, OfOperation, OfService, OfManager, concern_of, act_managed}

@@ -7,3 +7,4 @@ pub mod Histories
 pub mod Sessions
 pub mod Inside
 pub mod Opened
+pub mod Durables

@@ -1,5 +1,5 @@
 -- A workspace as it is opened from what was kept.
-use Rattle.std.specs.Prelude.{◌∷◌, List, map, None}
+use Rattle.std.specs.Prelude.{List, map, None}
 use Rattle.std.specs.List.{AllByRecursion}
 use Rattle.ws_elem.specs.Stamps.{SameContents}
 use Rattle.ws_elem.specs.Trees.{Tree, Whole}

@@ -7,6 +7,7 @@ ghost use Rattle.ws_elem.specs.Trees.{fresh_tree};
 ghost use Rattle.job_queue.specs.Queues.{live};
 ghost use Rattle.core_event.specs.Twice.{twice};
 ghost use Rattle.ws_core.specs.Steps.{step};
+ghost use Rattle.ws_core.specs.Durables.{durable_of, kept_since};
 ghost use Rattle.ws_core.specs.Histories.{entry_of, fresh, fresh_for, has_entered, Legal, notices, replay, told_of, written};
 ghost use Rattle.ws_core.specs.Sessions.{IsConsistent};
 ghost use Rattle.ws_core.specs.Opened.{IsOpenable, opened_of};
@@ -19,6 +20,7 @@ use crate::{Entry, Event, History, NoMemory, Reply, ServiceEvent, State, Twice, 
 use delta_kind::Delta;
 use elem_tree::LayerTree;
 use rule_table::RuleTable;
+use save_round::KeptState;
 use sched_rules::WsAtom;
 use service_desk::BuilderNames;
 use std::alloc::{AllocError, Global};
@@ -241,6 +243,26 @@ impl<T: Remembers + Drop> Core<T> {
         ensures contents { IfOk result (λ d. TellsContents self.now.opened.resources.tree self.now.state.resources.tree d) }
     {
         self.state.since_start(alloc)
+    }
+
+    /// What of the workspace lasts over a save, as a value of its own that shares the texts: the tree, what lies below closed
+    /// projects, the counters and the partners, what was built last and what participants keep, as all of it is now, also in a
+    /// batch. It has no jobs, passes and rules, no batch and no history, not which tree was told, and of what is kept and of
+    /// all elements no transient markers. Costs a put for each element of the tree, and for each tree that was built last or is
+    /// kept a copy of it, of what was recorded since then, and a look at each of its elements.
+    pub fn durable(&self, alloc: Global) -> Result<Durable, NoMemory>
+        ensures { IfOk result (λ d. saved d ≡ durable_of self.now.state) }
+    {
+        self.state.durable(alloc)
+    }
+
+    /// What participants keep, as they get it when a session begins: in the order of their names, each with its bytes and, where
+    /// it asked for that, what changed since they were kept. Of a save under way it has what is kept now. Costs what was
+    /// recorded since then for each that asked for it, and no walk of a tree.
+    pub fn kept_states(&self, alloc: Global) -> Result<Vec<KeptState>, NoMemory>
+        ensures { IfOk result (λ kept. kept.items ≡ kept_since self.now.state) }
+    {
+        self.state.kept_states(alloc)
     }
 
     /// How many jobs wait or are run, and how many were finished.

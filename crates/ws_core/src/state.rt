@@ -6,6 +6,7 @@ ghost use Rattle.op_kind.specs.Resources.{resources};
 ghost use Rattle.ws_elem.specs.Trees.{fresh_tree};
 ghost use Rattle.ws_durable.specs.Saved.{saved};
 ghost use Rattle.built_read.specs.Records.{HasCommand};
+ghost use Rattle.ws_core.specs.Durables.{durable_of, kept_since};
 ghost use Rattle.ws_core.specs.Histories.{fresh_for};
 ghost use Rattle.ws_core.specs.Opened.{opened_of};
 
@@ -14,6 +15,7 @@ use crate::{JobManager, NoMemory};
 use delta_kind::Delta;
 use elem_tree::LayerTree;
 use op_kind::Side;
+use save_round::KeptState;
 use service_desk::{BuilderNames, Desk};
 use std::alloc::Global;
 use std::marker::Model;
@@ -98,6 +100,22 @@ impl<T: Remembers + Drop> State<T> {
         ensures { result.now ≡ self.now.manager }
     {
         &self.manager
+    }
+
+    /// What of the state lasts over a save, as a value of its own that shares the texts. Costs a put for each element of the
+    /// tree, and a copy of each tree that was built last or is kept.
+    pub fn durable(&self, alloc: Global) -> Result<Durable, NoMemory>
+        ensures { IfOk result (λ d. saved d ≡ durable_of self.now) }
+    {
+        self.content.durable(alloc)
+    }
+
+    /// What participants keep, in the order of their names, each with what changed since then where it asked for that. Costs
+    /// what was recorded since then, and no walk of a tree.
+    pub fn kept_states(&self, alloc: Global) -> Result<Vec<KeptState>, NoMemory>
+        ensures { IfOk result (λ kept. kept.items ≡ kept_since self.now) }
+    {
+        self.content.kept_states(alloc)
     }
 
     /// What changed since the workspace was opened. Costs what was recorded since then, and no walk of a tree.

@@ -1,9 +1,9 @@
 -- The map that records in order make.
-use Rattle.std.proofs.Common.{◌≡◌, ◌<◌, ℕ, suc, Bool, true, false, cond, T, List, [], ◌++◌, length, slice_index_or, refl, sym, ap, ◌∙◌, subst}
+use Rattle.std.proofs.Common.{◌≡◌, ◌<◌, ℕ, suc, Bool, true, false, cond, T, List, [], ◌∷◌, ◌++◌, map, length, slice_index_or, refl, sym, ap, ◌∙◌, subst}
 use Rattle.std.specs.Prelude.{Result, Ok, Err, OnOk, OnErr, Some, None, take, drop, find as first_that}
 use Rattle.std.specs.Option.{option_map}
 use Rattle.std.specs.Ordering.{eq_by_cmp}
-use Rattle.std.specs.FinMap.{empty, insert, entries, from_sorted, entries-from_sorted, entries-insert, get, remove, get-empty, get-from_sorted, get-remove, same_entries_map, same_map}
+use Rattle.std.specs.FinMap.{empty, insert, entries, from_sorted, entries-from_sorted, entries-insert, get, remove, get-empty, get-from_sorted, get-remove, same_entries_map, same_map, values}
 use Rattle.std.specs.FinMap.Entries.{find, is_sorted, is_sorted-put, put}
 use Rattle.ws_marks.specs.declared.record.Record.{Record}
 use Rattle.ws_marks.specs.Places.{Place, Records, place_cmp, place_of}
@@ -41,6 +41,14 @@ removed_is rs new n r s lt is at = ap (λ xs. from_sorted {R = place_cmp} (place
 -- the entries are the records, each at its place
 pub all_shown : {M : Type 0} (rs : List (Record M)) → InOrder rs → placed rs ≡ entries (from_sorted {R = place_cmp} (placed rs))
 all_shown rs s = sym (entries-from_sorted place_cmp (placed rs) s)
+
+alone : {M : Type 0} (rs : List (Record M)) → rs ≡ map (λ e. e.1) (placed rs)
+alone [] = refl
+alone (r ∷ rs) = ap (λ xs. r ∷ xs) (alone rs)
+
+-- so the values are the records
+pub all_listed : {M : Type 0} (rs : List (Record M)) (m : Records M) → InOrder rs → from_sorted {R = place_cmp} (placed rs) ≡ m → rs ≡ values m
+all_listed {M} rs m s is = alone rs ∙ ap (λ es. map (λ e. e.1) es) (all_shown rs s) ∙ ap (λ (x : Records M). values x) is
 
 pub own_shown : {M : Type 0} (P : Place → Bool) (rs : List (Record M)) (m : Records M) → InOrder rs → from_sorted {R = place_cmp} (placed rs) ≡ m
     → (r : Record M) → option_map (λ e. e.1) (first_that (λ e. P e.0) (placed rs)) ≡ Some r → get m (place_of r) ≡ Some r

@@ -11,6 +11,7 @@ use crate::states::States;
 use crate::{NoMemory, Record, Replaced, State};
 use res_path::Name;
 use std::alloc::{AllocFailed, Global};
+use std::collections::btree_map::Values;
 use std::marker::Model;
 use std::mem;
 
@@ -108,6 +109,13 @@ impl<M: Drop> Marks<M> {
         self.built.remove(project, index)
     }
 
+    /// All records, by project and then by index.
+    pub fn records(&self) -> &[Record<M>]
+        ensures { result.now ≡ map.values self.now.built }
+    {
+        self.built.all()
+    }
+
     /// The first record above this place, or of all, by project and then by index; none where there is none.
     pub fn next_built(&self, after: Option<(&Name, u16)>) -> Option<&Record<M>>
         ensures next { option_copied result ≡ record_after self.now.built (option_map (λ k. (k.0.now, k.1)) after.entry) }
@@ -121,6 +129,13 @@ impl<M: Drop> Marks<M> {
         ensures { option_copied result ≡ map.get self.now.kept name.now }
     {
         self.kept.get(name)
+    }
+
+    /// All kept states, by the participants' names. Takes no memory.
+    pub fn states(&self) -> Values<'_, Name, State<M>>
+        ensures { result ≡ map.values self.now.kept }
+    {
+        self.kept.all()
     }
 
     /// The first kept state above this name, or of all, by the participants' names; none where there is none.

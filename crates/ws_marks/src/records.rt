@@ -82,6 +82,13 @@ impl<M: Drop> Records<M> {
         remove(&mut self.records, project, index)
     }
 
+    /// All of them, in the order of their places.
+    pub(crate) fn all(&self) -> &[Record<M>]
+        ensures { result.now ≡ map.values self.now }
+    {
+        self.records.as_slice()
+    }
+
     /// The first record above the place, or of all.
     pub(crate) fn next(&self, after: Option<(&Name, u16)>) -> Option<&Record<M>>
         ensures next { option_copied result ≡ record_after self.now (option_map (λ k. (k.0.now, k.1)) after.entry) }

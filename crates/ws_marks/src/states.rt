@@ -11,7 +11,7 @@ use crate::State;
 use res_path::Name;
 use std::alloc::{AllocFailed, Global};
 use std::collections::BTreeMap;
-use std::collections::btree_map::Range;
+use std::collections::btree_map::{Range, Values};
 use std::marker::Model;
 use std::mem;
 use std::ops::Bound;
@@ -83,6 +83,13 @@ impl<M: Drop> States<M> {
             None => self.states.remove(name),
             Some(state) => replace(&mut self.states, name, state),
         }
+    }
+
+    /// All of them, in the order of the participants' names.
+    pub(crate) fn all(&self) -> Values<'_, Name, State<M>>
+        ensures { result ≡ map.values self.now }
+    {
+        self.states.values()
     }
 
     /// The first state above the name, or of all.

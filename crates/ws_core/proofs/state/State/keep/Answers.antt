@@ -1,5 +1,5 @@
-use Rattle.std.proofs.Common.{◌≡◌, true, [], ◌∷◌, sym, ap, ◌∙◌, subst}
-use Rattle.std.specs.Prelude.{Some, None}
+use Rattle.std.proofs.Common.{◌≡◌, [], ◌∷◌, sym, ap, ◌∙◌, subst}
+use Rattle.std.specs.Prelude.{None}
 use Rattle.proj_desc.specs.FirstCause.{first_cause}
 use Rattle.core_event.specs.declared.service.ServiceEvent.TheVariants.{Saving}
 use Rattle.service_desk.specs.Desks.{is_saving}

@@ -1,0 +1,4 @@
+pub mod Lasting
+pub mod Ranges
+pub mod Tellings
+pub mod Validity

@@ -1,0 +1,2 @@
+-- What only the crate's own code speaks of.
+pub mod Tellable
