@@ -1,24 +1,23 @@
 -- What a save has done once it is answered.
-use Rattle.std.proofs.Common.{◌≡◌, ℕ, List, [], ◌∷◌, ◌++◌, Option, Some, None, refl, sym, ap, ◌∙◌, subst}
+use Rattle.std.proofs.Common.{◌≡◌, ℕ, List, [], ◌∷◌, ◌++◌, Option, Some, None, Result, Ok, Err, refl, sym, ap, ◌∙◌, subst}
+use Rattle.std.specs.Prelude.{IfOk, OnErr}
 use Rattle.ws_outside.specs.declared.contents.Contents.{Contents}
 use Rattle.save_kind.specs.declared.answer.SaveAnswer.{SaveAnswer}
 use Rattle.save_kind.specs.declared.kind.SaveKind.{SaveKind}
-use Rattle.save_kind.specs.declared.state.PartState.{PartState}
 use Rattle.save_round.specs.Told.{Told}
 use Rattle.save_run.specs.declared.command.Saved.{Saved}
 use Rattle.save_run.specs.declared.command.Saved.TheVariants.{Ended, Stopped}
 use Rattle.save_run.specs.Books.{Deed, Start, Keep, Write, Finish, outcome_of}
-use Rattle.save_run.specs.Saves as save_run
 use Rattle.save_run.specs.Saves.{CameTo, IsAnswered}
 use Rattle.ws_core.specs.Sessions.{Session}
-use Rattle.save_history.specs.Kept.{Keeper, IsKept}
-use Rattle.save_history.specs.Rounds.{HadSaves, Rounds, kept_in, rounds_of}
-use Rattle.save_history.specs.Stages.{HasSaved}
+use Rattle.save_history.specs.Kept.{Keeper}
+use Rattle.save_history.specs.Rounds.{Rounds, kept_in}
 use Rattle.save_history.proofs.Rounds.{had_kept, had_same, had_unkept, home_kept, home_unkept, rounds_on, steps_stopped}
 use Rattle.save_history.proofs.Saved.{grew_kept, grew_unkept, made_kept, made_unkept, saved_kept, saved_stopped, saved_unkept}
 use Rattle.save_host.specs.declared.host.Try.{Try}
-use Rattle.save_host.specs.Inside.Hosts.{IsAt, IsFresh, IsStopped, IsBegun, AreKept, WasTried, IsOver, IsThrough, book_of}
-use Rattle.save_host.proofs.Places.{book_is, shape}
+use Rattle.save_host.specs.Inside.Answers.{Answers, IsUnanswered}
+use Rattle.save_host.specs.Inside.Hosts.{IsAt, IsFresh, IsStopped, IsBegun, AreKept, WasTried, IsOver, IsThrough, IsReady, book_of}
+use Rattle.save_host.proofs.Places.{book_is, fresh_of, shape}
 
 -- how the last deed ended a save, if it did
 abbrev ending_with : Option SaveAnswer → List Deed → Option SaveAnswer
@@ -50,14 +49,6 @@ module _ (kind : SaveKind) (deeds : List Deed) (o : SaveAnswer) (book : List Dee
 
   keeps_as : kept_in deeds ≡ kept_in book
   keeps_as = sym (kept_before_end deeds o) ∙ sym (ap kept_in is)
-
--- what holds of a save that was answered
-pub record Answers {D : Type 0} (moment : D → ℕ) (left_since : D → ℕ → Contents → Type 0) (may_leave : D → Contents → Type 0) (faults : D → ℕ)
-    (k : ℕ) (kind : SaveKind) (saved : Saved) (x y : Session) (keeper : Keeper D) (old new : List Told) : Type 0 where
-  pub made : HasSaved k kind saved x y
-  pub kept : IsKept moment left_since may_leave faults y keeper
-  pub home : (rounds_of x.history).under ≡ None → (rounds_of y.history).under ≡ None
-  pub had : (first : List Told) → HadSaves (rounds_of x.history).ended first old → HadSaves (rounds_of y.history).ended first new
 
 module _ {D : Type 0} (moment : D → ℕ) (left_since : D → ℕ → Contents → Type 0) (may_leave : D → Contents → Type 0) (faults : D → ℕ) (k : ℕ) (x y : Session) (keeper : Keeper D) (w : Option Try) (old new : List Told) where
   abbrev At : Type 0
@@ -128,3 +119,26 @@ module _ {D : Type 0} (moment : D → ℕ) (left_since : D → ℕ → Contents 
   pub answers : At → (kind : SaveKind) (saved : Saved) → IsAnswered kind saved (book_of x y w) old new → Done kind saved
   answers at kind (Ended o) is = ended_by at kind o is.deeds is.came (sym (book_is moment left_since may_leave faults k x y keeper w at) ∙ is.book)
   answers at kind (Stopped n) is = stopped_by at kind n is.1 (sym (book_is moment left_since may_leave faults k x y keeper w at) ∙ is.0)
+
+  -- and of one where memory wanted, and nothing was done
+  pub unanswered : At → book_of x y w ≡ [] → new ≡ old → IsUnanswered moment left_since may_leave faults x y keeper old new
+  unanswered at is quiet = let now = fresh_of moment left_since may_leave faults k x y keeper w at is in record { same = now.0; kept = now.2; quiet = quiet }
+
+  -- the same of what a host has come to that has the pass and the beginning that it had
+  module _ {E : Type 0} (r : Result Saved E) (l : ℕ) (began : Session) (pass : l ≡ k) (same : began ≡ x) (ready : IsReady moment left_since may_leave faults l began y keeper w) where
+    there : At
+    there = subst (λ n. IsAt moment left_since may_leave faults n x y keeper w) pass (subst (λ b. IsAt moment left_since may_leave faults l b y keeper w) same ready.at)
+
+    pub made_answered : (kind : SaveKind) → IfOk r (λ saved. IsAnswered kind saved (book_of began y w) old new) → IfOk r (λ saved. Done kind saved)
+    made_answered kind = by r
+      where
+        by : (r : Result Saved E) → IfOk r (λ saved. IsAnswered kind saved (book_of began y w) old new) → IfOk r (λ saved. Done kind saved)
+        by (Ok saved) is = answers there kind saved (subst (λ b. IsAnswered kind saved (book_of b y w) old new) same is)
+        by (Err e) is = tt
+
+    pub made_unanswered : OnErr r ((book_of began y w ≡ []) × (new ≡ old)) → OnErr r (IsUnanswered moment left_since may_leave faults x y keeper old new)
+    made_unanswered = by r
+      where
+        by : (r : Result Saved E) → OnErr r ((book_of began y w ≡ []) × (new ≡ old)) → OnErr r (IsUnanswered moment left_since may_leave faults x y keeper old new)
+        by (Ok saved) is = tt
+        by (Err e) is = unanswered there (subst (λ b. book_of b y w ≡ []) same is.0) is.1

@@ -1,5 +1,5 @@
 -- A save goes on.
-use Rattle.std.proofs.Common.{◌≡◌, ◌⊎◌, inl, inr, ℕ, Bool, true, false, List, [], ◌∷◌, ◌++◌, Option, Some, None, Result, Ok, Err, refl, sym, ap, ◌∙◌, subst}
+use Rattle.std.proofs.Common.{◌≡◌, inl, inr, ℕ, Bool, true, false, List, [], ◌∷◌, ◌++◌, Option, Some, None, Result, Ok, Err, refl, sym, ap, ◌∙◌, subst}
 use Rattle.std.specs.Prelude.{IfOk, OnOk, OnErr}
 use Rattle.ws_outside.specs.declared.contents.Contents.{Contents}
 use Rattle.save_kind.specs.declared.answer.SaveAnswer.{SaveAnswer}
@@ -7,7 +7,7 @@ use Rattle.save_kind.specs.declared.answer.SaveAnswer.TheVariants as answer
 use Rattle.save_kind.specs.declared.kind.SaveKind.{SaveKind}
 use Rattle.save_kind.specs.declared.state.PartState.{PartState}
 use Rattle.save_run.specs.declared.host.WriteFault.{WriteFault}
-use Rattle.save_run.specs.Books.{Deed, Start, Keep, Write, Finish, EndsUnkept, MayEnd, WereKept, noted, outcome_of}
+use Rattle.save_run.specs.Books.{Start, Keep, Write, Finish, EndsUnkept, MayEnd, WereKept, noted, outcome_of}
 use Rattle.core_event.specs.declared.service.ServiceEvent.TheVariants.{Saving}
 use Rattle.job_manager.specs.declared.manager.JobManager.{JobManager}
 use Rattle.pass_table.specs.Passes.{has_pass}
@@ -22,7 +22,7 @@ use Rattle.save_history.specs.Stages.{HasBegun, HasEnded, HasKept, IsUnderWay, S
 use Rattle.save_history.proofs.Rounds.{done_step, refused_step}
 use Rattle.save_history.proofs.Safe.{asked_keeps, kept_begins, kept_keeps, kept_none, kept_tried, kept_unkept}
 use Rattle.save_host.specs.declared.host.Try.{Try}
-use Rattle.save_host.specs.Inside.Hosts.{IsAt, IsFresh, IsStopped, IsBegun, AreKept, WasTried, IsOver, IsThrough, IsReady, book_of}
+use Rattle.save_host.specs.Inside.Hosts.{IsStopped, IsBegun, AreKept, WasTried, IsOver, IsThrough, IsReady, book_of}
 use Rattle.save_host.proofs.Books.{book_begun, book_kept, book_over, book_stopped, book_tried, book_written}
 use Rattle.save_host.proofs.Places.{BegunNow, KeptNow, TriedNow, begun_of, fresh_of, kept_of, tried_of}
 

@@ -1,5 +1,6 @@
 pub mod Writing
 pub mod Books
 pub mod Places
+pub mod Stepping
 pub mod Hosting
 pub mod Answered

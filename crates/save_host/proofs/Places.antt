@@ -1,5 +1,5 @@
 -- How far a save has come, by what was done for it.
-use Rattle.std.proofs.Common.{◌≡◌, ℕ, List, [], ◌∷◌, ◌++◌, Option, Some, None, Result, refl, sym, ap, ◌∙◌, subst}
+use Rattle.std.proofs.Common.{◌≡◌, ℕ, List, [], ◌∷◌, Option, Some, None, Result, sym, ◌∙◌}
 use Rattle.ws_outside.specs.declared.contents.Contents.{Contents}
 use Rattle.save_kind.specs.declared.answer.SaveAnswer.{SaveAnswer}
 use Rattle.save_kind.specs.declared.kind.SaveKind.{SaveKind}

@@ -1,6 +1,5 @@
 -- A write to the store of a run.
-use Rattle.std.proofs.Common.{◌≡◌, ℕ, ◌+◌, Bool, true, false, List, [], ◌∷◌, ◌++◌, Result, Ok, Err, refl, sym, ap, ◌∙◌, subst, arith}
-use Rattle.std.specs.Prelude.{OnOk, OnErr}
+use Rattle.std.proofs.Common.{◌≡◌, ℕ, ◌+◌, true, List, [], ◌∷◌, ◌++◌, Result, Ok, Err, sym, ap, subst, arith}
 use Rattle.ws_outside.specs.declared.contents.Contents.{Contents}
 use Rattle.ws_outside.specs.Disk.{LeavesOnly}
 use Rattle.ws_outside.specs.Faults.{Rose}
@@ -11,11 +10,10 @@ use Rattle.save_store.specs.declared.faults.SaveFault.TheVariants as store
 use Rattle.save_store.specs.declared.saves.Saves.{Saves}
 use Rattle.save_store.specs.States.{HoldsOne}
 use Rattle.save_store.specs.Stored.{IsStored}
-use Rattle.save_run.specs.declared.host.WriteFault.{WriteFault}
 use Rattle.save_run.specs.declared.host.WriteFault.TheVariants as write
 use Rattle.ws_core.specs.Sessions.{Session}
 use Rattle.save_history.specs.Steps.{failures, steps_of}
-use Rattle.save_history.specs.Points.{Points, IsAsked, points_of}
+use Rattle.save_history.specs.Points.{IsAsked, points_of}
 use Rattle.save_history.specs.Kept.{Keeper, HasRisenBy, IsAhead, IsKept, IsSafe, IsTried, TellsFaults, disk_of, first_disk, points_at}
 use Rattle.save_history.proofs.Points.{points_whole}
 use Rattle.save_history.proofs.Backed.{risen_more, risen_same, told_rose, told_same, wrote_ahead, wrote_safe}

@@ -5,10 +5,10 @@ ghost use Rattle.save_history.specs.Durables.{durable_of};
 ghost use Rattle.save_history.specs.Kept.{IsKept, IsTried, points_at};
 ghost use Rattle.save_host.specs.Inside.Hosts.{IsReady, book_of};
 
+use crate::NoMemory;
 use crate::durable::kept_now;
 use crate::keeper::Keeper;
 use crate::steps::{begin, check_in, keep};
-use crate::NoMemory;
 use elem_tree::LayerTree;
 use save_kind::{PartStates, SaveAnswer, SaveKind};
 use save_run::{Host, WriteFault};
@@ -45,15 +45,15 @@ impl<'a, D: Disk> Host for SaveHost<'a, D> {
 
     ghost ready = { λ h. IsReady D.moment D.left_since D.may_leave D.faults h.pass h.began.now.value h.core.now h.keeper.now h.written };
 
-    ghost stays = { λ a b. (b.core.ghost_name ≡ a.core.ghost_name) × (b.keeper.ghost_name ≡ a.keeper.ghost_name) × (b.began.now ≡ a.began.now) × (b.pass ≡ a.pass)
+    ghost stays = { λ a b. (b.core.ghost_name ≡ a.core.ghost_name) × (b.keeper.ghost_name ≡ a.keeper.ghost_name) × (b.began.now ≡ a.began.now) × (b.pass ≡ a.pass) × (b.keeper.now.began ≡ a.keeper.now.began)
         × (IsReady D.moment D.left_since D.may_leave D.faults a.pass a.began.now.value a.core.now a.keeper.now a.written
         → IsReady D.moment D.left_since D.may_leave D.faults b.pass b.began.now.value b.core.now b.keeper.now b.written) };
 
-    ghost stays_itself = { λ a. (refl, refl, refl, refl, λ h. h) };
+    ghost stays_itself = { λ a. (refl, refl, refl, refl, refl, λ h. h) };
 
-    ghost stays_on = { λ a b c p q. (q.0 ∙ p.0, q.1 ∙ p.1, q.2 ∙ p.2, q.3 ∙ p.3, λ h. q.4 (p.4 h)) };
+    ghost stays_on = { λ a b c p q. (q.0 ∙ p.0, q.1 ∙ p.1, q.2 ∙ p.2, q.3 ∙ p.3, q.4 ∙ p.4, λ h. q.5 (p.5 h)) };
 
-    ghost stays_ready = { λ a b p h. p.4 h };
+    ghost stays_ready = { λ a b p h. p.5 h };
 
     fn start(&mut self, kind: SaveKind) -> Result<Option<u8>, NoMemory> {
         begin(self.core, self.alloc, self.pass, kind)
@@ -81,7 +81,8 @@ fn write<D: Disk>(
     alloc: Global,
     kind: SaveKind,
 ) -> Result<(), WriteFault>
-    ensures { IsAsked (points_at core.now keeper.old) (durable_of core.now.state) → IsKept D.moment D.left_since D.may_leave D.faults core.now keeper.old
+    ensures began { keeper.new.began ≡ keeper.old.began }
+    ensures tried { IsAsked (points_at core.now keeper.old) (durable_of core.now.state) → IsKept D.moment D.left_since D.may_leave D.faults core.now keeper.old
         → IsTried D.moment D.left_since D.may_leave D.faults result core.now keeper.new }
 {
     match kept_now(core, alloc) {

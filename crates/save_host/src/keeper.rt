@@ -81,6 +81,7 @@ impl<D: Disk> Keeper<D> {
         now: &Durable,
     ) -> Result<(), WriteFault>
         requires { IsNarrow now.now → Valid (saved now.now) }
+        ensures began { self.new.began ≡ self.old.began }
         ensures tried { (x : Session) → IsAsked (points_at x self.old) (saved now.now) → IsKept D.moment D.left_since D.may_leave D.faults x self.old
             → IsTried D.moment D.left_since D.may_leave D.faults result x self.new }
     {

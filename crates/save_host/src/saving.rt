@@ -1,11 +1,12 @@
 //! A save command.
-ghost use Rattle.std.specs.Prelude.{◌≡◌, true, List, map, None, IfOk, OnErr};
+ghost use Rattle.std.specs.Prelude.{◌≡◌, [], true, List, map, None, IfOk, OnErr};
 ghost use Rattle.save_round.specs.Told.{Told};
-ghost use Rattle.save_run.specs.Saves.{IsAnswered};
 ghost use Rattle.ws_core.specs.Histories.{has_entered};
 ghost use Rattle.save_history.specs.Rounds.{HadSaves, rounds_of};
 ghost use Rattle.save_history.specs.Kept.{IsKept};
 ghost use Rattle.save_history.specs.Stages.{HasSaved};
+ghost use Rattle.save_host.specs.Inside.Answers.{Answers, IsUnanswered};
+ghost use Rattle.save_host.specs.Inside.Hosts.{IsReady, book_of};
 
 use crate::NoMemory;
 use crate::host::SaveHost;
@@ -18,6 +19,64 @@ use std::alloc::Global;
 use std::snapshot::Snapshot;
 use ws_core::Core;
 use ws_outside::Disk;
+
+/// The pass makes a save as a host that has done nothing for it.
+fn made<'a, D: Disk, P: Participant>(
+    alloc: Global,
+    host: &mut SaveHost<'a, D>,
+    parts: &mut Participants<P>,
+    kind: SaveKind,
+) -> Result<Saved, NoMemory>
+    requires ready { IsReady D.moment D.left_since D.may_leave D.faults host.old.pass host.old.began.now.value host.old.core.now host.old.keeper.now host.old.written }
+    requires fresh { book_of host.old.began.now.value host.old.core.now host.old.written ≡ [] }
+    ensures same_core { host.new.core.ghost_name ≡ host.old.core.ghost_name }
+    ensures same_keeper { host.new.keeper.ghost_name ≡ host.old.keeper.ghost_name }
+    ensures began { host.new.keeper.now.began ≡ host.old.keeper.now.began }
+    ensures answered { IfOk result (λ saved. Answers D.moment D.left_since D.may_leave D.faults host.old.pass kind saved host.old.began.now.value host.new.core.now host.new.keeper.now
+        (map (λ p. P.tells p) parts.old) (map (λ p. P.tells p) parts.new)) }
+    ensures unanswered { OnErr result (IsUnanswered D.moment D.left_since D.may_leave D.faults host.old.began.now.value host.new.core.now host.new.keeper.now
+        (map (λ p. P.tells p) parts.old) (map (λ p. P.tells p) parts.new)) }
+{
+    save_over(alloc, host, parts, kind)
+}
+
+/// The pass makes a save over what it is lent.
+fn hosted<D: Disk, P: Participant>(
+    alloc: Global,
+    core: &mut Core<LayerTree>,
+    keeper: &mut Keeper<D>,
+    parts: &mut Participants<P>,
+    pass: u64,
+    kind: SaveKind,
+) -> Result<Saved, NoMemory>
+    requires entered { has_entered pass core.old.state ≡ true }
+    requires kept { IsKept D.moment D.left_since D.may_leave D.faults core.old keeper.old }
+    ensures began { keeper.new.began ≡ keeper.old.began }
+    ensures answered { IfOk result (λ saved. Answers D.moment D.left_since D.may_leave D.faults pass kind saved core.old core.new keeper.new
+        (map (λ p. P.tells p) parts.old) (map (λ p. P.tells p) parts.new)) }
+    ensures unanswered { OnErr result (IsUnanswered D.moment D.left_since D.may_leave D.faults core.old core.new keeper.new
+        (map (λ p. P.tells p) parts.old) (map (λ p. P.tells p) parts.new)) }
+{
+    let mut began = Snapshot::of(&*core);
+    let mut host = SaveHost {
+        core,
+        keeper,
+        alloc,
+        pass,
+        began: &mut began,
+        written: None,
+    };
+    let answer = made(alloc, &mut host, parts, kind);
+    let SaveHost {
+        core: _,
+        keeper: _,
+        alloc: _,
+        pass: _,
+        began: _,
+        written: _,
+    } = host;
+    answer
+}
 
 /// A pass makes a save of the kind, of the whole workspace or of what changed since the last one (`IWorkspace.save`). Answers
 /// as `save` of save_run does.
@@ -40,28 +99,12 @@ pub fn save<D: Disk, P: Participant>(
     ensures same { OnErr result (core.new ≡ core.old) }
     ensures entered { has_entered pass core.new.state ≡ true }
     ensures home { (rounds_of core.new.history).under ≡ None }
+    // the store is as save_history says, since it was opened
+    ensures began { keeper.new.began ≡ keeper.old.began }
     ensures kept { IsKept D.moment D.left_since D.may_leave D.faults core.new keeper.new }
     // participants had the calls of this save, and no others
     ensures had { (first : List Told) → HadSaves (rounds_of core.old.history).ended first (map (λ p. P.tells p) parts.old)
         → HadSaves (rounds_of core.new.history).ended first (map (λ p. P.tells p) parts.new) }
 {
-    let mut began = Snapshot::of(&*core);
-    let mut host = SaveHost {
-        core,
-        keeper,
-        alloc,
-        pass,
-        began: &mut began,
-        written: None,
-    };
-    let answer = save_over(alloc, &mut host, parts, kind);
-    let SaveHost {
-        core: _,
-        keeper: _,
-        alloc: _,
-        pass: _,
-        began: _,
-        written: _,
-    } = host;
-    answer
+    hosted(alloc, core, keeper, parts, pass, kind)
 }

@@ -1,11 +1,10 @@
 -- What a pass has done for a save, and what holds then.
-use Rattle.std.specs.Prelude.{◌≡◌, ℕ, true, List, [], ◌∷◌, ◌++◌, length, drop, Option, Some, None, Result}
+use Rattle.std.specs.Prelude.{◌≡◌, ℕ, true, List, [], ◌∷◌, ◌++◌, length, drop, Option, Some, None}
 use Rattle.std.specs.Option.{option_map, option_to_list}
 use Rattle.ws_outside.specs.declared.contents.Contents.{Contents}
 use Rattle.save_kind.specs.declared.answer.SaveAnswer.{SaveAnswer}
 use Rattle.save_kind.specs.declared.kind.SaveKind.{SaveKind}
 use Rattle.save_kind.specs.declared.state.PartState.{PartState}
-use Rattle.save_run.specs.declared.host.WriteFault.{WriteFault}
 use Rattle.save_run.specs.Books.{Deed, Start, Keep, Write, Finish, EndsUnkept, outcome_of}
 use Rattle.core_event.specs.declared.entry.Entry.{Entry}
 use Rattle.core_event.specs.declared.reply.Answer.{Answer}
