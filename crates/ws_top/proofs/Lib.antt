@@ -12,3 +12,4 @@ pub mod Answered
 pub mod Built
 pub mod Taking
 pub mod KeptAlike
+pub mod Blocks

@@ -25,7 +25,7 @@ changes_from opened h = codes "since start\n" ++ delta_lines (delta opened.resou
 -- what is told of what is given back, if something is: the name, and what changed since that was kept, where that is told
 abbrev pub restored_block : Option KeptState → List ℕ
 restored_block None = []
-restored_block (Some k) = codes "restored " ++ word_text k.name ++ codes "\n" ++ some_lines k.delta
+restored_block (Some k) = codes "restored " ++ word_text k.name ++ (codes "\n" ++ some_lines k.delta)
 
 -- what is told of these, one after another
 abbrev pub restored_blocks : List (Option KeptState) → List ℕ

@@ -42,7 +42,7 @@ fn print_state<K: Sink>(
     out: &mut Vec<u8>,
     state: &KeptState,
 ) -> Result<(), Unwritten>
-    ensures printed { Printed (K.written sink.old) (K.written sink.new) (K.faults sink.old) (K.faults sink.new) out.old.items (codes "restored " ++ word_text state.now.name ++ codes "\n" ++ some_lines state.now.delta) out.new.items result }
+    ensures printed { Printed (K.written sink.old) (K.written sink.new) (K.faults sink.old) (K.faults sink.new) out.old.items (codes "restored " ++ word_text state.now.name ++ (codes "\n" ++ some_lines state.now.delta)) out.new.items result }
 {
     match put_named(out, "restored ", state.name.text().as_bytes()) {
         Ok(()) => print_changed(sink, out, state.delta.as_ref()),

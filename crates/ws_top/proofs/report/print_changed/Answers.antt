@@ -1,9 +1,5 @@
-use Rattle.std.proofs.Common.{codes}
-use Rattle.run_text.proofs.Pieces.{all_none, after_put, front_none}
+use Rattle.run_text.proofs.Pieces.{front_none}
 use Rattle.ws_top.proofs.report.print_changed.Goals as goal
 
-pub returns-in-None-in-Ok : goal.returns-in-None-in-Ok
-returns-in-None-in-Ok g c = ?
-
-pub returns-in-None-in-Err : goal.returns-in-None-in-Err
-returns-in-None-in-Err g c = ?
+pub returns-in-Err : goal.returns-in-Err
+returns-in-Err g c = record { printed = front_none _ _ _ _ }
