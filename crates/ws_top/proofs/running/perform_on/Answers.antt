@@ -1,9 +1,9 @@
-use Rattle.std.proofs.Common.{map, sym, ap, subst, ◌∙◌, refl}
-use Rattle.save_history.specs.Rounds.{HadSaves, rounds_of}
+use Rattle.std.proofs.Common.{map, sym, ap, subst, ◌∙◌}
+use Rattle.save_history.specs.Rounds.{rounds_of}
 use Rattle.ws_top.specs.Areas.{TellsDiskFault}
 use Rattle.ws_top.specs.Builds.{MakesBuilds}
-use Rattle.ws_top.proofs.Built.{builds_of}
 use Rattle.ws_top.specs.Outcomes.{Shuffle, CutShuffle, StoppedShuffle, IsOneThread, HearsNotices}
+use Rattle.ws_top.proofs.Built.{builds_of}
 use Rattle.ws_top.proofs.Performed.{performs_for}
 use Rattle.ws_top.proofs.Responded.{performed, performed_cut}
 use Rattle.ws_top.proofs.Taking.{saved_names}
@@ -19,11 +19,11 @@ run_phases-ran-requires-clause-opened g c = ?
 pub run_phases-ran-requires-clause-served : goal.run_phases-ran-requires-clause-served
 run_phases-ran-requires-clause-served g c = ?
 
-pub report-requires-clause-calm : goal.report-requires-clause-calm
-report-requires-clause-calm g c = ?
+pub report-requires : goal.report-requires
+report-requires g c = ?
 
-pub report-requires-clause-states : goal.report-requires-clause-states
-report-requires-clause-states g c = ?
+pub report_cut-requires : goal.report_cut-requires
+report_cut-requires g c = ?
 
 pub returns-in-Ok : goal.returns-in-Ok
 returns-in-Ok g c = ?
