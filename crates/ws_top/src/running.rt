@@ -6,7 +6,7 @@ ghost use Rattle.builder_api.specs.Told.{HaveMeanings};
 ghost use Rattle.ws_durable.specs.Saved.{saved};
 ghost use Rattle.save_format.specs.Valid.{Valid};
 ghost use Rattle.save_store.specs.Stored.{IsStored};
-ghost use Rattle.save_history.specs.Kept.{IsKept, disk_of, first_disk};
+ghost use Rattle.save_history.specs.Kept.{TellsFaults, disk_of, first_disk};
 ghost use Rattle.save_history.specs.Rounds.{HadSaves, rounds_of};
 ghost use Rattle.ws_core.specs.Durables.{kept_since};
 ghost use Rattle.ws_core.specs.Histories.{replay};
@@ -24,12 +24,12 @@ use crate::kit::{Areas, Kit};
 use crate::opening::{Opened, workspace};
 use crate::report::write_run;
 use crate::response::{Outcome, want};
-use builder_api::{Builder, Builders, Meanings};
+use builder_api::{Builder, Meanings};
 use elem_tree::LayerTree;
 use phase_run::run_phases;
 use run_text::Unwritten;
 use save_host::Keeper;
-use save_parts::{Listener, Listeners};
+use save_parts::Listener;
 use save_round::{KeptState, Participant, restore_all};
 use save_store::Store;
 use script_lang::Script;
@@ -38,13 +38,6 @@ use ws_core::{Core, State};
 use ws_durable::Durable;
 use ws_outside::{Disk, Sink};
 use ws_saved::SavedWorkspace;
-
-/// Those of a kit that take no part in saves.
-#[derive(Drop)]
-struct Others<L: Listener, B: Builder> {
-    builders: Builders<B>,
-    listeners: Listeners<L>,
-}
 
 /// Runs the script on the workspace that was kept so.
 pub fn perform_from<K: Sink, D: Disk, L: Listener, B: Builder, P: Participant, M: Meanings>(
@@ -160,43 +153,43 @@ fn perform_on<K: Sink, D: Disk, L: Listener, B: Builder, P: Participant, M: Mean
     let phases = script.phases.as_slice();
     let ran =
         run_phases::<L, D, P, B, M>(&mut space, &mut builders, alloc, &mut listeners, phases);
-    let others = Others {
+    let (core, keeper, participants) = space.into_parts();
+    let kit = Kit {
         builders,
         listeners,
+        participants,
     };
     match ran {
-        Ok(()) => report(alloc, sink, space, kept, others, states.as_slice()),
-        Err(_) => report_cut(alloc, sink, space, kept, others, states.as_slice()),
+        Ok(()) => report(alloc, sink, core, keeper, kept, kit, states.as_slice()),
+        Err(_) => report_cut(alloc, sink, core, keeper, kept, kit, states.as_slice()),
     }
 }
 
-/// Writes what a whole script did, with what participants had got back of these states.
+/// Writes what a whole script did, and what participants got back of these states.
 fn report<K: Sink, D: Disk, L: Listener, B: Builder, P: Participant>(
     alloc: Global,
     sink: &mut K,
-    space: SavedWorkspace<D, P>,
+    core: Core<LayerTree>,
+    keeper: Keeper<D>,
     kept: Kept,
-    others: Others<L, B>,
+    kit: Kit<L, B, P>,
     states: &[KeptState],
 ) -> Outcome<D, L, B, P>
     requires some { IsSome kept }
-    requires calm { IsCalm space.core.history }
-    requires states { states.now ≡ kept_since space.core.opened }
-    ensures performs { Performs (Same space.core.history) (Same space.core.history) Nothing result.kept (map (λ p. P.tells p) space.participants) space.core.opened (K.written sink.old) (K.written sink.new) (K.faults sink.old) (K.faults sink.new) result.status result.history }
-    ensures fault { TellsDiskFault (D.faults (first_disk space.keeper)) (D.faults result.areas.disk) result.status }
-    ensures history { result.history ≡ space.core.history }
+    requires calm { IsCalm core.history }
+    requires states { states.now ≡ kept_since core.opened }
+    requires told { TellsFaults keeper.failed (D.faults (first_disk keeper)) (D.faults (disk_of keeper)) }
+    ensures performs { Performs (Same core.history) (Same core.history) Nothing result.kept (map (λ p. P.tells p) kit.participants) core.opened (K.written sink.old) (K.written sink.new) (K.faults sink.old) (K.faults sink.new) result.status result.history }
+    ensures fault { TellsDiskFault (D.faults (first_disk keeper)) (D.faults result.areas.disk) result.status }
+    ensures history { result.history ≡ core.history }
     ensures kept { result.kept ≡ kept }
-    ensures disk { result.areas.disk ≡ disk_of space.keeper }
-    ensures safe { IsKept D.moment D.left_since D.may_leave D.faults space.core space.keeper }
-    ensures participants { result.kit.participants ≡ space.participants }
-    ensures had { HadSaves (rounds_of space.core.history).ended (map (λ p. P.tells p) space.began.value) (map (λ p. P.tells p) space.participants) }
-    ensures builders { result.kit.builders ≡ others.builders }
-    ensures listeners { result.kit.listeners ≡ others.listeners }
+    ensures disk { result.areas.disk ≡ disk_of keeper }
+    ensures kit { result.kit ≡ kit }
 {
-    if space.keeper.has_failed() {
-        report_as(alloc, sink, space, kept, others, states, 5, b"status 5\n")
+    if keeper.has_failed() {
+        report_as(alloc, sink, core, keeper, kept, kit, states, 5, b"status 5\n")
     } else {
-        report_as(alloc, sink, space, kept, others, states, 0, b"status 0\n")
+        report_as(alloc, sink, core, keeper, kept, kit, states, 0, b"status 0\n")
     }
 }
 
@@ -204,33 +197,31 @@ fn report<K: Sink, D: Disk, L: Listener, B: Builder, P: Participant>(
 fn report_as<K: Sink, D: Disk, L: Listener, B: Builder, P: Participant>(
     alloc: Global,
     sink: &mut K,
-    space: SavedWorkspace<D, P>,
+    core: Core<LayerTree>,
+    keeper: Keeper<D>,
     kept: Kept,
-    others: Others<L, B>,
+    kit: Kit<L, B, P>,
     states: &[KeptState],
     status: u8,
     line: &[u8],
 ) -> Outcome<D, L, B, P>
     requires some { IsSome kept }
-    requires calm { IsCalm space.core.history }
-    requires states { states.now ≡ kept_since space.core.opened }
-    requires status { status ≡ end_status space.keeper.failed }
+    requires calm { IsCalm core.history }
+    requires states { states.now ≡ kept_since core.opened }
+    requires told { TellsFaults keeper.failed (D.faults (first_disk keeper)) (D.faults (disk_of keeper)) }
+    requires status { status ≡ end_status keeper.failed }
     requires line { line.now ≡ status_line status }
-    ensures performs { Performs (Same space.core.history) (Same space.core.history) Nothing result.kept (map (λ p. P.tells p) space.participants) space.core.opened (K.written sink.old) (K.written sink.new) (K.faults sink.old) (K.faults sink.new) result.status result.history }
-    ensures fault { TellsDiskFault (D.faults (first_disk space.keeper)) (D.faults result.areas.disk) result.status }
-    ensures history { result.history ≡ space.core.history }
+    ensures performs { Performs (Same core.history) (Same core.history) Nothing result.kept (map (λ p. P.tells p) kit.participants) core.opened (K.written sink.old) (K.written sink.new) (K.faults sink.old) (K.faults sink.new) result.status result.history }
+    ensures fault { TellsDiskFault (D.faults (first_disk keeper)) (D.faults result.areas.disk) result.status }
+    ensures history { result.history ≡ core.history }
     ensures kept { result.kept ≡ kept }
-    ensures disk { result.areas.disk ≡ disk_of space.keeper }
-    ensures safe { IsKept D.moment D.left_since D.may_leave D.faults space.core space.keeper }
-    ensures participants { result.kit.participants ≡ space.participants }
-    ensures had { HadSaves (rounds_of space.core.history).ended (map (λ p. P.tells p) space.began.value) (map (λ p. P.tells p) space.participants) }
-    ensures builders { result.kit.builders ≡ others.builders }
-    ensures listeners { result.kit.listeners ≡ others.listeners }
+    ensures disk { result.areas.disk ≡ disk_of keeper }
+    ensures kit { result.kit ≡ kit }
 {
-    match write_run(sink, alloc, &space.core, &space.participants, states, status, line) {
-        Ok(()) => ended(space, kept, others, status),
-        Err(Unwritten::Fault) => ended(space, kept, others, 4),
-        Err(Unwritten::Memory) => ended(space, kept, others, 8),
+    match write_run(sink, alloc, &core, &kit.participants, states, status, line) {
+        Ok(()) => ended(core, keeper, kept, kit, status),
+        Err(Unwritten::Fault) => ended(core, keeper, kept, kit, 4),
+        Err(Unwritten::Memory) => ended(core, keeper, kept, kit, 8),
     }
 }
 
@@ -238,27 +229,25 @@ fn report_as<K: Sink, D: Disk, L: Listener, B: Builder, P: Participant>(
 fn report_cut<K: Sink, D: Disk, L: Listener, B: Builder, P: Participant>(
     alloc: Global,
     sink: &mut K,
-    space: SavedWorkspace<D, P>,
+    core: Core<LayerTree>,
+    keeper: Keeper<D>,
     kept: Kept,
-    others: Others<L, B>,
+    kit: Kit<L, B, P>,
     states: &[KeptState],
 ) -> Outcome<D, L, B, P>
     requires some { IsSome kept }
-    requires states { states.now ≡ kept_since space.core.opened }
-    ensures performs { Performs Nothing (Same space.core.history) (Same space.core.history) result.kept (map (λ p. P.tells p) space.participants) space.core.opened (K.written sink.old) (K.written sink.new) (K.faults sink.old) (K.faults sink.new) result.status result.history }
-    ensures fault { TellsDiskFault (D.faults (first_disk space.keeper)) (D.faults result.areas.disk) result.status }
+    requires states { states.now ≡ kept_since core.opened }
+    requires told { TellsFaults keeper.failed (D.faults (first_disk keeper)) (D.faults (disk_of keeper)) }
+    ensures performs { Performs Nothing (Same core.history) (Same core.history) result.kept (map (λ p. P.tells p) kit.participants) core.opened (K.written sink.old) (K.written sink.new) (K.faults sink.old) (K.faults sink.new) result.status result.history }
+    ensures fault { TellsDiskFault (D.faults (first_disk keeper)) (D.faults result.areas.disk) result.status }
     ensures status { result.status ≡ 8 }
-    ensures history { result.history ≡ space.core.history }
+    ensures history { result.history ≡ core.history }
     ensures kept { result.kept ≡ kept }
-    ensures disk { result.areas.disk ≡ disk_of space.keeper }
-    ensures safe { IsKept D.moment D.left_since D.may_leave D.faults space.core space.keeper }
-    ensures participants { result.kit.participants ≡ space.participants }
-    ensures had { HadSaves (rounds_of space.core.history).ended (map (λ p. P.tells p) space.began.value) (map (λ p. P.tells p) space.participants) }
-    ensures builders { result.kit.builders ≡ others.builders }
-    ensures listeners { result.kit.listeners ≡ others.listeners }
+    ensures disk { result.areas.disk ≡ disk_of keeper }
+    ensures kit { result.kit ≡ kit }
 {
-    let _ = write_run(sink, alloc, &space.core, &space.participants, states, 8, b"status 8\n");
-    ended(space, kept, others, 8)
+    let _ = write_run(sink, alloc, &core, &kit.participants, states, 8, b"status 8\n");
+    ended(core, keeper, kept, kit, 8)
 }
 
 /// At each front of the history rules are apart, as of every workspace. Nothing is done.
@@ -275,41 +264,30 @@ fn let_go(state: State<LayerTree>) {
 
 /// What a run ends with.
 fn ended<D: Disk, L: Listener, B: Builder, P: Participant>(
-    space: SavedWorkspace<D, P>,
+    core: Core<LayerTree>,
+    keeper: Keeper<D>,
     kept: Kept,
-    others: Others<L, B>,
+    kit: Kit<L, B, P>,
     status: u8,
 ) -> Outcome<D, L, B, P>
     ensures status { result.status ≡ status }
-    ensures thread { IsOneThread space.core.opened result.history }
-    ensures history { result.history ≡ space.core.history }
+    ensures thread { IsOneThread core.opened result.history }
+    ensures history { result.history ≡ core.history }
     ensures kept { result.kept ≡ kept }
-    ensures disk { result.areas.disk ≡ disk_of space.keeper }
-    ensures safe { IsKept D.moment D.left_since D.may_leave D.faults space.core space.keeper }
-    ensures participants { result.kit.participants ≡ space.participants }
-    ensures had { HadSaves (rounds_of space.core.history).ended (map (λ p. P.tells p) space.began.value) (map (λ p. P.tells p) space.participants) }
-    ensures builders { result.kit.builders ≡ others.builders }
-    ensures listeners { result.kit.listeners ≡ others.listeners }
+    ensures disk { result.areas.disk ≡ disk_of keeper }
+    ensures kit { result.kit ≡ kit }
 {
-    let (core, keeper, participants) = space.into_parts();
     keep_apart(&core);
     let (history, state) = core.into_history();
     let_go(state);
-    let Others {
-        builders,
-        listeners,
-    } = others;
+    let areas = Areas {
+        disk: keeper.into_disk(),
+    };
     Outcome {
         status,
         history,
         kept,
-        areas: Areas {
-            disk: keeper.into_disk(),
-        },
-        kit: Kit {
-            builders,
-            listeners,
-            participants,
-        },
+        areas,
+        kit,
     }
 }

@@ -1,5 +1,6 @@
 use Rattle.std.proofs.Common.{inl, inr, map, sym, ap, subst, ◌∙◌, arith}
 use Rattle.std.specs.Prelude.{is_some}
+use Rattle.save_round.specs.Restoring.{HasStoppedRestoring}
 use Rattle.ws_core.specs.Durables.{kept_since}
 use Rattle.ws_top.specs.Areas.{opened_state}
 use Rattle.ws_top.specs.Builds.{MakesBuilds}
@@ -18,7 +19,7 @@ returns-in-Ok g c =
     let out = c.perform_on in
     let told = (map (λ b. g.B.Builder.tells b) c.args.kit.builders) in
     let old = (map (λ p. g.P.Participant.tells p) c.args.kit.participants) in
-    let then = (map (λ p. g.P.Participant.tells p) c.restore_all-restored.new.participants) in
+    let then = (map (λ p. g.P.Participant.tells p) c.restore_all-restored.new.parts) in
     let at = c.requires.opened ∙ ap (λ k. opened_state k told) (sym out.ensures.kept) in
     let some = ap is_some out.ensures.kept ∙ c.requires.some in record {
       performs = performed_from g.M.Meanings.meaning out.result.kept old c.args.opened.core.opened (opened_state out.result.kept told) c.args.script (g.K.Sink.written c.args.sink.now) (g.K.Sink.written c.perform_on.new.sink) (g.K.Sink.faults c.args.sink.now) (g.K.Sink.faults c.perform_on.new.sink) out.result.status out.result.history at
@@ -42,5 +43,6 @@ returns-in-Err g c = record {
   builds = builds_nothing g.M.Meanings.meaning (opened_state c.want.result.kept (map (λ b. g.B.Builder.tells b) c.args.kit.builders)) c.want.result.history (map (λ b. g.B.Builder.tells b) c.args.kit.builders) (map (λ b. g.B.Builder.tells b) c.want.result.kit.builders) c.want.ensures.nothing (ap (λ kit. map (λ b. g.B.Builder.tells b) kit.builders) c.want.ensures.kit);
   fault = disk_calm (g.D.Disk.faults c.args.store.areas.disk) (g.D.Disk.faults c.want.result.areas.disk) c.want.result.status 8 c.want.ensures.status (λ k. omega (arith, k)) (ap g.D.Disk.faults (ap (λ areas. areas.disk) c.want.ensures.areas ∙ c.areas_of.ensures));
   store = store_none g.D.Disk.moment g.D.Disk.left_since g.D.Disk.may_leave g.D.Disk.seen g.D.Disk.faults c.args.store c.want.result.areas.disk c.want.result.kept (opened_state c.want.result.kept (map (λ b. g.B.Builder.tells b) c.args.kit.builders)) c.want.result.history c.want.ensures.none (ap (λ areas. areas.disk) c.want.ensures.areas ∙ c.areas_of.ensures);
-  participants = taken_stopped c.want.result.kept (opened_state c.want.result.kept (map (λ b. g.B.Builder.tells b) c.args.kit.builders)) c.want.result.status c.want.result.history c.as_slice.result.now (map (λ p. g.P.Participant.tells p) c.args.kit.participants) (map (λ p. g.P.Participant.tells p) c.want.result.kit.participants) c.want.ensures.none c.want.ensures.status ?;
+  participants = taken_stopped c.want.result.kept (opened_state c.want.result.kept (map (λ b. g.B.Builder.tells b) c.args.kit.builders)) c.want.result.status c.want.result.history c.as_slice.result.now (map (λ p. g.P.Participant.tells p) c.args.kit.participants) (map (λ p. g.P.Participant.tells p) c.want.result.kit.participants) c.want.ensures.none c.want.ensures.status
+      (subst (λ ps. HasStoppedRestoring c.as_slice.result.now (map (λ p. g.P.Participant.tells p) c.args.kit.participants) (map (λ p. g.P.Participant.tells p) ps)) (sym (ap (λ kit. kit.participants) c.want.ensures.kit)) c.in-Err.ensures.stopped);
 }
