@@ -13,3 +13,4 @@ pub mod Built
 pub mod Taking
 pub mod KeptAlike
 pub mod Blocks
+pub mod Ran
