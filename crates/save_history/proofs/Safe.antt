@@ -16,7 +16,7 @@ use Rattle.core_event.specs.declared.entry.Entry.{Entry}
 use Rattle.ws_core.specs.States.{Moment}
 use Rattle.ws_core.specs.Histories.{after, replay}
 use Rattle.ws_core.specs.Sessions.{Session}
-use Rattle.save_history.specs.Durables.{durable_of}
+use Rattle.ws_core.specs.Durables.{durable_of}
 use Rattle.save_history.specs.Steps.{SaveStep, Begins, Keeps, Ends, NoSaves, failure, failure_in, failures, step_of, steps_of}
 use Rattle.save_history.specs.Points.{Points, IsAsked, first_points, points_from, points_of, with_step}
 use Rattle.save_history.specs.Kept.{Keeper, HasRisenBy, IsKept, IsSafe, IsTried, disk_of, first_disk, points_at}

@@ -9,7 +9,7 @@ use Rattle.core_event.specs.declared.reply.Answer.{Answer}
 use Rattle.core_event.specs.Events.{service_of}
 use Rattle.ws_core.specs.States.{Moment}
 use Rattle.ws_core.specs.Histories.{after, replay}
-use Rattle.save_history.specs.Durables.{durable_of}
+use Rattle.ws_core.specs.Durables.{durable_of}
 use Rattle.save_history.specs.Steps.{SaveStep, NoSaves, failures, step_in, step_of, steps_of, was_done}
 use Rattle.save_history.specs.Points.{Points, points_from, with_step}
 use Rattle.save_history.specs.Rounds.{Rounds, rounds_after, rounds_with}

@@ -1,4 +1,3 @@
-pub mod Durables
 pub mod Steps
 pub mod Points
 pub mod Rounds

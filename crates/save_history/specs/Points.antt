@@ -5,7 +5,7 @@ use Rattle.core_event.specs.declared.entry.Entry.{Entry}
 use Rattle.ws_durable.specs.Saved.{Saved}
 use Rattle.ws_core.specs.States.{Moment}
 use Rattle.ws_core.specs.Histories.{after}
-use Rattle.save_history.specs.Durables.{durable_of}
+use Rattle.ws_core.specs.Durables.{durable_of}
 use Rattle.save_history.specs.Steps.{SaveStep, Begins, Keeps, Ends, step_of}
 
 pub record Points : Type 0 where

@@ -14,7 +14,7 @@ use Rattle.pass_table.specs.Passes.{has_pass}
 use Rattle.ws_core.specs.States.{Moment}
 use Rattle.ws_core.specs.Histories.{has_entered}
 use Rattle.ws_core.specs.Sessions.{Session}
-use Rattle.save_history.specs.Durables.{durable_of}
+use Rattle.ws_core.specs.Durables.{durable_of}
 use Rattle.save_history.specs.Points.{IsAsked}
 use Rattle.save_history.specs.Saves.{beginning, ending}
 use Rattle.save_history.specs.Kept.{Keeper, IsKept, IsTried, points_at}

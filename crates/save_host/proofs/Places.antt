@@ -7,7 +7,7 @@ use Rattle.save_kind.specs.declared.state.PartState.{PartState}
 use Rattle.save_run.specs.declared.host.WriteFault.{WriteFault}
 use Rattle.save_run.specs.Books.{Deed, Start, Keep, Write, Finish, outcome_of}
 use Rattle.ws_core.specs.Sessions.{Session}
-use Rattle.save_history.specs.Durables.{durable_of}
+use Rattle.ws_core.specs.Durables.{durable_of}
 use Rattle.save_history.specs.Points.{IsAsked}
 use Rattle.save_history.specs.Kept.{Keeper, IsKept, IsTried, points_at}
 use Rattle.save_history.specs.Stages.{HasBegun, HasKept}

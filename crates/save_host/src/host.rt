@@ -1,7 +1,7 @@
 //! A pass as the host of a save.
 ghost use Rattle.std.specs.Prelude.{◌≡◌, true};
 ghost use Rattle.save_history.specs.Points.{IsAsked};
-ghost use Rattle.save_history.specs.Durables.{durable_of};
+ghost use Rattle.ws_core.specs.Durables.{durable_of};
 ghost use Rattle.save_history.specs.Kept.{IsKept, IsTried, points_at};
 ghost use Rattle.save_host.specs.Inside.Hosts.{IsReady, book_of};
 

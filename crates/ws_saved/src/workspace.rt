@@ -7,11 +7,11 @@ ghost use Rattle.build_host.specs.Hosts.{Goes, IsReady, Serves};
 ghost use Rattle.build_run.specs.Commands.{IsAnswered};
 ghost use Rattle.run_order.specs.Lists.{Cut, Grew};
 ghost use Rattle.save_history.specs.Kept.{IsKept};
-ghost use Rattle.save_history.specs.Rounds.{HadSaves, rounds_of};
 ghost use Rattle.save_history.specs.Stages.{HasSaved};
 ghost use Rattle.save_history.specs.Steps.{step_in};
 ghost use Rattle.ws_core.specs.Histories.{entry_of, has_entered, written};
 ghost use Rattle.ws_core.specs.Steps.{step};
+ghost use Rattle.ws_saved.specs.Sound.{IsSound};
 
 use crate::NoMemory;
 use build_host::build;
@@ -25,27 +25,45 @@ use save_kind::SaveKind;
 use save_round::{Participant, Participants};
 use save_run::Saved;
 use std::alloc::Global;
+use std::marker::Model;
 use std::snapshot::Snapshot;
 use ws_core::Core;
 use ws_outside::Disk;
 
-/// An open workspace with the store that it is saved in and who takes part in its saves.
+/// An open workspace with the store that it is saved in and who takes part in its saves. A contract sees these three, and
+/// the participants as they were when the workspace was opened.
 ///
-/// At every moment the areas are safe: since the store was opened each crash left a point of the workspace's history,
-/// that is the state with which it was opened or one that a save was to write; and now a crash leaves that of the save
-/// that was acknowledged last, or of one begun after it. A call on the disk failed exactly where its count of faults rose,
-/// which it did for each save that ended so. No save is under way between calls, and the participants had the calls of the
-/// saves that ended, and no others.
+/// At every moment since the store was opened each crash left a point of the workspace's history, that is the state to which
+/// it was opened or one that a save was to write; and now a crash leaves that of the save that was acknowledged last, or of
+/// one begun after it. A call on the disk failed exactly where its count of faults rose, which it did for each save that
+/// ended so. No save is under way between calls, and the participants had the calls of the saves that ended, and no others.
 #[derive(Drop)]
 pub struct SavedWorkspace<D: Disk, P: Participant> {
-    pub core: Core<LayerTree>,
-    pub keeper: Keeper<D>,
-    pub participants: Participants<P>,
-    /// The participants as they were when the workspace was opened.
-    pub began: Snapshot<Participants<P>>,
-    ghost kept: { IsKept D.moment D.left_since D.may_leave D.faults core keeper },
-    ghost home: { (rounds_of core.history).under ≡ nothing },
-    ghost had: { HadSaves (rounds_of core.history).ended (map (λ p. P.tells p) began.value) (map (λ p. P.tells p) participants) },
+    core: Core<LayerTree>,
+    keeper: Keeper<D>,
+    participants: Participants<P>,
+    began: Snapshot<Participants<P>>,
+}
+
+impl<D: Disk, P: Participant> Model for SavedWorkspace<D, P> {
+    ghost use Rattle.std.specs.Prelude.{map};
+    ghost use Rattle.std.specs.Coded.{codes};
+    ghost use Rattle.core_event.specs.contracts.entry.Entry as of_entry;
+    ghost use Rattle.ws_durable.specs.contracts.durable.Durable as durable;
+    ghost use Rattle.ws_elem.specs.contracts.element.Element as element;
+    ghost use Rattle.proj_desc.specs.contracts.command.Command as command;
+    ghost use Rattle.job_manager.specs.contracts.manager.JobManager as job_manager;
+    ghost use Rattle.service_desk.specs.contracts.desk.Desk as desk;
+    ghost use Rattle.ws_core.specs.Inside.Codes.{moment_code};
+    ghost use Rattle.ws_saved.specs.Sound.{IsSound, Space};
+
+    ghost Value = { Space D P };
+
+    ghost coded = { Prim.hlevel (codes, of_entry.the_row.coded, durable.the_row.coded, moment_code element.the_row.coded command.the_row.coded job_manager.the_row.coded desk.the_row.coded) };
+
+    ghost view = { λ w. record { core = w.core; keeper = w.keeper; participants = w.participants; began = w.began.value } };
+
+    ghost invariant = { λ w. IsSound D.moment D.left_since D.may_leave D.faults w.core w.keeper (map (λ p. P.tells p) w.began.value) (map (λ p. P.tells p) w.participants) };
 }
 
 impl<D: Disk, P: Participant> SavedWorkspace<D, P> {
@@ -60,7 +78,7 @@ impl<D: Disk, P: Participant> SavedWorkspace<D, P> {
         ensures core { result.core ≡ core }
         ensures keeper { result.keeper ≡ keeper }
         ensures participants { result.participants ≡ participants }
-        ensures began { result.began.value ≡ participants }
+        ensures began { result.began ≡ participants }
     {
         let began = Snapshot::of(&participants);
         SavedWorkspace {
@@ -79,7 +97,7 @@ impl<D: Disk, P: Participant> SavedWorkspace<D, P> {
         ensures state { OnOk result (self.new.core.state ≡ (step self.old.core.state pass event).0) }
         ensures history { OnOk result (self.new.core.history ≡ written self.old.core.history (entry_of self.old.core.state pass event)) }
         ensures err { OnErr result (self.new.core ≡ self.old.core) }
-        ensures start { (self.new.keeper.began ≡ self.old.keeper.began) × (self.new.began.value ≡ self.old.began.value) }
+        ensures start { (self.new.keeper.began ≡ self.old.keeper.began) × (self.new.began ≡ self.old.began) }
         ensures keeper { self.new.keeper ≡ self.old.keeper }
         ensures participants { self.new.participants ≡ self.old.participants }
     {
@@ -95,7 +113,7 @@ impl<D: Disk, P: Participant> SavedWorkspace<D, P> {
         ensures reply { IfOk result (λ reply. reply ≡ (step self.old.core.state pass event).1) }
         ensures history { OnOk result (self.new.core.history ≡ written self.old.core.history (entry_of self.old.core.state pass event)) }
         ensures err { OnErr result (self.new.core ≡ self.old.core) }
-        ensures start { (self.new.keeper.began ≡ self.old.keeper.began) × (self.new.began.value ≡ self.old.began.value) }
+        ensures start { (self.new.keeper.began ≡ self.old.keeper.began) × (self.new.began ≡ self.old.began) }
         ensures keeper { self.new.keeper ≡ self.old.keeper }
         ensures participants { self.new.participants ≡ self.old.participants }
     {
@@ -119,7 +137,7 @@ impl<D: Disk, P: Participant> SavedWorkspace<D, P> {
         ensures home { OnOk result (self.old.core.state.manager.passes.services ≡ nothing → self.new.core.state.manager.passes.services ≡ nothing) }
         ensures goes { Goes self.old.core self.new.core }
         ensures serves { Serves M.meaning self.old.core self.new.core (map (λ b. B.tells b) builders.old) (map (λ b. B.tells b) builders.new) }
-        ensures start { (self.new.keeper.began ≡ self.old.keeper.began) × (self.new.began.value ≡ self.old.began.value) }
+        ensures start { (self.new.keeper.began ≡ self.old.keeper.began) × (self.new.began ≡ self.old.began) }
     {
         build::<B, M>(&mut self.core, builders, alloc, kind, project)
     }
@@ -130,7 +148,7 @@ impl<D: Disk, P: Participant> SavedWorkspace<D, P> {
         requires worker { has_entered 1 self.old.core.state ≡ true }
         ensures saved { IfOk result (λ saved. HasSaved 1 kind saved self.old.core self.new.core) }
         ensures same { OnErr result (self.new.core ≡ self.old.core) }
-        ensures start { (self.new.keeper.began ≡ self.old.keeper.began) × (self.new.began.value ≡ self.old.began.value) }
+        ensures start { (self.new.keeper.began ≡ self.old.keeper.began) × (self.new.began ≡ self.old.began) }
     {
         save(
             alloc,
@@ -142,13 +160,19 @@ impl<D: Disk, P: Participant> SavedWorkspace<D, P> {
         )
     }
 
+    /// The workspace.
+    pub fn core(&self) -> &Core<LayerTree>
+        ensures { result.now ≡ self.now.core }
+    {
+        &self.core
+    }
+
     /// The workspace, its store and its participants, with what holds of them. It takes no memory.
     pub fn into_parts(self) -> (Core<LayerTree>, Keeper<D>, Participants<P>)
         ensures core { result.0 ≡ self.core }
         ensures keeper { result.1 ≡ self.keeper }
         ensures participants { result.2 ≡ self.participants }
-        ensures kept { IsKept D.moment D.left_since D.may_leave D.faults result.0 result.1 }
-        ensures had { HadSaves (rounds_of result.0.history).ended (map (λ p. P.tells p) self.began.value) (map (λ p. P.tells p) result.2) }
+        ensures sound { IsSound D.moment D.left_since D.may_leave D.faults self.core self.keeper (map (λ p. P.tells p) self.began) (map (λ p. P.tells p) self.participants) }
     {
         let SavedWorkspace {
             core,

@@ -10,7 +10,7 @@ use Rattle.core_event.specs.declared.entry.Entry.{Entry}
 use Rattle.core_event.specs.declared.reply.Answer.{Answer}
 use Rattle.ws_core.specs.Histories.{has_entered}
 use Rattle.ws_core.specs.Sessions.{Session}
-use Rattle.save_history.specs.Durables.{durable_of}
+use Rattle.ws_core.specs.Durables.{durable_of}
 use Rattle.save_history.specs.Steps.{SaveStep, Begins, Keeps, Ends, step_in}
 use Rattle.save_history.specs.Points.{IsAsked}
 use Rattle.save_history.specs.Kept.{Keeper, IsKept, IsTried, points_at}
