@@ -1,3 +1,4 @@
+pub mod Plain
 pub mod Results
 pub mod Calm
 pub mod Saves

@@ -34,28 +34,30 @@ use Rattle.phase_run.proofs.Calm.{calm_more}
 -- ---- the entries of a save
 
 -- of each kind there is one: one that is refused at once
-refused_save : SaveKind → Entry
+abbrev refused_save : SaveKind → Entry
 refused_save kind = record { pass = 1; event = Service (beginning kind); reply = record { answer = answers.Refused (refusals.ServicesOut 0); notice = None } }
 
 pub some_save : (kind : SaveKind) → (l : List Entry) × IsSave 1 kind l
 some_save kind = (
   refused_save kind ∷ [],
-  Stopped (refusal_number (refusals.ServicesOut 0)),
-  record {
-    refusal = refusals.ServicesOut 0;
-    number = refl;
-    entry = refused_save kind;
-    are = refl;
-    refused = record { pass = refl; event_is = refl; answer_is = refl };
-  },
+  (
+    Stopped (refusal_number (refusals.ServicesOut 0)),
+    record {
+      refusal = refusals.ServicesOut 0;
+      number = refl;
+      entry = refused_save kind;
+      are = refl;
+      refused = record { pass = refl; event_is = refl; answer_is = refl };
+    },
+  ),
 )
 
 module _ (P : Entry → Type 0) (k : ℕ) (kind : SaveKind) (each : (event : ServiceEvent) (a : Answer) (x : Entry) → IsAnswered k event a x → P x) where
   -- what holds of each entry that the pass asked of the services
   all_of : (s : Saved) (h : List Entry) → IsSaveOf k kind s h → AllByRecursion P h
-  all_of (Ended o) h (inl w) = subst (AllByRecursion P) (sym w.are) (each (beginning kind) answers.Done w.first w.begins, each (ending o) answers.Done w.last w.ends, tt)
+  all_of (Ended o) h (inl w) = subst (AllByRecursion P) (sym w.are) (each (beginning kind) answers.Done w.first w.begins, (each (ending o) answers.Done w.last w.ends, tt))
   all_of (Ended o) h (inr w) = subst (AllByRecursion P) (sym w.are)
-      (each (beginning kind) answers.Done w.first w.begins, each (Saving w.states) answers.Done w.middle w.keeps, each (ending o) answers.Done w.last w.ends, tt)
+      (each (beginning kind) answers.Done w.first w.begins, (each (Saving w.states) answers.Done w.middle w.keeps, (each (ending o) answers.Done w.last w.ends, tt)))
   all_of (Stopped n) h w = subst (AllByRecursion P) (sym w.are) (each (beginning kind) (answers.Refused w.refusal) w.entry w.refused, tt)
 
 only_by : (k : ℕ) (h : List Entry) → AllByRecursion (λ (x : Entry). x.pass ≡ k) h → OnlyBy k h
@@ -68,8 +70,8 @@ save_by k kind h s = only_by k h (all_of (λ x. x.pass ≡ k) k kind (λ event a
 
 -- of these events none is of a build
 asked_quiet : (k : ℕ) (kind : SaveKind) (s : Saved) (h : List Entry) → IsSaveOf k kind s h → NoBuilds h
-asked_quiet k kind (Ended o) h (inl w) = subst NoBuilds (sym w.are) (ap is_of_build w.begins.event_is, ap is_of_build w.ends.event_is, tt)
-asked_quiet k kind (Ended o) h (inr w) = subst NoBuilds (sym w.are) (ap is_of_build w.begins.event_is, ap is_of_build w.keeps.event_is, ap is_of_build w.ends.event_is, tt)
+asked_quiet k kind (Ended o) h (inl w) = subst NoBuilds (sym w.are) (ap is_of_build w.begins.event_is, (ap is_of_build w.ends.event_is, tt))
+asked_quiet k kind (Ended o) h (inr w) = subst NoBuilds (sym w.are) (ap is_of_build w.begins.event_is, (ap is_of_build w.keeps.event_is, (ap is_of_build w.ends.event_is, tt)))
 asked_quiet k kind (Stopped n) h w = subst NoBuilds (sym w.are) (ap is_of_build w.refused.event_is, tt)
 
 -- ---- want of memory
@@ -84,9 +86,9 @@ other_answer answer.NoMemory other = absurd (other refl)
 
 -- a save that ended otherwise is calm
 save_calm : (k : ℕ) (kind : SaveKind) (s : Saved) (h : List Entry) → IsSaveOf k kind s h → s ≢ Ended answer.NoMemory → IsCalm h
-save_calm k kind (Ended o) h (inl w) other = subst IsCalm (sym w.are) (ap wants_memory w.begins.event_is, ap wants_memory w.ends.event_is ∙ other_answer o other, tt)
+save_calm k kind (Ended o) h (inl w) other = subst IsCalm (sym w.are) (ap wants_memory w.begins.event_is, (ap wants_memory w.ends.event_is ∙ other_answer o other, tt))
 save_calm k kind (Ended o) h (inr w) other = subst IsCalm (sym w.are)
-    (ap wants_memory w.begins.event_is, ap wants_memory w.keeps.event_is, ap wants_memory w.ends.event_is ∙ other_answer o other, tt)
+    (ap wants_memory w.begins.event_is, (ap wants_memory w.keeps.event_is, (ap wants_memory w.ends.event_is ∙ other_answer o other, tt)))
 save_calm k kind (Stopped n) h w other = subst IsCalm (sym w.are) (ap wants_memory w.refused.event_is, tt)
 
 -- ---- the worker goes on

@@ -1,5 +1,5 @@
 //! A phase: pass 0 schedules the jobs, the worker runs them, and pass 0 cancels those that sleep.
-ghost use Rattle.std.specs.Prelude.{◌≡◌, ◌×◌, ◌∷◌, [], map, MatchResult};
+ghost use Rattle.std.specs.Prelude.{◌≡◌, ◌∷◌, [], map, MatchResult};
 ghost use Rattle.script_lang.specs.Names.{HaveOwnNames};
 ghost use Rattle.build_host.specs.Hosts.{IsServed, Serves};
 ghost use Rattle.ws_core.specs.Histories.{replay};
@@ -30,7 +30,7 @@ fn schedule_one<D: Disk, P: Participant>(
 ) -> Result<(), NoMemory>
     requires { IsReady space.old.core.state }
     ensures done { MatchResult result (λ _. Makes (λ h. acts h ≡ scheduled (job_plan job.now) ∷ []) space.old.core space.new.core) (λ _. space.new.core ≡ space.old.core) }
-    ensures start { (space.new.keeper.began ≡ space.old.keeper.began) × (space.new.began.value ≡ space.old.began.value) }
+    ensures start { (space.new.keeper.began ≡ space.old.keeper.began) × (space.new.began ≡ space.old.began) }
 {
     let event = schedule_of(job)?;
     space.perform(alloc, 0, event)
@@ -44,7 +44,7 @@ fn schedule<D: Disk, P: Participant>(
 ) -> Result<(), NoMemory>
     requires { IsReady space.old.core.state }
     ensures done { MatchResult result (λ _. Makes (λ h. acts h ≡ map scheduled (jobs_plan jobs.now)) space.old.core space.new.core) (λ _. Stops (Cut (λ h. acts h ≡ map scheduled (jobs_plan jobs.now))) space.old.core space.new.core) }
-    ensures start { (space.new.keeper.began ≡ space.old.keeper.began) × (space.new.began.value ≡ space.old.began.value) }
+    ensures start { (space.new.keeper.began ≡ space.old.keeper.began) × (space.new.began ≡ space.old.began) }
 {
     for job in jobs {
         schedule_one(space, alloc, job)?;
@@ -70,9 +70,9 @@ fn cancel_one<D: Disk, P: Participant>(
 ) -> Result<(), NoMemory>
     requires { IsReady space.old.core.state }
     ensures done { MatchResult result (λ _. Makes (λ h. acts h ≡ map cancelled (sleepers (replay space.old.core.opened space.old.core.history) (job_plan job.now ∷ []))) space.old.core space.new.core) (λ _. space.new.core ≡ space.old.core) }
-    ensures start { (space.new.keeper.began ≡ space.old.keeper.began) × (space.new.began.value ≡ space.old.began.value) }
+    ensures start { (space.new.keeper.began ≡ space.old.keeper.began) × (space.new.began ≡ space.old.began) }
 {
-    if !sleeps(&space.core, &job.name) {
+    if !sleeps(space.core(), &job.name) {
         return Ok(());
     }
     space.perform(alloc, 0, Event::Cancel(job.name.copy()?))
@@ -88,7 +88,7 @@ fn cancel<D: Disk, P: Participant>(
     requires names { HaveOwnNames jobs.now }
     ensures done { MatchResult result (λ _. Makes (λ h. acts h ≡ map cancelled (sleepers (replay space.old.core.opened space.old.core.history) (jobs_plan jobs.now))) space.old.core space.new.core)
         (λ _. Stops (Cut (λ h. acts h ≡ map cancelled (sleepers (replay space.old.core.opened space.old.core.history) (jobs_plan jobs.now)))) space.old.core space.new.core) }
-    ensures start { (space.new.keeper.began ≡ space.old.keeper.began) × (space.new.began.value ≡ space.old.began.value) }
+    ensures start { (space.new.keeper.began ≡ space.old.keeper.began) × (space.new.began ≡ space.old.began) }
 {
     for job in jobs {
         cancel_one(space, alloc, job)?;
@@ -108,7 +108,7 @@ pub fn run_phase<D: Disk, P: Participant, B: Builder, M: Meanings>(
     ensures done { MatchResult result (λ _. Makes (IsPhase (Made M.meaning) 1 (phase_plan phase.now) (replay space.old.core.opened space.old.core.history)) space.old.core space.new.core)
         (λ _. Stops (IsCutPhase (Made M.meaning) 1 (phase_plan phase.now) (replay space.old.core.opened space.old.core.history)) space.old.core space.new.core) }
     ensures serves { Serves M.meaning space.old.core space.new.core (map (λ b. B.tells b) builders.old) (map (λ b. B.tells b) builders.new) }
-    ensures start { (space.new.keeper.began ≡ space.old.keeper.began) × (space.new.began.value ≡ space.old.began.value) }
+    ensures start { (space.new.keeper.began ≡ space.old.keeper.began) × (space.new.began ≡ space.old.began) }
 {
     let jobs = phase.jobs.as_slice();
     schedule(space, alloc, jobs)?;

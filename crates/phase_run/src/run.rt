@@ -1,5 +1,5 @@
 //! The worker enters, the phases are run one after another, and it leaves.
-ghost use Rattle.std.specs.Prelude.{◌≡◌, ◌×◌, ◌⊎◌, ◌∷◌, [], true, map, MatchResult, OnOk, OnErr};
+ghost use Rattle.std.specs.Prelude.{◌≡◌, ◌⊎◌, ◌∷◌, [], true, map, MatchResult, OnOk, OnErr};
 ghost use Rattle.core_event.specs.declared.event.Event.TheVariants.{Enter, Leave};
 ghost use Rattle.build_host.specs.Hosts.{IsServed, Serves};
 ghost use Rattle.job_manager.specs.Managers.{first_manager};
@@ -37,11 +37,11 @@ fn enter<L: Listener, D: Disk, P: Participant>(
     ensures told { OnOk result (Tells space.old.core.history space.new.core.history (map (λ l. L.heard l) listeners.old) (map (λ l. L.heard l) listeners.new)) }
     ensures same { OnErr result (space.new.core ≡ space.old.core) }
     ensures quiet { OnErr result (listeners.new ≡ listeners.old) }
-    ensures start { (space.new.keeper.began ≡ space.old.keeper.began) × (space.new.began.value ≡ space.old.began.value) }
+    ensures start { (space.new.keeper.began ≡ space.old.keeper.began) × (space.new.began ≡ space.old.began) }
 {
-    let from = space.core.history().len();
+    let from = space.core().history().len();
     space.perform(alloc, 0, Event::Enter)?;
-    tell_since(&space.core, listeners, from);
+    tell_since(space.core(), listeners, from);
     Ok(())
 }
 
@@ -58,11 +58,11 @@ fn run_and_tell<L: Listener, D: Disk, P: Participant, B: Builder, M: Meanings>(
     ensures done { MatchResult result (λ _. RunsPhase (Made M.meaning) phase.now space.old.core space.new.core (map (λ l. L.heard l) listeners.old) (map (λ l. L.heard l) listeners.new))
         (λ _. CutsPhase (Made M.meaning) phase.now space.old.core space.new.core (map (λ l. L.heard l) listeners.old) (map (λ l. L.heard l) listeners.new)) }
     ensures serves { Serves M.meaning space.old.core space.new.core (map (λ b. B.tells b) builders.old) (map (λ b. B.tells b) builders.new) }
-    ensures start { (space.new.keeper.began ≡ space.old.keeper.began) × (space.new.began.value ≡ space.old.began.value) }
+    ensures start { (space.new.keeper.began ≡ space.old.keeper.began) × (space.new.began ≡ space.old.began) }
 {
-    let from = space.core.history().len();
+    let from = space.core().history().len();
     run_phase::<D, P, B, M>(space, builders, alloc, phase)?;
-    tell_since(&space.core, listeners, from);
+    tell_since(space.core(), listeners, from);
     Ok(())
 }
 
@@ -79,7 +79,7 @@ fn run_each<L: Listener, D: Disk, P: Participant, B: Builder, M: Meanings>(
     ensures done { MatchResult result (λ _. RunsPhases (Made M.meaning) (phases_plan phases.now) space.old.core space.new.core (map (λ l. L.heard l) listeners.old) (map (λ l. L.heard l) listeners.new))
         (λ _. CutsPhases (Made M.meaning) (phases_plan phases.now) space.old.core space.new.core (map (λ l. L.heard l) listeners.old) (map (λ l. L.heard l) listeners.new)) }
     ensures serves { Serves M.meaning space.old.core space.new.core (map (λ b. B.tells b) builders.old) (map (λ b. B.tells b) builders.new) }
-    ensures start { (space.new.keeper.began ≡ space.old.keeper.began) × (space.new.began.value ≡ space.old.began.value) }
+    ensures start { (space.new.keeper.began ≡ space.old.keeper.began) × (space.new.began ≡ space.old.began) }
 {
     for phase in phases {
         run_and_tell::<L, D, P, B, M>(space, builders, alloc, listeners, phase)?;
@@ -100,11 +100,11 @@ fn leave<L: Listener, D: Disk, P: Participant>(
     ensures told { OnOk result (Tells space.old.core.history space.new.core.history (map (λ l. L.heard l) listeners.old) (map (λ l. L.heard l) listeners.new)) }
     ensures same { OnErr result (space.new.core ≡ space.old.core) }
     ensures quiet { OnErr result (listeners.new ≡ listeners.old) }
-    ensures start { (space.new.keeper.began ≡ space.old.keeper.began) × (space.new.began.value ≡ space.old.began.value) }
+    ensures start { (space.new.keeper.began ≡ space.old.keeper.began) × (space.new.began ≡ space.old.began) }
 {
-    let from = space.core.history().len();
+    let from = space.core().history().len();
     space.perform(alloc, 1, Event::Leave)?;
-    tell_since(&space.core, listeners, from);
+    tell_since(space.core(), listeners, from);
     Ok(())
 }
 
@@ -128,7 +128,7 @@ fn run_all<L: Listener, D: Disk, P: Participant, B: Builder, M: Meanings>(
     ensures told { OnOk result (HeardAll space.new.core.history (map (λ l. L.heard l) listeners.old) (map (λ l. L.heard l) listeners.new)) }
     ensures told_some { OnErr result (HeardFront space.new.core.history (map (λ l. L.heard l) listeners.old) (map (λ l. L.heard l) listeners.new)) }
     ensures serves { Serves M.meaning space.old.core space.new.core (map (λ b. B.tells b) builders.old) (map (λ b. B.tells b) builders.new) }
-    ensures start { (space.new.keeper.began ≡ space.old.keeper.began) × (space.new.began.value ≡ space.old.began.value) }
+    ensures start { (space.new.keeper.began ≡ space.old.keeper.began) × (space.new.began ≡ space.old.began) }
 {
     if phases.is_empty() {
         return Ok(());
@@ -166,9 +166,9 @@ pub fn run_phases<L: Listener, D: Disk, P: Participant, B: Builder, M: Meanings>
     ensures told { OnOk result (HeardAll space.new.core.history (map (λ l. L.heard l) listeners.old) (map (λ l. L.heard l) listeners.new)) }
     ensures told_some { OnErr result (HeardFront space.new.core.history (map (λ l. L.heard l) listeners.old) (map (λ l. L.heard l) listeners.new)) }
     ensures serves { Serves M.meaning space.old.core space.new.core (map (λ b. B.tells b) builders.old) (map (λ b. B.tells b) builders.new) }
-    ensures start { (space.new.keeper.began ≡ space.old.keeper.began) × (space.new.began.value ≡ space.old.began.value) }
+    ensures start { (space.new.keeper.began ≡ space.old.keeper.began) × (space.new.began ≡ space.old.began) }
 {
     let ran = run_all::<L, D, P, B, M>(space, builders, alloc, listeners, phases);
-    settle(&space.core);
+    settle(space.core());
     ran
 }

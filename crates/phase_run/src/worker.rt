@@ -1,5 +1,5 @@
 //! The worker takes jobs, does their commands and finishes them.
-ghost use Rattle.std.specs.Prelude.{◌≡◌, ◌×◌, ◌≢◌, ◌++◌, List, map, MatchResult, OnErr, OnOk, option_copied};
+ghost use Rattle.std.specs.Prelude.{◌≡◌, ◌≢◌, ◌++◌, List, map, MatchResult, OnErr, OnOk, option_copied};
 ghost use Rattle.core_event.specs.declared.entry.Entry.{Entry};
 ghost use Rattle.build_history.specs.Events.{NoBuilds};
 ghost use Rattle.builder_api.specs.declared.outcome.BuildOutcome.TheVariants as outcomes;
@@ -39,7 +39,7 @@ fn do_event<D: Disk, P: Participant>(
     requires work { IsAtWork space.old.core.state }
     requires asked { IsAsked event }
     ensures done { MatchResult result (λ _. Works (CommandEntries 1 event) space.old.core space.new.core) (λ _. Stops (Cut (CommandEntries 1 event)) space.old.core space.new.core) }
-    ensures start { (space.new.keeper.began ≡ space.old.keeper.began) × (space.new.began.value ≡ space.old.began.value) }
+    ensures start { (space.new.keeper.began ≡ space.old.keeper.began) × (space.new.began ≡ space.old.began) }
 {
     space.perform(alloc, 1, event)
 }
@@ -57,9 +57,9 @@ fn do_build<D: Disk, P: Participant, B: Builder, M: Meanings>(
     ensures done { MatchResult result (λ _. Works (IsBuild M.meaning 1 kind (option_copied project.entry)) space.old.core space.new.core)
         (λ _. Stops (Cut (IsBuild M.meaning 1 kind (option_copied project.entry))) space.old.core space.new.core) }
     ensures serves { Serves M.meaning space.old.core space.new.core (map (λ b. B.tells b) builders.old) (map (λ b. B.tells b) builders.new) }
-    ensures start { (space.new.keeper.began ≡ space.old.keeper.began) × (space.new.began.value ≡ space.old.began.value) }
+    ensures start { (space.new.keeper.began ≡ space.old.keeper.began) × (space.new.began ≡ space.old.began) }
 {
-    settle(&space.core);
+    settle(space.core());
     let answer = space.build::<B, M>(builders, alloc, kind, project)?;
     ended(answer)
 }
@@ -88,7 +88,7 @@ fn do_save<D: Disk, P: Participant>(
     ensures done { MatchResult result (λ _. Works (IsSave 1 kind) space.old.core space.new.core) (λ _. Stops (Cut (IsSave 1 kind)) space.old.core space.new.core) }
     ensures quiet { (h : List Entry) × (space.new.core.history ≡ space.old.core.history ++ h) × NoBuilds h }
     ensures opened { space.new.core.opened ≡ space.old.core.opened }
-    ensures start { (space.new.keeper.began ≡ space.old.keeper.began) × (space.new.began.value ≡ space.old.began.value) }
+    ensures start { (space.new.keeper.began ≡ space.old.keeper.began) × (space.new.began ≡ space.old.began) }
 {
     let saved = space.save(alloc, kind)?;
     saved_well(saved)
@@ -120,7 +120,7 @@ fn do_asked<D: Disk, P: Participant, B: Builder, M: Meanings>(
     requires served { IsServed M.meaning space.old.core.opened (map (λ b. B.tells b) builders.old) }
     ensures done { MatchResult result (λ _. Works (AskedEntries M.meaning 1 asked) space.old.core space.new.core) (λ _. Stops (Cut (AskedEntries M.meaning 1 asked)) space.old.core space.new.core) }
     ensures serves { Serves M.meaning space.old.core space.new.core (map (λ b. B.tells b) builders.old) (map (λ b. B.tells b) builders.new) }
-    ensures start { (space.new.keeper.began ≡ space.old.keeper.began) × (space.new.began.value ≡ space.old.began.value) }
+    ensures start { (space.new.keeper.began ≡ space.old.keeper.began) × (space.new.began ≡ space.old.began) }
 {
     match asked {
         Asked::One(event) => do_event(space, alloc, event),
@@ -143,7 +143,7 @@ fn do_command<D: Disk, P: Participant, B: Builder, M: Meanings>(
     requires served { IsServed M.meaning space.old.core.opened (map (λ b. B.tells b) builders.old) }
     ensures done { MatchResult result (λ _. Works (Made M.meaning 1 command.now) space.old.core space.new.core) (λ _. Stops (Cut (Made M.meaning 1 command.now)) space.old.core space.new.core) }
     ensures serves { Serves M.meaning space.old.core space.new.core (map (λ b. B.tells b) builders.old) (map (λ b. B.tells b) builders.new) }
-    ensures start { (space.new.keeper.began ≡ space.old.keeper.began) × (space.new.began.value ≡ space.old.began.value) }
+    ensures start { (space.new.keeper.began ≡ space.old.keeper.began) × (space.new.began ≡ space.old.began) }
 {
     let asked = asked_of(command)?;
     do_asked::<D, P, B, M>(space, builders, alloc, asked)
@@ -160,7 +160,7 @@ fn do_commands<D: Disk, P: Participant, B: Builder, M: Meanings>(
     requires served { IsServed M.meaning space.old.core.opened (map (λ b. B.tells b) builders.old) }
     ensures done { MatchResult result (λ _. Works (InTurn (Made M.meaning 1) commands.now) space.old.core space.new.core) (λ _. Stops (Cut (InTurn (Made M.meaning 1) commands.now)) space.old.core space.new.core) }
     ensures serves { Serves M.meaning space.old.core space.new.core (map (λ b. B.tells b) builders.old) (map (λ b. B.tells b) builders.new) }
-    ensures start { (space.new.keeper.began ≡ space.old.keeper.began) × (space.new.began.value ≡ space.old.began.value) }
+    ensures start { (space.new.keeper.began ≡ space.old.keeper.began) × (space.new.began ≡ space.old.began) }
 {
     for command in commands {
         do_command::<D, P, B, M>(space, builders, alloc, command)?;
@@ -179,7 +179,7 @@ fn do_job<D: Disk, P: Participant, B: Builder, M: Meanings>(
     requires served { IsServed M.meaning space.old.core.opened (map (λ b. B.tells b) builders.old) }
     ensures done { MatchResult result (λ _. Ends (Made M.meaning) commands.now space.old.core space.new.core) (λ _. Stops (Cut (InTurn (Made M.meaning 1) commands.now)) space.old.core space.new.core) }
     ensures serves { Serves M.meaning space.old.core space.new.core (map (λ b. B.tells b) builders.old) (map (λ b. B.tells b) builders.new) }
-    ensures start { (space.new.keeper.began ≡ space.old.keeper.began) × (space.new.began.value ≡ space.old.began.value) }
+    ensures start { (space.new.keeper.began ≡ space.old.keeper.began) × (space.new.began ≡ space.old.began) }
 {
     do_commands::<D, P, B, M>(space, builders, alloc, commands)?;
     space.perform(alloc, 1, Event::Finish)
@@ -205,9 +205,9 @@ fn take<D: Disk, P: Participant>(
 ) -> Result<Option<Apart<Name>>, NoMemory>
     requires { IsReady space.old.core.state }
     ensures done { MatchResult result (λ o. Takes o space.old.core space.new.core) (λ _. space.new.core ≡ space.old.core) }
-    ensures start { (space.new.keeper.began ≡ space.old.keeper.began) × (space.new.began.value ≡ space.old.began.value) }
+    ensures start { (space.new.keeper.began ≡ space.old.keeper.began) × (space.new.began ≡ space.old.began) }
 {
-    settle(&space.core);
+    settle(space.core());
     let reply = space.step(alloc, 1, Event::Take)?;
     Ok(job_of(reply.answer))
 }
@@ -223,7 +223,7 @@ fn do_jobs<D: Disk, P: Participant, B: Builder, M: Meanings>(
     requires served { IsServed M.meaning space.old.core.opened (map (λ b. B.tells b) builders.old) }
     ensures done { MatchResult result (λ _. Makes (Parts (Made M.meaning) (jobs_plan book.now) 1) space.old.core space.new.core × IsOver space.new.core) (λ _. Stops (Cut (Parts (Made M.meaning) (jobs_plan book.now) 1)) space.old.core space.new.core) }
     ensures serves { Serves M.meaning space.old.core space.new.core (map (λ b. B.tells b) builders.old) (map (λ b. B.tells b) builders.new) }
-    ensures start { (space.new.keeper.began ≡ space.old.keeper.began) × (space.new.began.value ≡ space.old.began.value) }
+    ensures start { (space.new.keeper.began ≡ space.old.keeper.began) × (space.new.began ≡ space.old.began) }
 {
     while let Some(name) = take(space, alloc)? {
         do_job::<D, P, B, M>(space, builders, alloc, book.commands(name.value()))?;
@@ -242,7 +242,7 @@ pub fn work<D: Disk, P: Participant, B: Builder, M: Meanings>(
     requires served { IsServed M.meaning space.old.core.opened (map (λ b. B.tells b) builders.old) }
     ensures done { MatchResult result (λ _. Makes (Parts (Made M.meaning) (jobs_plan jobs.now) 1) space.old.core space.new.core × IsOver space.new.core) (λ _. Stops (Cut (Parts (Made M.meaning) (jobs_plan jobs.now) 1)) space.old.core space.new.core) }
     ensures serves { Serves M.meaning space.old.core space.new.core (map (λ b. B.tells b) builders.old) (map (λ b. B.tells b) builders.new) }
-    ensures start { (space.new.keeper.began ≡ space.old.keeper.began) × (space.new.began.value ≡ space.old.began.value) }
+    ensures start { (space.new.keeper.began ≡ space.old.keeper.began) × (space.new.began ≡ space.old.began) }
 {
     let book = JobBook::of(alloc, jobs)?;
     do_jobs::<D, P, B, M>(space, builders, alloc, &book)

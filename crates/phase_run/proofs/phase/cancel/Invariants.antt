@@ -8,4 +8,4 @@ use Rattle.phase_run.proofs.phase.cancel.Given as goal
 -- of the jobs so far those that slept are cancelled
 abbrev pub invariant-loop-job : goal.invariant-loop-job
 invariant-loop-job g l = Makes (Cancelled (replay l.fn.space.core.opened l.fn.space.core.history) (take l.job-index (jobs_plan l.jobs))) l.fn.space.core l.space.core
-    × (l.space.keeper.began ≡ l.fn.space.keeper.began) × (l.space.began.value ≡ l.fn.space.began.value)
+    × (l.space.keeper.began ≡ l.fn.space.keeper.began) × (l.space.began ≡ l.fn.space.began)

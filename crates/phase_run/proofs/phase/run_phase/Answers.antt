@@ -12,7 +12,7 @@ use Rattle.phase_run.proofs.Phases.{phase_unscheduled, phase_undone, phase_uncan
 use Rattle.phase_run.proofs.phase.run_phase.Goals as goal
 
 pub work-requires-clause-served : goal.work-requires-clause-served
-work-requires-clause-served g c = still_served g.M.Meanings.meaning c.args.space.now.core.opened c.schedule.new.space.core.opened (map (λ b. g.B.Builder.tells b) c.args.builders.now) (map (λ b. g.B.Builder.tells b) c.args.builders.now) c.in_ok-schedule.ensures.opened (builders_stay g.M.Meanings.meaning (map (λ b. g.B.Builder.tells b) c.args.builders.now)) c.requires.served
+work-requires-clause-served g c = still_served g.M.Meanings.meaning c.args.space.now.core.opened c.schedule.new.space.core.opened (map (λ b. g.B.Builder.tells b) c.args.builders.now) (map (λ b. g.B.Builder.tells b) c.args.builders.now) c.in_ok-schedule.ensures.done.opened (builders_stay g.M.Meanings.meaning (map (λ b. g.B.Builder.tells b) c.args.builders.now)) c.requires.served
 
 pub returns-in_err-schedule-clause-done : goal.returns-in_err-schedule-clause-done
 returns-in_err-schedule-clause-done g c = on_err _ _ c.from_residual.result c.from_residual.ensures.0

@@ -8,4 +8,4 @@ use Rattle.phase_run.proofs.run.run_each.Given as goal
 abbrev pub invariant-loop-phase : goal.invariant-loop-phase
 invariant-loop-phase g l = RunsPhases (Made g.M.Meanings.meaning) (take l.phase-index (phases_plan l.phases)) l.fn.space.core l.space.core (map (λ x. g.L.Listener.heard x) l.fn.listeners) (map (λ x. g.L.Listener.heard x) l.listeners)
     × Serves g.M.Meanings.meaning l.fn.space.core l.space.core (map (λ b. g.B.Builder.tells b) l.fn.builders) (map (λ b. g.B.Builder.tells b) l.builders)
-    × (l.space.keeper.began ≡ l.fn.space.keeper.began) × (l.space.began.value ≡ l.fn.space.began.value)
+    × (l.space.keeper.began ≡ l.fn.space.keeper.began) × (l.space.began ≡ l.fn.space.began)

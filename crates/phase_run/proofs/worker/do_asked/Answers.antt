@@ -16,7 +16,7 @@ returns-in-Build-default-None-clause-done g c = subst
 
 pub returns-in-Build-default-Some-clause-done : goal.returns-in-Build-default-Some-clause-done
 returns-in-Build-default-Some-clause-done g c = let made = c.do_build-in-Build-default-Some in subst
-    (λ x. MatchResult made.result (λ _. Works (AskedEntries g.M.Meanings.meaning 1 x) c.args.space.now.core made.new.core) (λ _. Stops (Cut (AskedEntries g.M.Meanings.meaning 1 x)) c.args.space.now.core made.new.core))
+    (λ x. MatchResult made.result (λ _. Works (AskedEntries g.M.Meanings.meaning 1 x) c.args.space.now.core made.new.space.core) (λ _. Stops (Cut (AskedEntries g.M.Meanings.meaning 1 x)) c.args.space.now.core made.new.space.core))
     (sym (c.in-Build-default-Some.is ∙ ap (Build c.in-Build-default-Some.kind) c.in-Build-default-Some.field-1-is)) made.ensures.done
 
 pub returns-in-One-clause-serves : goal.returns-in-One-clause-serves

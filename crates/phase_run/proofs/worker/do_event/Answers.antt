@@ -1,5 +1,6 @@
 use Rattle.run_order.specs.Parts.{CommandEntries}
 use Rattle.run_order.proofs.Parts.{event_some}
+use Rattle.phase_run.proofs.Plain.{command_plain}
 use Rattle.phase_run.proofs.Results.{both_of}
 use Rattle.phase_run.proofs.Commanded.{work_there, did_event, not_begun}
 use Rattle.phase_run.proofs.worker.do_event.Goals as goal
@@ -11,4 +12,4 @@ returns-clause-done g c = both_of c.perform.result
     c.perform.ensures.state c.perform.ensures.history c.perform.ensures.err
 
 pub perform-requires : goal.perform-requires
-perform-requires g c = work_there c.args.space.now.core.state c.requires.work
+perform-requires g c = record { entered = work_there c.args.space.now.core.state c.requires.work; plain = command_plain c.args.event c.requires.asked.command }

@@ -7,7 +7,7 @@ use Rattle.phase_run.proofs.Saves.{ended_save, none_quietly, saved_quietly, some
 use Rattle.phase_run.proofs.worker.do_save.Goals as goal
 
 pub save-requires : goal.save-requires
-save-requires g c = work_there c.args.space.now.core.state c.requires.work
+save-requires g c = record { worker = work_there c.args.space.now.core.state c.requires.work }
 
 pub returns-in_err-saved-clause-done : goal.returns-in_err-saved-clause-done
 returns-in_err-saved-clause-done g c = on_err _ _ c.from_residual.result c.from_residual.ensures.0
