@@ -9,8 +9,9 @@ use Rattle.run_order.proofs.Alone.{MadeByOne, OnlyBy}
 use Rattle.run_order.proofs.Parts.{event_some}
 use Rattle.build_history.specs.Events.{IsOwn}
 use Rattle.build_host.proofs.Cutting.{some_build}
+use Rattle.phase_run.proofs.Saves.{save_by, some_save}
 use Rattle.phase_run.specs.declared.plan.Asked.{Asked}
-use Rattle.phase_run.specs.declared.plan.Asked.TheVariants.{One, Build}
+use Rattle.phase_run.specs.declared.plan.Asked.TheVariants.{One, Build, Save}
 use Rattle.phase_run.specs.Plans.{asked_of, AskedEntries, Made}
 use Rattle.core_event.specs.declared.event.Event.{Event}
 use Rattle.phase_run.specs.Inside.Doing.{IsAskable, IsAsked}
@@ -28,6 +29,7 @@ askable (commands.Sleep name) = record { command = tt; schedules_none = refl }
 askable (commands.Wake name) = record { command = tt; schedules_none = refl }
 askable (commands.Cancel name) = record { command = tt; schedules_none = refl }
 askable (commands.Build kind project) = tt
+askable (commands.Save kind) = tt
 
 pub asked_one : (asked : Asked) (e : Event) → asked ≡ One e → IsAskable asked → IsAsked e
 asked_one asked e is h = subst IsAskable is h
@@ -39,6 +41,7 @@ some_made ms c = by (asked_of c)
     by : (asked : Asked) → (l : List Entry) × AskedEntries ms 1 asked l
     by (One event) = event_some (λ e. e) 1 event
     by (Build kind project) = some_build ms kind project
+    by (Save kind) = some_save kind
 
 all_by : (k : ℕ) (h : List Entry) → AllByRecursion (IsOwn k) h → OnlyBy k h
 all_by k [] all = tt
@@ -51,3 +54,4 @@ made_by_one ms k c h p = by (asked_of c) p
     by : (asked : Asked) → AskedEntries ms k asked h → OnlyBy k h
     by (One event) p = subst (OnlyBy k) (sym p.1) (refl, tt)
     by (Build kind project) p = all_by k h p.own
+    by (Save kind) p = save_by k kind h p

@@ -1,5 +1,7 @@
+pub mod Plain
 pub mod Results
 pub mod Calm
+pub mod Saves
 pub mod Builds
 pub mod Commands
 pub mod Commanded

@@ -12,10 +12,11 @@ use Rattle.run_order.specs.Plans.{JobPlan}
 use Rattle.run_order.specs.Plans as order
 use Rattle.run_order.specs.Parts.{CommandEntries, Making}
 use Rattle.build_host.specs.Builds.{IsBuild}
+use Rattle.save_history.specs.Saves.{IsSave}
 use Rattle.phase_run.specs.declared.plan.Asked.{Asked}
-use Rattle.phase_run.specs.declared.plan.Asked.TheVariants.{One, Build}
+use Rattle.phase_run.specs.declared.plan.Asked.TheVariants.{One, Build, Save}
 
--- what a command asks: one event, or a build
+-- what a command asks: one event, a build or a save
 abbrev pub asked_of : Command → Asked
 asked_of (commands.Operation op) = One (Operation op)
 asked_of commands.Batch = One Batch
@@ -28,13 +29,15 @@ asked_of (commands.Sleep name) = One (Sleep name)
 asked_of (commands.Wake name) = One (Wake name)
 asked_of (commands.Cancel name) = One (Cancel name)
 asked_of (commands.Build kind project) = Build kind project
+asked_of (commands.Save kind) = Save kind
 
 -- the entries that a pass makes of what is asked, where builders have these meanings
 abbrev pub AskedEntries : Meanings → ℕ → Asked → List Entry → Type 0
 AskedEntries ms k (One event) h = CommandEntries k event h
 AskedEntries ms k (Build kind project) h = IsBuild ms k kind project h
+AskedEntries ms k (Save kind) h = IsSave k kind h
 
--- each command is one event, or the entries of a build
+-- each command is one event, or the entries of a build or a save
 abbrev pub Made : Meanings → Making Command
 Made ms k c h = AskedEntries ms k (asked_of c) h
 

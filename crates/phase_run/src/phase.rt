@@ -15,26 +15,39 @@ use builder_api::{Builder, Builders, Meanings};
 use core_event::Event;
 use elem_tree::LayerTree;
 use res_path::Name;
+use save_round::Participant;
 use script_lang::{Job, Phase};
 use std::alloc::Global;
 use ws_core::Core;
+use ws_outside::Disk;
+use ws_saved::SavedWorkspace;
 
 /// Pass 0 schedules the job.
-fn schedule_one(core: &mut Core<LayerTree>, alloc: Global, job: &Job) -> Result<(), NoMemory>
-    requires { IsReady core.old.state }
-    ensures { MatchResult result (λ _. Makes (λ h. acts h ≡ scheduled (job_plan job.now) ∷ []) core.old core.new) (λ _. core.new ≡ core.old) }
+fn schedule_one<D: Disk, P: Participant>(
+    space: &mut SavedWorkspace<D, P>,
+    alloc: Global,
+    job: &Job,
+) -> Result<(), NoMemory>
+    requires { IsReady space.old.core.state }
+    ensures done { MatchResult result (λ _. Makes (λ h. acts h ≡ scheduled (job_plan job.now) ∷ []) space.old.core space.new.core) (λ _. space.new.core ≡ space.old.core) }
+    ensures start { (space.new.keeper.began ≡ space.old.keeper.began) × (space.new.began ≡ space.old.began) }
 {
     let event = schedule_of(job)?;
-    core.perform(alloc, 0, event)
+    space.perform(alloc, 0, event)
 }
 
 /// Pass 0 schedules the jobs, in order.
-fn schedule(core: &mut Core<LayerTree>, alloc: Global, jobs: &[Job]) -> Result<(), NoMemory>
-    requires { IsReady core.old.state }
-    ensures { MatchResult result (λ _. Makes (λ h. acts h ≡ map scheduled (jobs_plan jobs.now)) core.old core.new) (λ _. Stops (Cut (λ h. acts h ≡ map scheduled (jobs_plan jobs.now))) core.old core.new) }
+fn schedule<D: Disk, P: Participant>(
+    space: &mut SavedWorkspace<D, P>,
+    alloc: Global,
+    jobs: &[Job],
+) -> Result<(), NoMemory>
+    requires { IsReady space.old.core.state }
+    ensures done { MatchResult result (λ _. Makes (λ h. acts h ≡ map scheduled (jobs_plan jobs.now)) space.old.core space.new.core) (λ _. Stops (Cut (λ h. acts h ≡ map scheduled (jobs_plan jobs.now))) space.old.core space.new.core) }
+    ensures start { (space.new.keeper.began ≡ space.old.keeper.began) × (space.new.began ≡ space.old.began) }
 {
     for job in jobs {
-        schedule_one(core, alloc, job)?;
+        schedule_one(space, alloc, job)?;
     }
     Ok(())
 }
@@ -50,44 +63,55 @@ fn sleeps(core: &Core<LayerTree>, name: &Name) -> bool
 }
 
 /// Pass 0 cancels the job, if it sleeps.
-fn cancel_one(core: &mut Core<LayerTree>, alloc: Global, job: &Job) -> Result<(), NoMemory>
-    requires { IsReady core.old.state }
-    ensures { MatchResult result (λ _. Makes (λ h. acts h ≡ map cancelled (sleepers (replay core.old.opened core.old.history) (job_plan job.now ∷ []))) core.old core.new) (λ _. core.new ≡ core.old) }
+fn cancel_one<D: Disk, P: Participant>(
+    space: &mut SavedWorkspace<D, P>,
+    alloc: Global,
+    job: &Job,
+) -> Result<(), NoMemory>
+    requires { IsReady space.old.core.state }
+    ensures done { MatchResult result (λ _. Makes (λ h. acts h ≡ map cancelled (sleepers (replay space.old.core.opened space.old.core.history) (job_plan job.now ∷ []))) space.old.core space.new.core) (λ _. space.new.core ≡ space.old.core) }
+    ensures start { (space.new.keeper.began ≡ space.old.keeper.began) × (space.new.began ≡ space.old.began) }
 {
-    if !sleeps(core, &job.name) {
+    if !sleeps(space.core(), &job.name) {
         return Ok(());
     }
-    core.perform(alloc, 0, Event::Cancel(job.name.copy()?))
+    space.perform(alloc, 0, Event::Cancel(job.name.copy()?))
 }
 
 /// Pass 0 cancels those of the jobs that sleep, in order.
-fn cancel(core: &mut Core<LayerTree>, alloc: Global, jobs: &[Job]) -> Result<(), NoMemory>
-    requires ready { IsReady core.old.state }
+fn cancel<D: Disk, P: Participant>(
+    space: &mut SavedWorkspace<D, P>,
+    alloc: Global,
+    jobs: &[Job],
+) -> Result<(), NoMemory>
+    requires ready { IsReady space.old.core.state }
     requires names { HaveOwnNames jobs.now }
-    ensures { MatchResult result (λ _. Makes (λ h. acts h ≡ map cancelled (sleepers (replay core.old.opened core.old.history) (jobs_plan jobs.now))) core.old core.new)
-        (λ _. Stops (Cut (λ h. acts h ≡ map cancelled (sleepers (replay core.old.opened core.old.history) (jobs_plan jobs.now)))) core.old core.new) }
+    ensures done { MatchResult result (λ _. Makes (λ h. acts h ≡ map cancelled (sleepers (replay space.old.core.opened space.old.core.history) (jobs_plan jobs.now))) space.old.core space.new.core)
+        (λ _. Stops (Cut (λ h. acts h ≡ map cancelled (sleepers (replay space.old.core.opened space.old.core.history) (jobs_plan jobs.now)))) space.old.core space.new.core) }
+    ensures start { (space.new.keeper.began ≡ space.old.keeper.began) × (space.new.began ≡ space.old.began) }
 {
     for job in jobs {
-        cancel_one(core, alloc, job)?;
+        cancel_one(space, alloc, job)?;
     }
     Ok(())
 }
 
 /// The phase is run.
-pub fn run_phase<B: Builder, M: Meanings>(
-    core: &mut Core<LayerTree>,
+pub fn run_phase<D: Disk, P: Participant, B: Builder, M: Meanings>(
+    space: &mut SavedWorkspace<D, P>,
     builders: &mut Builders<B>,
     alloc: Global,
     phase: &Phase,
 ) -> Result<(), NoMemory>
-    requires ready { IsReady core.old.state }
-    requires served { IsServed M.meaning core.old.opened (map (λ b. B.tells b) builders.old) }
-    ensures done { MatchResult result (λ _. Makes (IsPhase (Made M.meaning) 1 (phase_plan phase.now) (replay core.old.opened core.old.history)) core.old core.new)
-        (λ _. Stops (IsCutPhase (Made M.meaning) 1 (phase_plan phase.now) (replay core.old.opened core.old.history)) core.old core.new) }
-    ensures serves { Serves M.meaning core.old core.new (map (λ b. B.tells b) builders.old) (map (λ b. B.tells b) builders.new) }
+    requires ready { IsReady space.old.core.state }
+    requires served { IsServed M.meaning space.old.core.opened (map (λ b. B.tells b) builders.old) }
+    ensures done { MatchResult result (λ _. Makes (IsPhase (Made M.meaning) 1 (phase_plan phase.now) (replay space.old.core.opened space.old.core.history)) space.old.core space.new.core)
+        (λ _. Stops (IsCutPhase (Made M.meaning) 1 (phase_plan phase.now) (replay space.old.core.opened space.old.core.history)) space.old.core space.new.core) }
+    ensures serves { Serves M.meaning space.old.core space.new.core (map (λ b. B.tells b) builders.old) (map (λ b. B.tells b) builders.new) }
+    ensures start { (space.new.keeper.began ≡ space.old.keeper.began) × (space.new.began ≡ space.old.began) }
 {
     let jobs = phase.jobs.as_slice();
-    schedule(core, alloc, jobs)?;
-    work::<B, M>(core, builders, alloc, jobs)?;
-    cancel(core, alloc, jobs)
+    schedule(space, alloc, jobs)?;
+    work::<D, P, B, M>(space, builders, alloc, jobs)?;
+    cancel(space, alloc, jobs)
 }

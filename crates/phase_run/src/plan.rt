@@ -8,6 +8,7 @@ use crate::NoMemory;
 use builder_api::BuildKind;
 use core_event::Event;
 use res_path::Name;
+use save_kind::SaveKind;
 use script_lang::{Command, Job};
 
 /// What a command asks of the workspace.
@@ -17,6 +18,8 @@ pub enum Asked {
     One(Event),
     /// A build of the project of this name, or of the whole workspace.
     Build(BuildKind, Option<Name>),
+    /// A save of this kind.
+    Save(SaveKind),
 }
 
 /// What a command asks. It shares the command's texts.
@@ -36,6 +39,7 @@ pub fn asked_of(command: &Command) -> Result<Asked, NoMemory>
         Command::Cancel(name) => Ok(Asked::One(Event::Cancel(name.copy()?))),
         Command::Build(kind, None) => Ok(Asked::Build(*kind, None)),
         Command::Build(kind, Some(name)) => Ok(Asked::Build(*kind, Some(name.copy()?))),
+        Command::Save(kind) => Ok(Asked::Save(*kind)),
     }
 }
 

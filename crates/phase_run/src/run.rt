@@ -18,118 +18,124 @@ use crate::telling::tell_since;
 use build_host::settle;
 use builder_api::{Builder, Builders, Meanings};
 use core_event::Event;
-use elem_tree::LayerTree;
 use save_parts::{Listener, Listeners};
+use save_round::Participant;
 use script_lang::Phase;
 use std::alloc::Global;
-use ws_core::Core;
+use ws_outside::Disk;
+use ws_saved::SavedWorkspace;
 
 /// The worker enters, and what that tells is told.
-fn enter<L: Listener>(
-    core: &mut Core<LayerTree>,
+fn enter<L: Listener, D: Disk, P: Participant>(
+    space: &mut SavedWorkspace<D, P>,
     alloc: Global,
     listeners: &mut Listeners<L>,
 ) -> Result<(), NoMemory>
-    requires opened { core.old.opened.manager ≡ first_manager }
-    requires state { core.old.state ≡ core.old.opened }
-    ensures made { OnOk result (Makes (λ h. acts h ≡ (0, Enter) ∷ []) core.old core.new) }
-    ensures told { OnOk result (Tells core.old.history core.new.history (map (λ l. L.heard l) listeners.old) (map (λ l. L.heard l) listeners.new)) }
-    ensures same { OnErr result (core.new ≡ core.old) }
+    requires opened { space.old.core.opened.manager ≡ first_manager }
+    requires state { space.old.core.state ≡ space.old.core.opened }
+    ensures made { OnOk result (Makes (λ h. acts h ≡ (0, Enter) ∷ []) space.old.core space.new.core) }
+    ensures told { OnOk result (Tells space.old.core.history space.new.core.history (map (λ l. L.heard l) listeners.old) (map (λ l. L.heard l) listeners.new)) }
+    ensures same { OnErr result (space.new.core ≡ space.old.core) }
     ensures quiet { OnErr result (listeners.new ≡ listeners.old) }
+    ensures start { (space.new.keeper.began ≡ space.old.keeper.began) × (space.new.began ≡ space.old.began) }
 {
-    let from = core.history().len();
-    core.perform(alloc, 0, Event::Enter)?;
-    tell_since(core, listeners, from);
+    let from = space.core().history().len();
+    space.perform(alloc, 0, Event::Enter)?;
+    tell_since(space.core(), listeners, from);
     Ok(())
 }
 
 /// A phase is run, and then what it told is told.
-fn run_and_tell<L: Listener, B: Builder, M: Meanings>(
-    core: &mut Core<LayerTree>,
+fn run_and_tell<L: Listener, D: Disk, P: Participant, B: Builder, M: Meanings>(
+    space: &mut SavedWorkspace<D, P>,
     builders: &mut Builders<B>,
     alloc: Global,
     listeners: &mut Listeners<L>,
     phase: &Phase,
 ) -> Result<(), NoMemory>
-    requires ready { IsReady core.old.state }
-    requires served { IsServed M.meaning core.old.opened (map (λ b. B.tells b) builders.old) }
-    ensures done { MatchResult result (λ _. RunsPhase (Made M.meaning) phase.now core.old core.new (map (λ l. L.heard l) listeners.old) (map (λ l. L.heard l) listeners.new))
-        (λ _. CutsPhase (Made M.meaning) phase.now core.old core.new (map (λ l. L.heard l) listeners.old) (map (λ l. L.heard l) listeners.new)) }
-    ensures serves { Serves M.meaning core.old core.new (map (λ b. B.tells b) builders.old) (map (λ b. B.tells b) builders.new) }
+    requires ready { IsReady space.old.core.state }
+    requires served { IsServed M.meaning space.old.core.opened (map (λ b. B.tells b) builders.old) }
+    ensures done { MatchResult result (λ _. RunsPhase (Made M.meaning) phase.now space.old.core space.new.core (map (λ l. L.heard l) listeners.old) (map (λ l. L.heard l) listeners.new))
+        (λ _. CutsPhase (Made M.meaning) phase.now space.old.core space.new.core (map (λ l. L.heard l) listeners.old) (map (λ l. L.heard l) listeners.new)) }
+    ensures serves { Serves M.meaning space.old.core space.new.core (map (λ b. B.tells b) builders.old) (map (λ b. B.tells b) builders.new) }
+    ensures start { (space.new.keeper.began ≡ space.old.keeper.began) × (space.new.began ≡ space.old.began) }
 {
-    let from = core.history().len();
-    run_phase::<B, M>(core, builders, alloc, phase)?;
-    tell_since(core, listeners, from);
+    let from = space.core().history().len();
+    run_phase::<D, P, B, M>(space, builders, alloc, phase)?;
+    tell_since(space.core(), listeners, from);
     Ok(())
 }
 
 /// The phases are run, one after another.
-fn run_each<L: Listener, B: Builder, M: Meanings>(
-    core: &mut Core<LayerTree>,
+fn run_each<L: Listener, D: Disk, P: Participant, B: Builder, M: Meanings>(
+    space: &mut SavedWorkspace<D, P>,
     builders: &mut Builders<B>,
     alloc: Global,
     listeners: &mut Listeners<L>,
     phases: &[Phase],
 ) -> Result<(), NoMemory>
-    requires ready { IsReady core.old.state }
-    requires served { IsServed M.meaning core.old.opened (map (λ b. B.tells b) builders.old) }
-    ensures done { MatchResult result (λ _. RunsPhases (Made M.meaning) (phases_plan phases.now) core.old core.new (map (λ l. L.heard l) listeners.old) (map (λ l. L.heard l) listeners.new))
-        (λ _. CutsPhases (Made M.meaning) (phases_plan phases.now) core.old core.new (map (λ l. L.heard l) listeners.old) (map (λ l. L.heard l) listeners.new)) }
-    ensures serves { Serves M.meaning core.old core.new (map (λ b. B.tells b) builders.old) (map (λ b. B.tells b) builders.new) }
+    requires ready { IsReady space.old.core.state }
+    requires served { IsServed M.meaning space.old.core.opened (map (λ b. B.tells b) builders.old) }
+    ensures done { MatchResult result (λ _. RunsPhases (Made M.meaning) (phases_plan phases.now) space.old.core space.new.core (map (λ l. L.heard l) listeners.old) (map (λ l. L.heard l) listeners.new))
+        (λ _. CutsPhases (Made M.meaning) (phases_plan phases.now) space.old.core space.new.core (map (λ l. L.heard l) listeners.old) (map (λ l. L.heard l) listeners.new)) }
+    ensures serves { Serves M.meaning space.old.core space.new.core (map (λ b. B.tells b) builders.old) (map (λ b. B.tells b) builders.new) }
+    ensures start { (space.new.keeper.began ≡ space.old.keeper.began) × (space.new.began ≡ space.old.began) }
 {
     for phase in phases {
-        run_and_tell::<L, B, M>(core, builders, alloc, listeners, phase)?;
+        run_and_tell::<L, D, P, B, M>(space, builders, alloc, listeners, phase)?;
     }
     Ok(())
 }
 
 /// The worker leaves, and what that tells is told.
-fn leave<L: Listener>(
-    core: &mut Core<LayerTree>,
+fn leave<L: Listener, D: Disk, P: Participant>(
+    space: &mut SavedWorkspace<D, P>,
     alloc: Global,
     listeners: &mut Listeners<L>,
 ) -> Result<(), NoMemory>
-    requires { IsReady core.old.state }
-    ensures opened { core.new.opened ≡ core.old.opened }
-    ensures made { OnOk result (Grew (λ h. acts h ≡ (1, Leave) ∷ []) core.old.history core.new.history) }
-    ensures calm { OnOk result (IsCalm core.old.history → IsCalm core.new.history) }
-    ensures told { OnOk result (Tells core.old.history core.new.history (map (λ l. L.heard l) listeners.old) (map (λ l. L.heard l) listeners.new)) }
-    ensures same { OnErr result (core.new ≡ core.old) }
+    requires { IsReady space.old.core.state }
+    ensures opened { space.new.core.opened ≡ space.old.core.opened }
+    ensures made { OnOk result (Grew (λ h. acts h ≡ (1, Leave) ∷ []) space.old.core.history space.new.core.history) }
+    ensures calm { OnOk result (IsCalm space.old.core.history → IsCalm space.new.core.history) }
+    ensures told { OnOk result (Tells space.old.core.history space.new.core.history (map (λ l. L.heard l) listeners.old) (map (λ l. L.heard l) listeners.new)) }
+    ensures same { OnErr result (space.new.core ≡ space.old.core) }
     ensures quiet { OnErr result (listeners.new ≡ listeners.old) }
+    ensures start { (space.new.keeper.began ≡ space.old.keeper.began) × (space.new.began ≡ space.old.began) }
 {
-    let from = core.history().len();
-    core.perform(alloc, 1, Event::Leave)?;
-    tell_since(core, listeners, from);
+    let from = space.core().history().len();
+    space.perform(alloc, 1, Event::Leave)?;
+    tell_since(space.core(), listeners, from);
     Ok(())
 }
 
 /// The worker enters, the phases are run, and it leaves.
-fn run_all<L: Listener, B: Builder, M: Meanings>(
-    core: &mut Core<LayerTree>,
+fn run_all<L: Listener, D: Disk, P: Participant, B: Builder, M: Meanings>(
+    space: &mut SavedWorkspace<D, P>,
     builders: &mut Builders<B>,
     alloc: Global,
     listeners: &mut Listeners<L>,
     phases: &[Phase],
 ) -> Result<(), NoMemory>
-    requires opened { core.old.opened.manager ≡ first_manager }
-    requires state { core.old.state ≡ core.old.opened }
-    requires history { core.old.history ≡ [] }
-    requires served { IsServed M.meaning core.old.opened (map (λ b. B.tells b) builders.old) }
-    ensures opened { core.new.opened ≡ core.old.opened }
-    ensures whole { OnOk result (Shuffle (Made M.meaning) core.old.opened (phases_plan phases.now) 1 core.new.history) }
-    ensures cut { OnErr result (CutShuffle (Made M.meaning) core.old.opened (phases_plan phases.now) 1 core.new.history) }
-    ensures there { OnErr result ((core.new.history ≡ []) ⊎ (has_entered 1 core.new.state ≡ true)) }
-    ensures calm { OnOk result (IsCalm core.new.history) }
-    ensures told { OnOk result (HeardAll core.new.history (map (λ l. L.heard l) listeners.old) (map (λ l. L.heard l) listeners.new)) }
-    ensures told_some { OnErr result (HeardFront core.new.history (map (λ l. L.heard l) listeners.old) (map (λ l. L.heard l) listeners.new)) }
-    ensures serves { Serves M.meaning core.old core.new (map (λ b. B.tells b) builders.old) (map (λ b. B.tells b) builders.new) }
+    requires opened { space.old.core.opened.manager ≡ first_manager }
+    requires state { space.old.core.state ≡ space.old.core.opened }
+    requires history { space.old.core.history ≡ [] }
+    requires served { IsServed M.meaning space.old.core.opened (map (λ b. B.tells b) builders.old) }
+    ensures opened { space.new.core.opened ≡ space.old.core.opened }
+    ensures whole { OnOk result (Shuffle (Made M.meaning) space.old.core.opened (phases_plan phases.now) 1 space.new.core.history) }
+    ensures cut { OnErr result (CutShuffle (Made M.meaning) space.old.core.opened (phases_plan phases.now) 1 space.new.core.history) }
+    ensures there { OnErr result ((space.new.core.history ≡ []) ⊎ (has_entered 1 space.new.core.state ≡ true)) }
+    ensures calm { OnOk result (IsCalm space.new.core.history) }
+    ensures told { OnOk result (HeardAll space.new.core.history (map (λ l. L.heard l) listeners.old) (map (λ l. L.heard l) listeners.new)) }
+    ensures told_some { OnErr result (HeardFront space.new.core.history (map (λ l. L.heard l) listeners.old) (map (λ l. L.heard l) listeners.new)) }
+    ensures serves { Serves M.meaning space.old.core space.new.core (map (λ b. B.tells b) builders.old) (map (λ b. B.tells b) builders.new) }
+    ensures start { (space.new.keeper.began ≡ space.old.keeper.began) × (space.new.began ≡ space.old.began) }
 {
     if phases.is_empty() {
         return Ok(());
     }
-    enter(core, alloc, listeners)?;
-    run_each::<L, B, M>(core, builders, alloc, listeners, phases)?;
-    leave(core, alloc, listeners)
+    enter(space, alloc, listeners)?;
+    run_each::<L, D, P, B, M>(space, builders, alloc, listeners, phases)?;
+    leave(space, alloc, listeners)
 }
 
 /// Runs the phases of a script by one worker, on a workspace that was just opened: a fresh one, or one from what was
@@ -141,27 +147,28 @@ fn run_all<L: Listener, B: Builder, M: Meanings>(
 /// some beginning of the history tells. The builders are the same ones, and mean what they meant.
 ///
 /// A phase costs n log n steps for its n jobs, beside what their commands cost.
-pub fn run_phases<L: Listener, B: Builder, M: Meanings>(
-    core: &mut Core<LayerTree>,
+pub fn run_phases<L: Listener, D: Disk, P: Participant, B: Builder, M: Meanings>(
+    space: &mut SavedWorkspace<D, P>,
     builders: &mut Builders<B>,
     alloc: Global,
     listeners: &mut Listeners<L>,
     phases: &[Phase],
 ) -> Result<(), NoMemory>
-    requires opened { core.old.opened.manager ≡ first_manager }
-    requires state { core.old.state ≡ core.old.opened }
-    requires history { core.old.history ≡ [] }
-    requires served { IsServed M.meaning core.old.opened (map (λ b. B.tells b) builders.old) }
-    ensures opened { core.new.opened ≡ core.old.opened }
-    ensures whole { OnOk result (Shuffle (Made M.meaning) core.old.opened (phases_plan phases.now) 1 core.new.history) }
-    ensures cut { OnErr result (CutShuffle (Made M.meaning) core.old.opened (phases_plan phases.now) 1 core.new.history) }
-    ensures there { OnErr result ((core.new.history ≡ []) ⊎ (has_entered 1 (replay core.new.opened core.new.history) ≡ true)) }
-    ensures calm { OnOk result (IsCalm core.new.history) }
-    ensures told { OnOk result (HeardAll core.new.history (map (λ l. L.heard l) listeners.old) (map (λ l. L.heard l) listeners.new)) }
-    ensures told_some { OnErr result (HeardFront core.new.history (map (λ l. L.heard l) listeners.old) (map (λ l. L.heard l) listeners.new)) }
-    ensures serves { Serves M.meaning core.old core.new (map (λ b. B.tells b) builders.old) (map (λ b. B.tells b) builders.new) }
+    requires opened { space.old.core.opened.manager ≡ first_manager }
+    requires state { space.old.core.state ≡ space.old.core.opened }
+    requires history { space.old.core.history ≡ [] }
+    requires served { IsServed M.meaning space.old.core.opened (map (λ b. B.tells b) builders.old) }
+    ensures opened { space.new.core.opened ≡ space.old.core.opened }
+    ensures whole { OnOk result (Shuffle (Made M.meaning) space.old.core.opened (phases_plan phases.now) 1 space.new.core.history) }
+    ensures cut { OnErr result (CutShuffle (Made M.meaning) space.old.core.opened (phases_plan phases.now) 1 space.new.core.history) }
+    ensures there { OnErr result ((space.new.core.history ≡ []) ⊎ (has_entered 1 (replay space.new.core.opened space.new.core.history) ≡ true)) }
+    ensures calm { OnOk result (IsCalm space.new.core.history) }
+    ensures told { OnOk result (HeardAll space.new.core.history (map (λ l. L.heard l) listeners.old) (map (λ l. L.heard l) listeners.new)) }
+    ensures told_some { OnErr result (HeardFront space.new.core.history (map (λ l. L.heard l) listeners.old) (map (λ l. L.heard l) listeners.new)) }
+    ensures serves { Serves M.meaning space.old.core space.new.core (map (λ b. B.tells b) builders.old) (map (λ b. B.tells b) builders.new) }
+    ensures start { (space.new.keeper.began ≡ space.old.keeper.began) × (space.new.began ≡ space.old.began) }
 {
-    let ran = run_all::<L, B, M>(core, builders, alloc, listeners, phases);
-    settle(core);
+    let ran = run_all::<L, D, P, B, M>(space, builders, alloc, listeners, phases);
+    settle(space.core());
     ran
 }

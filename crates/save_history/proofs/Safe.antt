@@ -1,5 +1,5 @@
 -- The store of an open workspace, as its history goes on.
-use Rattle.std.proofs.Common.{◌≡◌, ℕ, ◌+◌, false, List, [], ◌∷◌, ◌++◌, Option, Some, None, Result, Ok, Err, refl, sym, ap, ◌∙◌, subst, arith}
+use Rattle.std.proofs.Common.{◌≡◌, ℕ, ◌+◌, false, List, [], ◌∷◌, ◌++◌, Option, Some, None, Result, Ok, Err, refl, sym, ap, ◌∙◌, subst, arith, append-nil}
 use Rattle.std.specs.Option.{option_to_list}
 use Rattle.ws_outside.specs.declared.contents.Contents.{Contents}
 use Rattle.ws_durable.specs.Saved.{saved}
@@ -49,6 +49,15 @@ steps_on h h' e o grew made = ap steps_of grew ∙ steps_append h (e ∷ []) ∙
 failures_none : (h h' : List Entry) → steps_of h' ≡ steps_of h ++ [] → failures (steps_of h') ≡ failures (steps_of h)
 failures_none h h' is = let more = failures_append (steps_of h) [] in let all = ap failures is in omega (arith, more, all)
 
+-- where it makes no step now, it made none before
+none_before : (h h' : List Entry) → steps_of h' ≡ steps_of h ++ [] → steps_of h' ≡ [] → steps_of h ≡ []
+none_before h h' is none = sym (append-nil (steps_of h)) ∙ sym is ∙ none
+
+-- and with a step it makes some
+some_made : {A : Type 0} (steps : List SaveStep) (step : SaveStep) → steps ++ step ∷ [] ≡ [] → A
+some_made [] step is = let no : step ∷ [] ≡ [] = is in cc
+some_made (first ∷ steps) step is = let no : first ∷ (steps ++ step ∷ []) ≡ [] = is in cc
+
 failures_step : (h h' : List Entry) (step : SaveStep) → steps_of h' ≡ steps_of h ++ step ∷ [] → failures (steps_of h') ≡ failures (steps_of h) + failure_in step
 failures_step h h' step is = let more = failures_append (steps_of h) (step ∷ []) in let all = ap failures is in omega (arith, more, all)
 
@@ -71,6 +80,7 @@ module _ {D : Type 0} (moment : D → ℕ) (left_since : D → ℕ → Contents 
   kept_first only_now saves stored x none = record {
     safe = subst (λ h. Safe (points_of (saved saves.last) x.opened h) (record { began = saves; store = saves; failed = false })) (sym none) (safe_first moment left_since may_leave faults only_now saves stored);
     counted = subst (λ h. HasRisenBy (failures (steps_of h)) (faults saves.areas.disk) (faults saves.areas.disk)) (sym none) (risen_first (faults saves.areas.disk));
+    untouched = λ _. refl;
   }
 
   -- the history went on by entries that make no step
@@ -78,6 +88,7 @@ module _ {D : Type 0} (moment : D → ℕ) (left_since : D → ℕ → Contents 
   kept_on k x y l opened grew none kept = record {
     safe = subst (λ p. Safe p k) (sym (points_on k x y opened l grew ∙ no_points (points_at x k) (replay x.opened x.history) l none)) kept.safe;
     counted = subst (λ n. Counted n k) (sym (failures_none x.history y.history (ap steps_of grew ∙ steps_append x.history l ∙ ap (λ s. steps_of x.history ++ s) (no_steps l none)))) kept.counted;
+    untouched = λ unmade. kept.untouched (none_before x.history y.history (ap steps_of grew ∙ steps_append x.history l ∙ ap (λ s. steps_of x.history ++ s) (no_steps l none)) unmade);
   }
 
   module _ (k : Keeper D) (x y : Session) (opened : y.opened ≡ x.opened) (placed : x.state ≡ replay x.opened x.history) (e : Entry) (grew : y.history ≡ x.history ++ e ∷ []) (is : y.state ≡ after x.state e) where
@@ -87,6 +98,9 @@ module _ {D : Type 0} (moment : D → ℕ) (left_since : D → ℕ → Contents 
     counted_by : (step : SaveStep) → step_of e.event e.reply.answer ≡ Some step → Counted (failures (steps_of x.history) + failure_in step) k → Counted (failures (steps_of y.history)) k
     counted_by step made counted = subst (λ n. Counted n k) (sym (failures_step x.history y.history step (steps_on x.history y.history e (Some step) grew made))) counted
 
+    never_unmade : (step : SaveStep) → step_of e.event e.reply.answer ≡ Some step → steps_of y.history ≡ [] → k.store ≡ k.began
+    never_unmade step made unmade = some_made (steps_of x.history) step (sym (steps_on x.history y.history e (Some step) grew made) ∙ unmade)
+
     plus_none : Counted (failures (steps_of x.history)) k → Counted (failures (steps_of x.history) + 0) k
     plus_none counted = subst (λ n. Counted n k) (omega arith) counted
 
@@ -95,6 +109,7 @@ module _ {D : Type 0} (moment : D → ℕ) (left_since : D → ℕ → Contents 
     kept_none made kept = record {
       safe = subst (λ p. Safe p k) (sym (points_by None made)) kept.safe;
       counted = subst (λ n. Counted n k) (sym (failures_none x.history y.history (steps_on x.history y.history e None grew made))) kept.counted;
+      untouched = λ unmade. kept.untouched (none_before x.history y.history (steps_on x.history y.history e None grew made) unmade);
     }
 
     -- by one that begins a save
@@ -102,6 +117,7 @@ module _ {D : Type 0} (moment : D → ℕ) (left_since : D → ℕ → Contents 
     kept_begins kind made kept = record {
       safe = subst (λ p. Safe p k) (sym (points_by (Some (Begins kind)) made)) kept.safe;
       counted = counted_by (Begins kind) made (plus_none kept.counted);
+      untouched = never_unmade (Begins kind) made;
     }
 
     -- by one that keeps states
@@ -109,6 +125,7 @@ module _ {D : Type 0} (moment : D → ℕ) (left_since : D → ℕ → Contents 
     kept_keeps states made kept = record {
       safe = subst (λ p. Safe p k) (sym (points_by (Some (Keeps states)) made)) (safe_begun moment left_since may_leave faults (durable_of y.state) (points_at x k) k kept.safe);
       counted = counted_by (Keeps states) made (plus_none kept.counted);
+      untouched = never_unmade (Keeps states) made;
     }
 
     pub asked_keeps : (states : List (List ℕ × PartState)) → step_of e.event e.reply.answer ≡ Some (Keeps states) → IsAsked (points_at y k) (durable_of y.state)
@@ -119,6 +136,7 @@ module _ {D : Type 0} (moment : D → ℕ) (left_since : D → ℕ → Contents 
     ends_by o made safe counted = record {
       safe = subst (λ p. Safe p k) (sym (points_by (Some (Ends o)) made)) safe;
       counted = counted_by (Ends o) made counted;
+      untouched = never_unmade (Ends o) made;
     }
 
     -- in which nothing was kept

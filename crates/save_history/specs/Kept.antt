@@ -70,12 +70,13 @@ pub record IsAhead {D : Type 0} (moment : D → ℕ) (left_since : D → ℕ →
   pub stored : IsStored may_leave [] k.store
   pub written : IsAsked points (saved k.store.last)
 
--- The store is safe for the points of an open workspace, and the disk's count of faults rose for each of its saves that
--- ended because a call on the disk failed.
+-- The store is safe for the points of an open workspace; the disk's count of faults rose for each of its saves that ended
+-- because a call on the disk failed; and where no save made a step the store is as it was opened.
 pub record IsKept {D : Type 0} (moment : D → ℕ) (left_since : D → ℕ → Contents → Type 0) (may_leave : D → Contents → Type 0) (faults : D → ℕ)
     (x : Session) (k : Keeper D) : Type 0 where
   pub safe : IsSafe moment left_since may_leave faults (points_at x k) k
   pub counted : HasRisenBy (failures (steps_of x.history)) (faults (first_disk k)) (faults (disk_of k))
+  pub untouched : steps_of x.history ≡ [] → k.store ≡ k.began
 
 -- The same where the save that was begun last was written with this result, which is not yet told as its end.
 pub record IsTried {D : Type 0} (moment : D → ℕ) (left_since : D → ℕ → Contents → Type 0) (may_leave : D → Contents → Type 0) (faults : D → ℕ)

@@ -7,23 +7,24 @@ use Rattle.sched_rules.specs.declared.ws_atom.WsAtom.{WsAtom}
 use Rattle.sched_rules.specs.declared.ws_atom.WsAtom.TheVariants.{Path, Mutex, Lines}
 use Rattle.op_kind.specs.declared.op.Op.{Op}
 use Rattle.builder_api.specs.declared.kind.BuildKind.{BuildKind}
+use Rattle.save_kind.specs.declared.kind.SaveKind.{SaveKind}
 use Rattle.script_lang.specs.declared.script.Command.TheVariants as command
 use Rattle.script_lang.specs.declared.script.Priority.{Priority}
 use Rattle.script_lang.specs.declared.line.Line.{Line}
 use Rattle.script_lang.specs.declared.line.Line.TheVariants.{BeginPhase, BeginJob, InJob, EndJob, EndPhase}
 use Rattle.script_ops.specs.declared.verb.Verb.{Verb}
-use Rattle.script_ops.specs.declared.verb.Verb.TheVariants.{Phase, EndPhase as EndPhaseVerb, Job, EndJob as EndJobVerb, Batch, EndBatch, Checkpoint, Begin, TryBegin, End, Sleep, Wake, Cancel, Build}
+use Rattle.script_ops.specs.declared.verb.Verb.TheVariants.{Phase, EndPhase as EndPhaseVerb, Job, EndJob as EndJobVerb, Batch, EndBatch, Checkpoint, Begin, TryBegin, End, Sleep, Wake, Cancel, Build, Save}
 use Rattle.script_words.specs.declared.words.Token.{Token}
 use Rattle.script_words.specs.Words.{Word}
 use Rattle.script_parts.specs.Parts.{Part, keyword, a_name, FitsPart, FitsParts, rule_parts, scope_parts}
-use Rattle.script_lang.specs.Commands.{FitsLine, asleep_parts, kind_word, priority_word, line_parts, line_read}
+use Rattle.script_lang.specs.Commands.{FitsLine, asleep_parts, kind_word, save_word, priority_word, line_parts, line_read}
 use Rattle.script_lang.specs.Inside.Reading.{IsLineOf, IsStartFound, IsSleepFound}
 use Rattle.script_parts.specs.Inside.Found.{IsRuleFound, FitsFront}
 use Rattle.script_ops.specs.Operations.{operation_parts}
 use Rattle.script_ops.specs.Inside.Verbs.{verb_word, begins_operation, begun_with}
 use Rattle.script_parts.proofs.Fitting.{fit_size}
 use Rattle.script_parts.proofs.Values.{nth, atoms_at, scope_at}
-use Rattle.script_lang.proofs.Coded.{line_at, priority_at, kind_at, known}
+use Rattle.script_lang.proofs.Coded.{line_at, priority_at, kind_at, saved_at, known}
 use Rattle.script_ops.proofs.Begun.{HasVerb, with_verb, op_verb}
 use Rattle.script_ops.proofs.Coded.{op_at}
 
@@ -42,6 +43,7 @@ line_verb (InJob (command.Sleep name)) = with_verb Sleep (a_name name ∷ [])
 line_verb (InJob (command.Wake name)) = with_verb Wake (a_name name ∷ [])
 line_verb (InJob (command.Cancel name)) = with_verb Cancel (a_name name ∷ [])
 line_verb (InJob (command.Build kind project)) = with_verb Build (keyword (kind_word kind) ∷ scope_parts project)
+line_verb (InJob (command.Save kind)) = with_verb Save (keyword (save_word kind) ∷ [])
 line_verb (InJob (command.Operation x)) = op_verb x
 line_verb EndJob = with_verb EndJobVerb []
 line_verb EndPhase = with_verb EndPhaseVerb []
@@ -79,6 +81,7 @@ operates Sleep words h = absurd (let no : false ≡ true = h in cc)
 operates Wake words h = absurd (let no : false ≡ true = h in cc)
 operates Cancel words h = absurd (let no : false ≡ true = h in cc)
 operates Build words h = absurd (let no : false ≡ true = h in cc)
+operates Save words h = absurd (let no : false ≡ true = h in cc)
 operates verb words h = refl
 
 pub op_found : (verb : Verb) (rest : List Token) (x : Op) (line : Line) → line ≡ InJob (command.Operation x) → FitsParts (begun_with verb rest) (operation_parts x)
@@ -167,6 +170,18 @@ no_build rest none line h =
     let fits : FitsParts (begun_with Build rest) (line_parts (InJob (command.Build kind project))) =
     subst (λ (line : Line). FitsParts (begun_with Build rest) (line_parts line)) (known (begun_with Build rest) h.written h.fits) h.fits in
     none kind project fits.1
+
+-- ---- a save's line
+
+pub save_found : (rest : List Token) (kind : SaveKind) → FitsParts rest (keyword (save_word kind) ∷ []) → FitsLine (begun_with Save rest) (InJob (command.Save kind))
+save_found rest kind h = record { written = InJob (command.Save kind); read = refl; fits = ((refl, refl), h) }
+
+pub no_save : (rest : List Token) → ((kind : SaveKind) → FitsParts rest (keyword (save_word kind) ∷ []) → ⊥) → (line : Line) → FitsLine (begun_with Save rest) line → ⊥
+no_save rest none line h =
+    let kind = saved_at (nth 0 (map (λ (t : Token). t.word) rest)) in
+    let fits : FitsParts (begun_with Save rest) (line_parts (InJob (command.Save kind))) =
+    subst (λ (line : Line). FitsParts (begun_with Save rest) (line_parts line)) (known (begun_with Save rest) h.written h.fits) h.fits in
+    none kind fits.1
 
 -- ---- a job's line
 

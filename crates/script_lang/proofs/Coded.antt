@@ -9,7 +9,9 @@ use Rattle.op_kind.specs.declared.op.Op.TheVariants.{Sync, Read}
 use Rattle.op_kind.specs.declared.op.Want.TheVariants.{Show, Cat, Tree, Digest}
 use Rattle.builder_api.specs.declared.kind.BuildKind.{BuildKind}
 use Rattle.builder_api.specs.declared.kind.BuildKind.TheVariants.{Full, Auto, Incremental, Clean}
-use Rattle.script_lang.specs.declared.script.Command.TheVariants.{Operation, Batch, EndBatch, Checkpoint, Begin, TryBegin, End, Sleep, Wake, Cancel, Build as BuildCommand}
+use Rattle.save_kind.specs.declared.kind.SaveKind.{SaveKind}
+use Rattle.save_kind.specs.declared.kind.SaveKind.TheVariants.{Full as FullSave, Snapshot}
+use Rattle.script_lang.specs.declared.script.Command.TheVariants.{Operation, Batch, EndBatch, Checkpoint, Begin, TryBegin, End, Sleep, Wake, Cancel, Build as BuildCommand, Save as SaveCommand}
 use Rattle.script_lang.specs.declared.script.Priority.{Priority}
 use Rattle.script_lang.specs.declared.script.Priority.TheVariants.{Interactive, Short, Long, Build, Decorate}
 use Rattle.script_lang.specs.declared.line.Line.{Line}
@@ -17,7 +19,7 @@ use Rattle.script_lang.specs.declared.line.Line.TheVariants.{BeginPhase, BeginJo
 use Rattle.script_words.specs.declared.words.Token.{Token}
 use Rattle.script_words.specs.Words.{Word}
 use Rattle.script_parts.specs.Parts.{FitsParts}
-use Rattle.script_lang.specs.Commands.{FitsLine, kind_word, priority_word, line_parts, line_read}
+use Rattle.script_lang.specs.Commands.{FitsLine, kind_word, save_word, priority_word, line_parts, line_read}
 use Rattle.script_parts.proofs.Values.{chosen, nth, atoms_at, scope_at, words_of, AreNamed, rule_back, scope_back, fit_words, fit_all_named}
 use Rattle.script_ops.proofs.Coded.{op_at, op_back}
 use Rattle.script_ops.specs.Operations.{operation_parts}
@@ -41,6 +43,13 @@ kind_back Auto = refl
 kind_back Incremental = refl
 kind_back Clean = refl
 
+abbrev pub saved_at : Word → SaveKind
+saved_at word = chosen word ((codes "full", FullSave) ∷ []) Snapshot
+
+saved_back : (kind : SaveKind) → saved_at (save_word kind) ≡ kind
+saved_back FullSave = refl
+saved_back Snapshot = refl
+
 -- the line of a job that the words behind its priority are the start of
 abbrev pub job_at : Word → Word → List Word → Line
 job_at name priority start =
@@ -63,6 +72,7 @@ line_at words = chosen (nth 0 words) (
     ∷ (codes "wake", InJob (Wake (nth 1 words)))
     ∷ (codes "cancel", InJob (Cancel (nth 1 words)))
     ∷ (codes "build", InJob (BuildCommand (kind_at (nth 1 words)) (scope_at (drop 2 words))))
+    ∷ (codes "save", InJob (SaveCommand (saved_at (nth 1 words))))
     ∷ []) (InJob (Operation (op_at words)))
 
 -- an operation's words are no other line
@@ -94,6 +104,7 @@ line_back (InJob (Sleep name)) h = refl
 line_back (InJob (Wake name)) h = refl
 line_back (InJob (Cancel name)) h = refl
 line_back (InJob (BuildCommand kind project)) h = λ i. InJob (BuildCommand (kind_back kind i) (scope_back project i))
+line_back (InJob (SaveCommand kind)) h = λ i. InJob (SaveCommand (saved_back kind i))
 line_back (InJob (Operation x)) h = op_line x ∙ ap (λ (x : Op). InJob (Operation x)) (op_back x h)
 
 -- the line that was written is known from the tokens' words

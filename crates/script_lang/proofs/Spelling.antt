@@ -3,7 +3,7 @@ use Rattle.std.proofs.Common.{◌≡◌, ◌⊎◌, inl, inr, ℕ, ◌+◌, Bool
 use Rattle.std.specs.Prelude.{◌≢◌, Some, None, codes}
 use Rattle.op_kind.specs.declared.op.Op.TheVariants.{Delete, Sync, Read}
 use Rattle.op_kind.specs.declared.op.Want.TheVariants.{Show, Cat, Tree, Digest}
-use Rattle.script_lang.specs.declared.script.Command.TheVariants.{Operation, Batch, EndBatch, Checkpoint, Begin, TryBegin, End, Sleep, Wake, Cancel, Build}
+use Rattle.script_lang.specs.declared.script.Command.TheVariants.{Operation, Batch, EndBatch, Checkpoint, Begin, TryBegin, End, Sleep, Wake, Cancel, Build, Save}
 use Rattle.script_lang.specs.declared.line.Line.{Line}
 use Rattle.script_lang.specs.declared.line.Line.TheVariants.{BeginPhase, BeginJob, InJob, EndJob, EndPhase}
 use Rattle.script_words.specs.declared.words.Token.{Token}
@@ -11,7 +11,7 @@ use Rattle.script_words.specs.Words.{printed, is_bare}
 use Rattle.script_words.specs.Lines.{is_skipped, unskipped, SpellsEach, SpellsLines}
 use Rattle.script_words.specs.Inside.Passing.{next_number}
 use Rattle.script_parts.specs.Parts.{Part, keyword, rule_parts, scope_parts, part_word, parts_text}
-use Rattle.script_lang.specs.Commands.{kind_word, line_parts}
+use Rattle.script_lang.specs.Commands.{kind_word, save_word, line_parts}
 use Rattle.script_lang.specs.Scripts.{FitsLines, line_text}
 use Rattle.script_lang.specs.Inside.Printed.{AreLines}
 use Rattle.script_lang.proofs.Coded.{same_line}
@@ -89,6 +89,7 @@ some_parts (InJob (Sleep name)) = λ e. cc
 some_parts (InJob (Wake name)) = λ e. cc
 some_parts (InJob (Cancel name)) = λ e. cc
 some_parts (InJob (Build kind project)) = λ e. cc
+some_parts (InJob (Save kind)) = λ e. cc
 some_parts (InJob (Operation (Delete p))) = λ e. cc
 some_parts (InJob (Operation (Sync p name None))) = λ e. cc
 some_parts (InJob (Operation (Sync p name (Some bytes)))) = λ e. cc
@@ -112,6 +113,7 @@ text_kept (InJob (Sleep name)) = refl
 text_kept (InJob (Wake name)) = refl
 text_kept (InJob (Cancel name)) = refl
 text_kept (InJob (Build kind project)) = printed_kept (codes "build") (keyword (kind_word kind) ∷ scope_parts project) refl refl
+text_kept (InJob (Save kind)) = printed_kept (codes "save") (keyword (save_word kind) ∷ []) refl refl
 text_kept (InJob (Operation (Sync p name None))) = refl
 text_kept (InJob (Operation (Sync p name (Some bytes)))) = refl
 text_kept (InJob (Operation (Read p Show))) = refl

@@ -8,7 +8,8 @@ use Rattle.mark_set.specs.declared.value.RawValue.TheVariants.{Int}
 use Rattle.op_kind.specs.declared.op.Op.TheVariants.{CreateFile, CreateProject, Derived, Move, Describe, Mark, Read}
 use Rattle.op_kind.specs.declared.op.Want.TheVariants.{Cat}
 use Rattle.builder_api.specs.declared.kind.BuildKind.TheVariants.{Full, Incremental}
-use Rattle.script_lang.specs.declared.script.Command.TheVariants.{Operation, Batch, EndBatch, Checkpoint, Begin, TryBegin, Sleep, Wake, Cancel, Build}
+use Rattle.save_kind.specs.declared.kind.SaveKind.TheVariants.{Full as FullSave, Snapshot}
+use Rattle.script_lang.specs.declared.script.Command.TheVariants.{Operation, Batch, EndBatch, Checkpoint, Begin, TryBegin, Sleep, Wake, Cancel, Build, Save}
 use Rattle.script_lang.specs.declared.script.Job.{Job}
 use Rattle.script_lang.specs.declared.script.Priority.TheVariants.{Long, Decorate}
 use Rattle.script_lang.specs.declared.line.Line.TheVariants.{BeginPhase}
@@ -27,7 +28,7 @@ one_job = record {
   asleep = true;
   rule = Path [] ∷ Lines (codes "P" ∷ []) 3 9 ∷ [];
   commands = Batch ∷ Operation (CreateProject (codes "P" ∷ [])) ∷ Operation (CreateFile (codes "P" ∷ codes "a" ∷ []) (codes "hi")) ∷ Operation (Derived (codes "P" ∷ codes "a" ∷ []) true)
-      ∷ Operation (Move (codes "P" ∷ codes "a" ∷ []) []) ∷ Operation (Describe (codes "P" ∷ []) []) ∷ Operation (Read [] Cat) ∷ Operation (Mark [] (codes "t") ((codes "n", Int (pos 7)) ∷ [])) ∷ Begin [] ∷ TryBegin (Mutex (codes "m") ∷ []) ∷ Checkpoint ∷ EndBatch ∷ Sleep (codes "k") ∷ Wake (codes "k") ∷ Cancel (codes "k") ∷ Build Incremental None ∷ Build Full (Some (codes "P")) ∷ [];
+      ∷ Operation (Move (codes "P" ∷ codes "a" ∷ []) []) ∷ Operation (Describe (codes "P" ∷ []) []) ∷ Operation (Read [] Cat) ∷ Operation (Mark [] (codes "t") ((codes "n", Int (pos 7)) ∷ [])) ∷ Begin [] ∷ TryBegin (Mutex (codes "m") ∷ []) ∷ Checkpoint ∷ EndBatch ∷ Sleep (codes "k") ∷ Wake (codes "k") ∷ Cancel (codes "k") ∷ Build Incremental None ∷ Build Full (Some (codes "P")) ∷ Save FullSave ∷ Save Snapshot ∷ [];
 }
 
 other_job : Job
@@ -35,7 +36,7 @@ other_job = record { name = codes "k"; priority = Decorate; asleep = false; rule
 
 -- the words of each line as they stand in a text
 its_text : script_text (record { phases = record { jobs = one_job ∷ other_job ∷ [] } ∷ [] }) ≡ codes
-    "phase\njob j 30 asleep path / lines /P 3 9\nbatch\ncreate project /P\ncreate file /P/a hi\nderived /P/a on\nmove /P/a /\ndescribe /P \"\"\ncat /\nmark / t n int 7\nbegin null\ntrybegin mutex m\ncheckpoint\nendbatch\nsleep k\nwake k\ncancel k\nbuild incr\nbuild full /P\nendjob\njob k 50 null\nendjob\nendphase\n"
+    "phase\njob j 30 asleep path / lines /P 3 9\nbatch\ncreate project /P\ncreate file /P/a hi\nderived /P/a on\nmove /P/a /\ndescribe /P \"\"\ncat /\nmark / t n int 7\nbegin null\ntrybegin mutex m\ncheckpoint\nendbatch\nsleep k\nwake k\ncancel k\nbuild incr\nbuild full /P\nsave full\nsave snapshot\nendjob\njob k 50 null\nendjob\nendphase\n"
 unfolding one_job other_job digits
 its_text = refl
 

@@ -2,8 +2,10 @@
 use Rattle.std.specs.Prelude.{◌≡◌, ℕ, Bool, true, false, List, [], ◌∷◌, ◌++◌, codes}
 use Rattle.builder_api.specs.declared.kind.BuildKind.{BuildKind}
 use Rattle.builder_api.specs.declared.kind.BuildKind.TheVariants.{Full, Auto, Incremental, Clean}
+use Rattle.save_kind.specs.declared.kind.SaveKind.{SaveKind}
+use Rattle.save_kind.specs.declared.kind.SaveKind.TheVariants.{Full as FullSave, Snapshot}
 use Rattle.script_lang.specs.declared.script.Command.{Command}
-use Rattle.script_lang.specs.declared.script.Command.TheVariants.{Operation, Batch, EndBatch, Checkpoint, Begin, TryBegin, End, Sleep, Wake, Cancel, Build as BuildCommand}
+use Rattle.script_lang.specs.declared.script.Command.TheVariants.{Operation, Batch, EndBatch, Checkpoint, Begin, TryBegin, End, Sleep, Wake, Cancel, Build as BuildCommand, Save as SaveCommand}
 use Rattle.script_lang.specs.declared.script.Priority.{Priority}
 use Rattle.script_lang.specs.declared.script.Priority.TheVariants.{Interactive, Short, Long, Build, Decorate}
 use Rattle.script_lang.specs.declared.line.Line.{Line}
@@ -19,6 +21,11 @@ kind_word Auto = codes "auto"
 kind_word Incremental = codes "incr"
 kind_word Clean = codes "clean"
 
+-- the word of a save's kind
+abbrev pub save_word : SaveKind → List ℕ
+save_word FullSave = codes "full"
+save_word Snapshot = codes "snapshot"
+
 -- the parts of a command's line
 abbrev pub command_parts : Command → List Part
 command_parts (Operation op) = operation_parts op
@@ -32,6 +39,7 @@ command_parts (Sleep name) = keyword (codes "sleep") ∷ a_name name ∷ []
 command_parts (Wake name) = keyword (codes "wake") ∷ a_name name ∷ []
 command_parts (Cancel name) = keyword (codes "cancel") ∷ a_name name ∷ []
 command_parts (BuildCommand kind project) = keyword (codes "build") ∷ keyword (kind_word kind) ∷ scope_parts project
+command_parts (SaveCommand kind) = keyword (codes "save") ∷ keyword (save_word kind) ∷ []
 
 abbrev pub priority_number : Priority → ℕ
 priority_number Interactive = 10
@@ -74,6 +82,7 @@ command_read (Sleep name) = Sleep name
 command_read (Wake name) = Wake name
 command_read (Cancel name) = Cancel name
 command_read (BuildCommand kind project) = BuildCommand kind project
+command_read (SaveCommand kind) = SaveCommand kind
 
 -- the line that is read where this one is written, whose rule may be any atoms
 abbrev pub line_read : Line → Line

@@ -3,9 +3,9 @@ ghost use Rattle.std.specs.Prelude.{◌≡◌, ◌≢◌, [], ◌∷◌, true, I
 ghost use Rattle.script_lang.specs.declared.line.Line.TheVariants.{InJob};
 ghost use Rattle.script_lang.specs.declared.script.Command.TheVariants.{Operation};
 ghost use Rattle.script_lang.specs.Inside.Reading.{IsLineOf, IsStartFound, IsSleepFound};
-ghost use Rattle.script_lang.specs.Commands.{kind_word, priority_word};
+ghost use Rattle.script_lang.specs.Commands.{kind_word, priority_word, save_word};
 ghost use Rattle.script_parts.specs.Parts.{keyword, scope_parts};
-ghost use Rattle.script_parts.specs.Inside.Found.{IsPairFound, IsPartFound};
+ghost use Rattle.script_parts.specs.Inside.Found.{IsFound, IsPairFound, IsPartFound};
 ghost use Rattle.script_ops.specs.Inside.Verbs.{begun_with, stands_alone, begins_operation};
 
 use crate::NoMemory;
@@ -14,6 +14,7 @@ use crate::script::{Command, Priority};
 use builder_api::BuildKind;
 use op_kind::Op;
 use res_path::Name;
+use save_kind::SaveKind;
 use script_ops::{Verb, operation_with, verb_of};
 use script_parts::{ScriptRule, is_key, name_alone, name_of, rule_of, scope_alone};
 use script_words::Token;
@@ -45,6 +46,7 @@ fn line_with(alloc: Global, verb: Verb, rest: &mut [Token]) -> Result<Option<Lin
         Verb::Wake => Ok(wake_line(rest)),
         Verb::Cancel => Ok(cancel_line(rest)),
         Verb::Build => Ok(build_line(rest)),
+        Verb::Save => Ok(save_line(rest)),
         Verb::Phase
         | Verb::EndPhase
         | Verb::EndJob
@@ -216,6 +218,26 @@ fn kind_and_scope(tokens: &mut [Token]) -> Option<(BuildKind, Option<Name>)>
     }
 }
 
+fn save_line(rest: &[Token]) -> Option<Line>
+    ensures { IsLineOf (begun_with Verb.Save rest.now) result }
+{
+    match saved_alone(rest) {
+        None => None,
+        Some(kind) => Some(Line::InJob(Command::Save(kind))),
+    }
+}
+
+/// The kind of a save, and nothing else.
+#[tactic(auto, using(script_parts::proofs::Fitting::fit_size))]
+fn saved_alone(tokens: &[Token]) -> Option<SaveKind>
+    ensures { IsFound (λ kind. keyword (save_word kind) ∷ []) tokens.now result }
+{
+    match tokens {
+        [kind] => saved_of(kind),
+        _ => None,
+    }
+}
+
 /// The line of an operation.
 fn doing(op: Op) -> Line
     ensures { result ≡ InJob (Operation op) }
@@ -260,6 +282,19 @@ fn kind_of(token: &Token) -> Option<BuildKind>
     }
     if is_key(token, b"clean") {
         return Some(BuildKind::Clean);
+    }
+    None
+}
+
+/// The kind of a save that the token is.
+fn saved_of(token: &Token) -> Option<SaveKind>
+    ensures { IsPartFound (λ kind. keyword (save_word kind)) token.now result }
+{
+    if is_key(token, b"full") {
+        return Some(SaveKind::Full);
+    }
+    if is_key(token, b"snapshot") {
+        return Some(SaveKind::Snapshot);
     }
     None
 }

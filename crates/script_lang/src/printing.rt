@@ -3,7 +3,7 @@ ghost use Rattle.std.specs.Prelude.{◌≡◌, ◌++◌, [], ◌∷◌, true, If
 ghost use Rattle.script_lang.specs.declared.line.Line.TheVariants.{BeginJob, InJob};
 ghost use Rattle.script_lang.specs.declared.script.Command.TheVariants.{Build};
 ghost use Rattle.script_words.specs.Words.{Grows, is_bare};
-ghost use Rattle.script_lang.specs.Commands.{asleep_parts, command_parts, command_read, kind_word, priority_word};
+ghost use Rattle.script_lang.specs.Commands.{asleep_parts, command_parts, command_read, kind_word, priority_word, save_word};
 ghost use Rattle.script_lang.specs.Scripts.{IsScript, script_text, command_text, line_text, phase_lines, job_lines, HasOwnNames, ended};
 ghost use Rattle.script_parts.specs.Parts.{keyword, parts_text, rule_parts, rule_read};
 ghost use Rattle.script_lang.specs.Inside.Printed.{AreLines, IsLine};
@@ -13,6 +13,7 @@ use crate::script::{Command, Job, Phase, Priority, Script};
 use crate::{NoMemory, ScriptRule};
 use builder_api::BuildKind;
 use res_path::Name;
+use save_kind::SaveKind;
 use script_ops::put_doing;
 use script_parts::{name_word, put_next, put_rule, put_scope, put_three, put_two};
 use script_words::{put_bytes, put_word};
@@ -128,6 +129,7 @@ fn put_commanding(out: &mut Vec<u8>, command: &Command) -> Result<(), NoMemory>
         Command::Wake(name) => put_two(out, b"wake", name_word(name)),
         Command::Cancel(name) => put_two(out, b"cancel", name_word(name)),
         Command::Build(kind, project) => put_build(out, *kind, project),
+        Command::Save(kind) => put_two(out, b"save", save_word(*kind)),
     }
 }
 
@@ -163,6 +165,16 @@ fn kind_word(kind: BuildKind) -> &'static [u8]
         BuildKind::Auto => b"auto",
         BuildKind::Incremental => b"incr",
         BuildKind::Clean => b"clean",
+    }
+}
+
+fn save_word(kind: SaveKind) -> &'static [u8]
+    ensures word { result.now ≡ save_word kind }
+    ensures bare { is_bare result.now ≡ true }
+{
+    match kind {
+        SaveKind::Full => b"full",
+        SaveKind::Snapshot => b"snapshot",
     }
 }
 

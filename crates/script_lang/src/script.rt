@@ -7,6 +7,7 @@ use crate::NoMemory;
 use builder_api::BuildKind;
 use op_kind::Op;
 use res_path::Name;
+use save_kind::SaveKind;
 use script_parts::ScriptRule;
 use std::alloc::Global;
 use std::marker::Model;
@@ -36,6 +37,8 @@ pub enum Command {
     Cancel(Name),
     /// The workspace is built, or the project of this name (`IWorkspace.build`, `IProject.build`).
     Build(BuildKind, Option<Name>),
+    /// The workspace is saved (`IWorkspace.save`).
+    Save(SaveKind),
 }
 
 /// Commands in the order in which they are run. A contract sees the list.

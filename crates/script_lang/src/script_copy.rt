@@ -21,6 +21,7 @@ impl Command {
             Command::Wake(name) => Ok(Command::Wake(name.copy()?)),
             Command::Cancel(name) => Ok(Command::Cancel(name.copy()?)),
             Command::Build(kind, project) => Ok(Command::Build(*kind, project.clone()?)),
+            Command::Save(kind) => Ok(Command::Save(*kind)),
         }
     }
 }

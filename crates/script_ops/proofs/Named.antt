@@ -2,7 +2,7 @@
 use Rattle.std.proofs.Common.{◌≡◌, ℕ, List, Option, Some, None}
 use Rattle.std.specs.Prelude.{MatchOption}
 use Rattle.script_ops.specs.declared.verb.Verb.{Verb}
-use Rattle.script_ops.specs.declared.verb.Verb.TheVariants.{Phase, EndPhase, Job, EndJob, Batch, EndBatch, Checkpoint, Begin, TryBegin, End, Sleep, Wake, Cancel, Build, Create, Delete, Write, Touch, Derived, Move, Copy, Open, Close, Describe, Forget, Mark, Attr, Unmark, ClearMarks, Partner, Sync, NoSync, Flush, Show, Cat, Tree, Digest}
+use Rattle.script_ops.specs.declared.verb.Verb.TheVariants.{Phase, EndPhase, Job, EndJob, Batch, EndBatch, Checkpoint, Begin, TryBegin, End, Sleep, Wake, Cancel, Build, Save, Create, Delete, Write, Touch, Derived, Move, Copy, Open, Close, Describe, Forget, Mark, Attr, Unmark, ClearMarks, Partner, Sync, NoSync, Flush, Show, Cat, Tree, Digest}
 use Rattle.script_ops.specs.Inside.Verbs.{verb_word, bounds, changes, notes, reads, IsNamed}
 
 -- a word that is none of any kind is no verb
@@ -21,6 +21,7 @@ no_verb word b c n r Sleep e = b.1.1.1.1.1.1.1.1.1.1.0 e
 no_verb word b c n r Wake e = b.1.1.1.1.1.1.1.1.1.1.1.0 e
 no_verb word b c n r Cancel e = b.1.1.1.1.1.1.1.1.1.1.1.1.0 e
 no_verb word b c n r Build e = b.1.1.1.1.1.1.1.1.1.1.1.1.1.0 e
+no_verb word b c n r Save e = b.1.1.1.1.1.1.1.1.1.1.1.1.1.1.0 e
 no_verb word b c n r Create e = c.0 e
 no_verb word b c n r Delete e = c.1.0 e
 no_verb word b c n r Write e = c.1.1.0 e

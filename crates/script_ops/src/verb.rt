@@ -24,6 +24,7 @@ pub enum Verb {
     Wake,
     Cancel,
     Build,
+    Save,
     Create,
     Delete,
     Write,
@@ -76,8 +77,8 @@ fn verb_named(word: &[u8]) -> Option<Verb>
     }
 }
 
-/// The verb with this name, of those that bound phases, jobs, batches and rules, of those that steer jobs, and of the one
-/// that builds.
+/// The verb with this name, of those that bound phases, jobs, batches and rules, of those that steer jobs, and of those
+/// that build and save.
 fn bound_named(word: &[u8]) -> Option<Verb>
     ensures { IsNamed bounds word.now result }
 {
@@ -97,6 +98,7 @@ fn bound_named(word: &[u8]) -> Option<Verb>
             Verb::Wake,
             Verb::Cancel,
             Verb::Build,
+            Verb::Save,
         ],
         word,
     )
@@ -181,6 +183,7 @@ fn verb_word(verb: Verb) -> &'static [u8]
         Verb::Wake => b"wake",
         Verb::Cancel => b"cancel",
         Verb::Build => b"build",
+        Verb::Save => b"save",
         Verb::Create => b"create",
         Verb::Delete => b"delete",
         Verb::Write => b"write",

@@ -6,6 +6,7 @@ use crate::builders::Asked;
 use crate::running::{run, source};
 use delta_kind::Delta;
 use report_text::delta_lines;
+use save_round::Notes;
 use std::alloc::Global;
 use std::process::Abort;
 use ws_outside::{MemDisk, MemSink};
@@ -30,7 +31,7 @@ impl Listener for Note {
 }
 
 /// What comes of the script, where two listen.
-pub fn heard(rt: &(impl Abort + AllocGlobal), script: &str) -> Outcome<MemDisk, Note, Asked> {
+pub fn heard(rt: &(impl Abort + AllocGlobal), script: &str) -> Outcome<MemDisk, Note, Asked, Notes> {
     let mut listeners = Vec::new(rt.alloc());
     for _ in 0..2_u64 {
         let note = Note {

@@ -3,11 +3,13 @@ use crate::asserting::must;
 use crate::builders::Asked;
 use crate::listening::Note;
 use builder_api::{Builders, Silent};
+use save_round::Notes;
 use std::process::Abort;
 use ws_outside::{Contents, MemDisk, MemSink, MemSource, Octets};
-use ws_top::{Areas, Kit, Listeners, Outcome, top};
+use ws_top::{Areas, Kit, Listeners, Outcome, Participants, top};
 
-/// What comes of a run over empty areas, with these words, builders and listeners. Nothing is claimed of the builders.
+/// What comes of a run over empty areas, with these words, builders and listeners, and the participant `notes`. Nothing is
+/// claimed of the builders.
 pub fn run(
     rt: &(impl Abort + AllocGlobal),
     asked: &str,
@@ -15,7 +17,7 @@ pub fn run(
     sink: &mut MemSink,
     builders: Vec<Asked>,
     listeners: Vec<Note>,
-) -> Outcome<MemDisk, Note, Asked> {
+) -> Outcome<MemDisk, Note, Asked, Notes> {
     let disk = disk(rt, b"", b"");
     run_over(rt, asked, source, sink, disk, builders, listeners)
 }
@@ -29,7 +31,7 @@ pub fn run_over(
     disk: MemDisk,
     builders: Vec<Asked>,
     listeners: Vec<Note>,
-) -> Outcome<MemDisk, Note, Asked> {
+) -> Outcome<MemDisk, Note, Asked, Notes> {
     let mut words = Vec::new(rt.alloc());
     for word in asked.split(' ') {
         must(rt, words.push(must(rt, String::from_str(rt.alloc(), word))));
@@ -37,9 +39,10 @@ pub fn run_over(
     let kit = Kit {
         builders: Builders::of(builders),
         listeners: Listeners::of(listeners),
+        participants: Participants::of(notes(rt)),
     };
     let areas = Areas { disk };
-    top::<MemSource, MemSink, MemDisk, Note, Asked, Silent>(
+    top::<MemSource, MemSink, MemDisk, Note, Asked, Notes, Silent>(
         rt.alloc(),
         words.as_slice(),
         source,
@@ -47,6 +50,13 @@ pub fn run_over(
         areas,
         kit,
     )
+}
+
+/// The participant `notes` alone.
+fn notes(rt: &(impl Abort + AllocGlobal)) -> Vec<Notes> {
+    let mut all = Vec::new(rt.alloc());
+    must(rt, all.push(Notes::new(rt.alloc())));
+    all
 }
 
 /// A disk that holds these bytes.

@@ -17,7 +17,7 @@ const COMMANDS: &str =
     unmark /P/b 18446744073709551615; clearmarks / t 0; clearmarks / \"\" 1; partner git; \
     sync /P/b git \"a#A\\x00\u{e9}\"; nosync /P/b git; flush / git 2; show /P; cat /P/b; tree /; digest /; batch; endbatch; \
     checkpoint; begin path /P; trybegin null; end lines /P/b 0 4294967295; build full; \
-    build auto /P; build incr /P; build clean";
+    build auto /P; build incr /P; build clean; save full; save snapshot";
 
 #[test]
 fn what_is_printed_is_what_was_read(rt: HostRuntime) {

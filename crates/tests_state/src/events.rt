@@ -38,7 +38,7 @@ fn of_command(rt: &impl Abort, command: &Command) -> Event {
         Command::Sleep(name) => Event::Sleep(must(rt, name.copy())),
         Command::Wake(name) => Event::Wake(must(rt, name.copy())),
         Command::Cancel(name) => Event::Cancel(must(rt, name.copy())),
-        Command::Build(_, _) => panic!(rt; "no event"),
+        Command::Build(_, _) | Command::Save(_) => panic!(rt; "no event"),
     }
 }
 

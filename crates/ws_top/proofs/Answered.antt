@@ -12,6 +12,7 @@ use Rattle.script_lang.specs.Scripts.{IsScript}
 use Rattle.core_event.specs.declared.entry.Entry.{Entry}
 use Rattle.builder_api.specs.Meanings.{Meanings}
 use Rattle.builder_api.specs.Told.{Told}
+use Rattle.save_round.specs.Told.{Told as PartTold}
 use Rattle.ws_core.specs.States.{Moment}
 use Rattle.ws_top.specs.declared.reading.Unread.{Unread}
 use Rattle.ws_top.specs.declared.reading.Unread.TheVariants.{Fault, TooLong, Memory}
@@ -24,9 +25,9 @@ use Rattle.ws_top.specs.Limits.{longest, Reads, ReadsAll, ReadsShort}
 use Rattle.ws_top.specs.Outcomes.{IsStatus, WasRead, WasRun, WasIdle, WasUnopened, TellsWriteFault, TellsState, TellsUnopened, Shuffle, CutShuffle, StoppedShuffle, Spelled, Ran, WasStopped, Writes, ReadsNoMore, RunsScript, Tells, TellsFound, Checks, DoesNothing, EndsProgram}
 use Rattle.ws_top.specs.Texts.{status_line, cut_text, check_text}
 use Rattle.ws_top.proofs.Fronts.{front_of_writes}
-use Rattle.ws_top.proofs.Opened.{unopened_never, told_status, told_unopened}
+use Rattle.ws_top.proofs.Opened.{disk_calm, unopened_never, told_status, told_unopened}
 use Rattle.ws_top.proofs.Performed.{right_of, thread_none, calm_none}
-use Rattle.ws_top.proofs.Statuses.{apart, not_2, not_3, not_6, not_9, not_unread, not_idle, is_performed, was_run, well_of, not_refused, refused_unread, refused_idle, refused_run, refused_8, is_refused, unrun, told_other, is_told}
+use Rattle.ws_top.proofs.Statuses.{apart, not_2, not_3, not_6, not_9, not_unread, not_idle, is_performed, was_run, well_of, not_refused, refused_unread, refused_idle, refused_0, refused_4, refused_5, refused_run, refused_8, is_refused, some_not_none, unrun, told_other, is_told}
 use Rattle.ws_top.proofs.Taken.{takes_none}
 
 -- what was taken to the end is all that there was
@@ -52,54 +53,57 @@ told_damaged : (seen : Option Contents) (both : Contents) (damage : Damage) → 
 told_damaged seen both damage is has = subst (λ o. IsDamage o damage) is has
 
 -- the bytes spell a script, for which no state was opened
-refused_responded : (ms : Meanings) (kept : Option Durable) (told : List Told) (l m : Option (List ℕ)) (x y : Option ℕ) (i j : ℕ) (seen : Option Contents) (p q : ℕ) (a b : Option (List ℕ)) (f g n : ℕ) (h : List Entry) (bytes : List ℕ)
-    → ReadsAll l m bytes → j ≡ i → (xs : List ℕ) × Reads l m x y xs → TellsDiskFault p q n → TellsUnopened kept seen a b f g n h → IsUnopenedFor bytes n h → EndsRun ms kept (opened_state kept told) l m x y i j seen p q a b f g n h
-refused_responded ms kept told l m x y i j seen p q a b f g n h bytes r calm few fault unopened t = record {
-  ends = is_refused n t.refused.ends;
-  usage = not_refused n 2 t.refused.ends (λ k. omega (arith, k)) (λ k. omega (arith, k));
-  read_fault = record { rose_at_3 = λ e. absurd (not_refused n 3 t.refused.ends (λ k. omega (arith, k)) (λ k. omega (arith, k)) e); calm_else = λ _. calm };
+refused_responded : (ms : Meanings) (kept : Option Durable) (parts : List PartTold) (told : List Told) (l m : Option (List ℕ)) (x y : Option ℕ) (i j : ℕ) (seen : Option Contents) (p q : ℕ) (a b : Option (List ℕ)) (f g n : ℕ) (h : List Entry) (bytes : List ℕ)
+    → ReadsAll l m bytes → j ≡ i → (xs : List ℕ) × Reads l m x y xs → TellsDiskFault p q n → TellsUnopened kept seen a b f g n h → IsUnopenedFor kept bytes n h → EndsRun ms kept parts (opened_state kept told) l m x y i j seen p q a b f g n h
+refused_responded ms kept parts told l m x y i j seen p q a b f g n h bytes r calm few fault unopened t = record {
+  ends = is_refused kept n t.refused.ends;
+  usage = not_refused kept n 2 t.refused.ends (λ k. omega (arith, k)) (λ k. omega (arith, k));
+  read_fault = record { rose_at_3 = λ e. absurd (not_refused kept n 3 t.refused.ends (λ k. omega (arith, k)) (λ k. omega (arith, k)) e); calm_else = λ _. calm };
   write_fault = record {
-    rose_at_4 = λ e. refused_run n t.refused.ends (inr e);
-    calm_at_0 = λ e. refused_run n t.refused.ends (inl e);
-    calm_or_later_at_8 = λ e. refused_8 n t.refused.ends e;
+    rose_at_4 = λ e. refused_4 kept n t.refused.ends e;
+    calm_at_0 = λ e. refused_0 kept n t.refused.ends e;
+    calm_at_5 = λ e some. refused_5 kept n t.refused.ends e some;
+    calm_or_later_at_8 = λ e. refused_8 kept n t.refused.ends e;
   };
   complete = λ _ _ sound given script both left short spelled is whole. refused_complete sound both is whole t.refused.ends;
-  reads = record { few = few; one_too_many_at_9 = λ e. absurd (not_refused n 9 t.refused.ends (λ k. omega (arith, k)) (λ k. omega (arith, k)) e); short_else = λ _. short_of l m bytes r };
+  reads = record { few = few; one_too_many_at_9 = λ e. absurd (not_refused kept n 9 t.refused.ends (λ k. omega (arith, k)) (λ k. omega (arith, k)) e); short_else = λ _. short_of l m bytes r };
   thread = thread_none kept told h t.refused.nothing;
   runs = record {
     to_its_end = λ _. r.ended;
-    judged = λ _. (bytes, r, (λ e. absurd (not_refused n 6 t.refused.ends (λ k. omega (arith, k)) (λ k. omega (arith, k)) e), λ none. absurd (none t.script t.spelled)));
-    nothing_if_idle = λ w. refused_idle n t.refused.ends w;
-    done = record { all_at_0_and_4 = λ w. refused_run n t.refused.ends w; some_at_8 = λ e. refused_8 n t.refused.ends e };
+    judged = λ _. (bytes, r, (λ e. absurd (not_refused kept n 6 t.refused.ends (λ k. omega (arith, k)) (λ k. omega (arith, k)) e), λ none. absurd (none t.script t.spelled)));
+    nothing_if_idle = λ w. refused_idle kept n t.refused.ends w;
+    done = record { all_if_run = λ w. refused_run kept n t.refused.ends w; some_at_8 = λ e. refused_8 kept n t.refused.ends e };
     text = record {
-      all_at_0 = λ e. refused_run n t.refused.ends (inl e);
-      front_at_4 = λ e. refused_run n t.refused.ends (inr e);
-      front_at_8 = λ e. refused_8 n t.refused.ends e;
+      all_at_0 = λ e. refused_0 kept n t.refused.ends e;
+      all_at_5 = λ e some. refused_5 kept n t.refused.ends e some;
+      front_at_4 = λ e. refused_4 kept n t.refused.ends e;
+      front_at_8 = λ e. refused_8 kept n t.refused.ends e;
     };
-    bad_line_at_6 = λ e. absurd (not_refused n 6 t.refused.ends (λ k. omega (arith, k)) (λ k. omega (arith, k)) e);
+    bad_line_at_6 = λ e. absurd (not_refused kept n 6 t.refused.ends (λ k. omega (arith, k)) (λ k. omega (arith, k)) e);
   };
   calm = λ _. calm_none h t.refused.nothing;
-  line = λ w. refused_unread n t.refused.ends w;
+  line = λ w. refused_unread kept n t.refused.ends w;
 }
   where
-    refused_complete : (Rose p q → ⊥) → (both : Contents) → seen ≡ Some both → AreUndamaged both → WasUnopened n → (n ≡ 0) ⊎ (n ≡ 8)
-    refused_complete sound both is whole (inl five) = absurd (sound (fault.rose_at_5 five))
+    refused_complete : (Rose p q → ⊥) → (both : Contents) → seen ≡ Some both → AreUndamaged both → WasUnopened kept n → (n ≡ 0) ⊎ (n ≡ 8)
+    refused_complete sound both is whole (inl (five, _)) = absurd (sound (fault.rose_at_5 five))
     refused_complete sound both is whole (inr seven) = let d = unopened.damage_at_7 seven in absurd (whole d.damage (told_damaged seen both d.damage is d.is))
 
 -- what the bytes of the source ask for was done
-pub ends_responded : (ms : Meanings) (kept : Option Durable) (told : List Told) (l m : Option (List ℕ)) (x y : Option ℕ) (i j : ℕ) (seen : Option Contents) (p q : ℕ) (a b : Option (List ℕ)) (f g n : ℕ) (h : List Entry) (bytes : List ℕ)
-    → ReadsAll l m bytes → j ≡ i → (xs : List ℕ) × Reads l m x y xs → TellsDiskFault p q n → TellsUnopened kept seen a b f g n h → Responds ms kept (opened_state kept told) bytes a b f g n h → EndsRun ms kept (opened_state kept told) l m x y i j seen p q a b f g n h
-ends_responded ms kept told l m x y i j seen p q a b f g n h bytes r calm few fault unopened (inl o) = record {
-  ends = is_performed n o.ends;
-  usage = not_2 n o.ends;
-  read_fault = record { rose_at_3 = λ e. absurd (not_3 n o.ends e); calm_else = λ _. calm };
+pub ends_responded : (ms : Meanings) (kept : Option Durable) (parts : List PartTold) (told : List Told) (l m : Option (List ℕ)) (x y : Option ℕ) (i j : ℕ) (seen : Option Contents) (p q : ℕ) (a b : Option (List ℕ)) (f g n : ℕ) (h : List Entry) (bytes : List ℕ)
+    → ReadsAll l m bytes → j ≡ i → (xs : List ℕ) × Reads l m x y xs → TellsDiskFault p q n → TellsUnopened kept seen a b f g n h → Responds ms kept parts (opened_state kept told) bytes a b f g n h → EndsRun ms kept parts (opened_state kept told) l m x y i j seen p q a b f g n h
+ends_responded ms kept parts told l m x y i j seen p q a b f g n h bytes r calm few fault unopened (inl o) = record {
+  ends = is_performed kept n o.ends;
+  usage = not_2 kept n o.ends;
+  read_fault = record { rose_at_3 = λ e. absurd (not_3 kept n o.ends e); calm_else = λ _. calm };
   write_fault = record {
     rose_at_4 = o.fault.rose_at_4;
     calm_at_0 = o.fault.calm_at_0;
+    calm_at_5 = o.fault.calm_at_5;
     calm_or_later_at_8 = λ e. right_of (right_of (ran_of (StoppedShuffle ms (opened_state kept told)) l m bytes h r)) (o.fault.calm_or_later_at_8 e);
   };
-  complete = λ _ good _ given script both left short spelled is whole. well_of n o.ends (λ four. good (o.fault.rose_at_4 four));
-  reads = record { few = few; one_too_many_at_9 = λ e. absurd (not_9 n o.ends e); short_else = λ _. short_of l m bytes r };
+  complete = λ _ good sound given script both left short spelled is whole. well_of kept n o.ends (λ four. good (o.fault.rose_at_4 four)) (λ five. sound (fault.rose_at_5 five));
+  reads = record { few = few; one_too_many_at_9 = λ e. absurd (not_9 kept n o.ends e); short_else = λ _. short_of l m bytes r };
   thread = o.thread;
   runs = record {
     to_its_end = λ _. r.ended;
@@ -107,28 +111,29 @@ ends_responded ms kept told l m x y i j seen p q a b f g n h bytes r calm few fa
       bytes,
       r,
       (
-        λ six. absurd (not_6 n o.ends six),
-        λ none. let s = o.done.all_at_0_and_4 (was_run n o.ends w.memory) in absurd (none s.script s.spelled),
+        λ six. absurd (not_6 kept n o.ends six),
+        λ none. let s = o.done.all_if_run (was_run kept n o.ends w.memory) in absurd (none s.script s.spelled),
       ),
     );
-    nothing_if_idle = λ w. not_idle n o.ends w;
+    nothing_if_idle = λ w. not_idle kept n o.ends w;
     done = record {
-      all_at_0_and_4 = λ w. ran_of (Shuffle ms (opened_state kept told)) l m bytes h r (o.done.all_at_0_and_4 w);
+      all_if_run = λ w. ran_of (Shuffle ms (opened_state kept told)) l m bytes h r (o.done.all_if_run w);
       some_at_8 = λ e. right_of (ran_of (CutShuffle ms (opened_state kept told)) l m bytes h r) (o.done.some_at_8 e);
     };
     text = o.text;
-    bad_line_at_6 = λ e. absurd (not_6 n o.ends e);
+    bad_line_at_6 = λ e. absurd (not_6 kept n o.ends e);
   };
   calm = o.calm;
-  line = λ w. not_unread n (not_2 n o.ends) (not_3 n o.ends) (not_9 n o.ends) w;
+  line = λ w. not_unread n (not_2 kept n o.ends) (not_3 kept n o.ends) (not_9 kept n o.ends) w;
 }
-ends_responded ms kept told l m x y i j seen p q a b f g n h bytes r calm few fault unopened (inr (inl t)) = record {
+ends_responded ms kept parts told l m x y i j seen p q a b f g n h bytes r calm few fault unopened (inr (inl t)) = record {
   ends = inr (inr (inr (inr (inl t.ends))));
   usage = λ e. apart n 6 2 t.ends e (λ k. omega (arith, k));
   read_fault = record { rose_at_3 = λ e. apart n 6 3 t.ends e (λ k. omega (arith, k)); calm_else = λ _. calm };
   write_fault = record {
     rose_at_4 = λ e. apart n 6 4 t.ends e (λ k. omega (arith, k));
     calm_at_0 = λ e. apart n 6 0 t.ends e (λ k. omega (arith, k));
+    calm_at_5 = λ e some. apart n 6 5 t.ends e (λ k. omega (arith, k));
     calm_or_later_at_8 = λ e. apart n 6 8 t.ends e (λ k. omega (arith, k));
   };
   complete = λ _ _ _ given script both left short spelled is whole. absurd (t.none script (subst (λ (xs : List ℕ). IsScript xs script) (sym (all_taken l m bytes given r.taken r.ended left)) spelled));
@@ -138,9 +143,10 @@ ends_responded ms kept told l m x y i j seen p q a b f g n h bytes r calm few fa
     to_its_end = λ _. r.ended;
     judged = λ _. (bytes, r, (λ _. t.none, λ _. t.ends));
     nothing_if_idle = λ _. t.nothing;
-    done = record { all_at_0_and_4 = λ w. unrun n 6 t.ends (λ k. omega (arith, k)) (λ k. omega (arith, k)) w; some_at_8 = λ e. apart n 6 8 t.ends e (λ k. omega (arith, k)) };
+    done = record { all_if_run = λ w. unrun kept n 6 t.ends (λ k. omega (arith, k)) (λ k. omega (arith, k)) (λ k. omega (arith, k)) w; some_at_8 = λ e. apart n 6 8 t.ends e (λ k. omega (arith, k)) };
     text = record {
       all_at_0 = λ e. apart n 6 0 t.ends e (λ k. omega (arith, k));
+      all_at_5 = λ e some. apart n 6 5 t.ends e (λ k. omega (arith, k));
       front_at_4 = λ e. apart n 6 4 t.ends e (λ k. omega (arith, k));
       front_at_8 = λ e. apart n 6 8 t.ends e (λ k. omega (arith, k));
     };
@@ -149,60 +155,63 @@ ends_responded ms kept told l m x y i j seen p q a b f g n h bytes r calm few fa
   calm = λ _. calm_none h t.nothing;
   line = λ w. not_unread n (λ e. apart n 6 2 t.ends e (λ k. omega (arith, k))) (λ e. apart n 6 3 t.ends e (λ k. omega (arith, k))) (λ e. apart n 6 9 t.ends e (λ k. omega (arith, k))) w;
 }
-ends_responded ms kept told l m x y i j seen p q a b f g n h bytes r calm few fault unopened (inr (inr t)) = refused_responded ms kept told l m x y i j seen p q a b f g n h bytes r calm few fault unopened t
+ends_responded ms kept parts told l m x y i j seen p q a b f g n h bytes r calm few fault unopened (inr (inr t)) = refused_responded ms kept parts told l m x y i j seen p q a b f g n h bytes r calm few fault unopened t
 
 -- the script was not run: a status of its own is told
-runs_nothing : (ms : Meanings) (kept : Option Durable) (opened : Moment) (l m a b : Option (List ℕ)) (f g n s : ℕ) (h : List Entry) → n ≡ s → h ≡ [] → (WasRead s → ⊥) → (s ≡ 0 → ⊥) → (s ≡ 4 → ⊥) → (s ≡ 6 → ⊥) → (s ≡ 8 → GainsFront a (cut_text kept opened h) b)
-    → RunsScript ms kept opened l m a b f g n h
-runs_nothing ms kept opened l m a b f g n s h e z u d4 d5 d6 w = record {
+runs_nothing : (ms : Meanings) (kept : Option Durable) (parts : List PartTold) (opened : Moment) (l m a b : Option (List ℕ)) (f g n s : ℕ) (h : List Entry) → n ≡ s → h ≡ [] → (WasRead s → ⊥) → (s ≡ 0 → ⊥) → (s ≡ 4 → ⊥) → (s ≡ 5 → ⊥) → (s ≡ 6 → ⊥) → (s ≡ 8 → GainsFront a (cut_text kept parts opened h) b)
+    → RunsScript ms kept parts opened l m a b f g n h
+runs_nothing ms kept parts opened l m a b f g n s h e z u d0 d4 d5 d6 w = record {
   to_its_end = λ k. absurd (u (subst WasRead e k));
   judged = λ k. absurd (u (subst WasRead e k));
   nothing_if_idle = λ _. z;
-  done = record { all_at_0_and_4 = λ k. unrun n s e d4 d5 k; some_at_8 = λ _. inl z };
+  done = record { all_if_run = λ k. unrun kept n s e d0 d4 d5 k; some_at_8 = λ _. inl z };
   text = record {
-    all_at_0 = λ k. apart n s 0 e k d4;
-    front_at_4 = λ k. apart n s 4 e k d5;
+    all_at_0 = λ k. apart n s 0 e k d0;
+    all_at_5 = λ k some. apart n s 5 e k d5;
+    front_at_4 = λ k. apart n s 4 e k d4;
     front_at_8 = λ k. w (sym e ∙ k);
   };
   bad_line_at_6 = λ k. apart n s 6 e k d6;
 }
 
 -- the source was not read to its end
-pub ends_unread : (ms : Meanings) (kept : Option Durable) (told : List Told) (why : Unread) (l m : Option (List ℕ)) (x y : Option ℕ) (i j : ℕ) (seen : Option Contents) (p q : ℕ) (a b : Option (List ℕ)) (f g n : ℕ) (h : List Entry)
+pub ends_unread : (ms : Meanings) (kept : Option Durable) (parts : List PartTold) (told : List Told) (why : Unread) (l m : Option (List ℕ)) (x y : Option ℕ) (i j : ℕ) (seen : Option Contents) (p q : ℕ) (a b : Option (List ℕ)) (f g n : ℕ) (h : List Entry)
     → IsUnreadCause why i j → IsUnreadLength why l m → (xs : List ℕ) × Reads l m x y xs → n ≡ unread_status why → h ≡ [] → kept ≡ None → Writes a b f g (status_line (unread_status why))
-    → EndsRun ms kept (opened_state kept told) l m x y i j seen p q a b f g n h
-ends_unread ms kept told Fault l m x y i j seen p q a b f g n h cause much few e z none w = record {
+    → EndsRun ms kept parts (opened_state kept told) l m x y i j seen p q a b f g n h
+ends_unread ms kept parts told Fault l m x y i j seen p q a b f g n h cause much few e z none w = record {
   ends = inr (inr (inl e));
   usage = λ k. apart n 3 2 e k (λ k. omega (arith, k));
   read_fault = record { rose_at_3 = λ _. cause; calm_else = λ k. absurd (k e) };
   write_fault = record {
     rose_at_4 = λ k. apart n 3 4 e k (λ k. omega (arith, k));
     calm_at_0 = λ k. apart n 3 0 e k (λ k. omega (arith, k));
+    calm_at_5 = λ k some. apart n 3 5 e k (λ k. omega (arith, k));
     calm_or_later_at_8 = λ _. inr (inl z);
   };
   complete = λ good _ _ given script both left short spelled is whole. absurd (good cause);
   reads = record { few = few; one_too_many_at_9 = λ k. apart n 3 9 e k (λ k. omega (arith, k)); short_else = λ _. much };
   thread = thread_none kept told h z;
-  runs = runs_nothing ms kept (opened_state kept told) l m a b f g n 3 h e z (λ k. k.fault refl) (λ k. omega (arith, k)) (λ k. omega (arith, k)) (λ k. omega (arith, k)) (λ k. absurd (three_not_8 k));
+  runs = runs_nothing ms kept parts (opened_state kept told) l m a b f g n 3 h e z (λ k. k.fault refl) (λ k. omega (arith, k)) (λ k. omega (arith, k)) (λ k. omega (arith, k)) (λ k. omega (arith, k)) (λ k. absurd (three_not_8 k));
   calm = λ _. calm_none h z;
   line = λ _. subst (λ (k : ℕ). Writes a b f g (status_line k)) (sym e) w;
 }
   where
     three_not_8 : ◌≡◌ {A = ℕ} 3 8 → ⊥
     three_not_8 k = omega (arith, k)
-ends_unread ms kept told TooLong l m x y i j seen p q a b f g n h cause much few e z none w = record {
+ends_unread ms kept parts told TooLong l m x y i j seen p q a b f g n h cause much few e z none w = record {
   ends = inr (inr (inr (inr (inr (inr (inl e))))));
   usage = λ k. apart n 9 2 e k (λ k. omega (arith, k));
   read_fault = record { rose_at_3 = λ k. apart n 9 3 e k (λ k. omega (arith, k)); calm_else = λ _. cause };
   write_fault = record {
     rose_at_4 = λ k. apart n 9 4 e k (λ k. omega (arith, k));
     calm_at_0 = λ k. apart n 9 0 e k (λ k. omega (arith, k));
+    calm_at_5 = λ k some. apart n 9 5 e k (λ k. omega (arith, k));
     calm_or_later_at_8 = λ _. inr (inl z);
   };
   complete = λ _ _ _ given script both left short spelled is whole. absurd (too_much given left short);
   reads = record { few = few; one_too_many_at_9 = λ _. much; short_else = λ k. absurd (k e) };
   thread = thread_none kept told h z;
-  runs = runs_nothing ms kept (opened_state kept told) l m a b f g n 9 h e z (λ k. k.too_long refl) (λ k. omega (arith, k)) (λ k. omega (arith, k)) (λ k. omega (arith, k)) (λ k. absurd (nine_not_8 k));
+  runs = runs_nothing ms kept parts (opened_state kept told) l m a b f g n 9 h e z (λ k. k.too_long refl) (λ k. omega (arith, k)) (λ k. omega (arith, k)) (λ k. omega (arith, k)) (λ k. omega (arith, k)) (λ k. absurd (nine_not_8 k));
   calm = λ _. calm_none h z;
   line = λ _. subst (λ (k : ℕ). Writes a b f g (status_line k)) (sym e) w;
 }
@@ -212,20 +221,21 @@ ends_unread ms kept told TooLong l m x y i j seen p q a b f g n h cause much few
 
     too_much : (given : List ℕ) → l ≡ Some given → length given ≤ longest → ⊥
     too_much given left short = omega (arith, short, much.1, taken_within l m much.0 given much.2 left)
-ends_unread ms kept told Memory l m x y i j seen p q a b f g n h cause much few e z none w = record {
+ends_unread ms kept parts told Memory l m x y i j seen p q a b f g n h cause much few e z none w = record {
   ends = inr (inr (inr (inr (inr (inl e)))));
   usage = λ k. apart n 8 2 e k (λ k. omega (arith, k));
   read_fault = record { rose_at_3 = λ k. apart n 8 3 e k (λ k. omega (arith, k)); calm_else = λ _. cause };
   write_fault = record {
     rose_at_4 = λ k. apart n 8 4 e k (λ k. omega (arith, k));
     calm_at_0 = λ k. apart n 8 0 e k (λ k. omega (arith, k));
+    calm_at_5 = λ k some. apart n 8 5 e k (λ k. omega (arith, k));
     calm_or_later_at_8 = λ _. inr (inl z);
   };
   complete = λ _ _ _ given script both left short spelled is whole. inr e;
   reads = record { few = few; one_too_many_at_9 = λ k. apart n 8 9 e k (λ k. omega (arith, k)); short_else = λ _. much };
   thread = thread_none kept told h z;
-  runs = runs_nothing ms kept (opened_state kept told) l m a b f g n 8 h e z (λ k. k.memory refl) (λ k. omega (arith, k)) (λ k. omega (arith, k)) (λ k. omega (arith, k))
-      (λ _. subst (λ k. GainsFront a (cut_text k (opened_state kept told) h) b) (sym none) (front_of_writes a b f g (status_line 8) w));
+  runs = runs_nothing ms kept parts (opened_state kept told) l m a b f g n 8 h e z (λ k. k.memory refl) (λ k. omega (arith, k)) (λ k. omega (arith, k)) (λ k. omega (arith, k)) (λ k. omega (arith, k))
+      (λ _. subst (λ k. GainsFront a (cut_text k parts (opened_state kept told) h) b) (sym none) (front_of_writes a b f g (status_line 8) w));
   calm = λ _. calm_none h z;
   line = λ _. subst (λ (k : ℕ). Writes a b f g (status_line k)) (sym e) w;
 }
@@ -271,10 +281,10 @@ touched_idle form n touches idle (inl untouched) = absurd (untouched touches)
 touched_idle form n touches idle (inr w) = idle w
 
 -- the words ask for a run
-pub program_run : (ms : Meanings) (kept : Option Durable) (told : List Told) (form : Option Form) (l m : Option (List ℕ)) (x y : Option ℕ) (i j : ℕ) (seen : Option Contents) (p q : ℕ) (a b : Option (List ℕ)) (f g n : ℕ) (h : List Entry)
-    → form ≡ Some Run → EndsRun ms kept (opened_state kept told) l m x y i j seen p q a b f g n h → TellsDiskFault p q n → TellsUnopened kept seen a b f g n h → IfSome seen (λ both. FindsDamage both n) → TellsState kept seen n h
-    → EndsProgram ms kept told form l m x y i j seen p q a b f g n h
-program_run ms kept told form l m x y i j seen p q a b f g n h is r fault unopened damaged state = record {
+pub program_run : (ms : Meanings) (kept : Option Durable) (told : List Told) (parts : List PartTold) (form : Option Form) (l m : Option (List ℕ)) (x y : Option ℕ) (i j : ℕ) (seen : Option Contents) (p q : ℕ) (a b : Option (List ℕ)) (f g n : ℕ) (h : List Entry)
+    → form ≡ Some Run → EndsRun ms kept parts (opened_state kept told) l m x y i j seen p q a b f g n h → TellsDiskFault p q n → TellsUnopened kept seen a b f g n h → IfSome seen (λ both. FindsDamage both n) → TellsState kept seen n h
+    → EndsProgram ms kept told parts form l m x y i j seen p q a b f g n h
+program_run ms kept told parts form l m x y i j seen p q a b f g n h is r fault unopened damaged state = record {
   ends = r.ends;
   usage = (λ e. absurd (r.usage e), λ k. not_none form Run is k);
   read_fault = r.read_fault;
@@ -311,16 +321,17 @@ does_nothing : (l : Option (List ℕ)) (x : Option ℕ) (i : ℕ) (h : List Entr
 does_nothing l x i h z = record { left = refl; reads = refl; faults = refl; nothing = z }
 
 -- they are of no form
-pub program_usage : (ms : Meanings) (kept : Option Durable) (told : List Told) (form : Option Form) (l : Option (List ℕ)) (x : Option ℕ) (i : ℕ) (seen : Option Contents) (p q : ℕ) (a b : Option (List ℕ)) (f g n : ℕ) (h : List Entry)
-    → form ≡ None → q ≡ p → kept ≡ None → n ≡ 2 → h ≡ [] → Writes a b f g (status_line 2) → EndsProgram ms kept told form l l x x i i seen p q a b f g n h
-program_usage ms kept told form l x i seen p q a b f g n h is same none e z w = record {
+pub program_usage : (ms : Meanings) (kept : Option Durable) (told : List Told) (parts : List PartTold) (form : Option Form) (l : Option (List ℕ)) (x : Option ℕ) (i : ℕ) (seen : Option Contents) (p q : ℕ) (a b : Option (List ℕ)) (f g n : ℕ) (h : List Entry)
+    → form ≡ None → q ≡ p → kept ≡ None → n ≡ 2 → h ≡ [] → Writes a b f g (status_line 2) → EndsProgram ms kept told parts form l l x x i i seen p q a b f g n h
+program_usage ms kept told parts form l x i seen p q a b f g n h is same none e z w = record {
   ends = inr (inl e);
   usage = (λ _. is, λ _. e);
   read_fault = record { rose_at_3 = λ k. apart n 2 3 e k (λ k. omega (arith, k)); calm_else = λ _. refl };
-  disk_fault = record { rose_at_5 = λ k. apart n 2 5 e k (λ k. omega (arith, k)); calm_else = λ _. same };
+  disk_fault = disk_calm p q n 2 e (λ k. omega (arith, k)) same;
   write_fault = record {
     rose_at_4 = λ k. apart n 2 4 e k (λ k. omega (arith, k));
     calm_at_0 = λ k. apart n 2 0 e k (λ k. omega (arith, k));
+    calm_at_5 = λ k some. apart n 2 5 e k (λ k. omega (arith, k));
     calm_or_later_at_8 = λ _. inr (inl z);
   };
   damaged = λ k. none_touches form is k;
@@ -341,20 +352,25 @@ program_usage ms kept told form l x i seen p q a b f g n h is same none e z w = 
 
 -- ---- texts that are told
 
-told_write : (text : List ℕ) (a b : Option (List ℕ)) (f g n : ℕ) (W : Type 0) → W → Tells text a b f g n → TellsWriteFault f g n W
-told_write text a b f g n W w (inl (e, _, calm)) = record { rose_at_4 = λ k. apart n 0 4 e k (λ k. omega (arith, k)); calm_at_0 = λ _. calm; calm_or_later_at_8 = λ _. inr w }
-told_write text a b f g n W w (inr (e, _, rose)) = record { rose_at_4 = λ _. rose; calm_at_0 = λ k. apart n 4 0 e k (λ k. omega (arith, k)); calm_or_later_at_8 = λ _. inr w }
+told_write : (text : List ℕ) (kept : Option Durable) (a b : Option (List ℕ)) (f g n : ℕ) (W : Type 0) → W → Tells text a b f g n → TellsWriteFault kept f g n W
+told_write text kept a b f g n W w (inl (e, _, calm)) = record { rose_at_4 = λ k. apart n 0 4 e k (λ k. omega (arith, k)); calm_at_0 = λ _. calm; calm_at_5 = λ _ _. calm; calm_or_later_at_8 = λ _. inr w }
+told_write text kept a b f g n W w (inr (e, _, rose)) = record {
+  rose_at_4 = λ _. rose;
+  calm_at_0 = λ k. apart n 4 0 e k (λ k. omega (arith, k));
+  calm_at_5 = λ k some. apart n 4 5 e k (λ k. omega (arith, k));
+  calm_or_later_at_8 = λ _. inr w;
+}
 
 -- they ask for a text of the program's own
-program_text : (ms : Meanings) (kept : Option Durable) (told : List Told) (form : Option Form) (kind : Form) (text : List ℕ) (l : Option (List ℕ)) (x : Option ℕ) (i : ℕ) (seen : Option Contents) (p q : ℕ) (a b : Option (List ℕ)) (f g n : ℕ) (h : List Entry)
+program_text : (ms : Meanings) (kept : Option Durable) (told : List Told) (parts : List PartTold) (form : Option Form) (kind : Form) (text : List ℕ) (l : Option (List ℕ)) (x : Option ℕ) (i : ℕ) (seen : Option Contents) (p q : ℕ) (a b : Option (List ℕ)) (f g n : ℕ) (h : List Entry)
     → form ≡ Some kind → (Run ≡ kind → ⊥) → (Check ≡ kind → ⊥) → (form ≡ Some Help → Tells help_text a b f g n) → (form ≡ Some Version → Tells version_text a b f g n)
-    → q ≡ p → kept ≡ None → Tells text a b f g n → h ≡ [] → EndsProgram ms kept told form l l x x i i seen p q a b f g n h
-program_text ms kept told form kind text l x i seen p q a b f g n h is run check help version same none t z = let c = told_status text a b f g n t in record {
+    → q ≡ p → kept ≡ None → Tells text a b f g n → h ≡ [] → EndsProgram ms kept told parts form l l x x i i seen p q a b f g n h
+program_text ms kept told parts form kind text l x i seen p q a b f g n h is run check help version same none t z = let c = told_status text a b f g n t in record {
   ends = is_told n c;
   usage = (λ e. absurd (told_other n 2 c (λ k. omega (arith, k)) (λ k. omega (arith, k)) e), λ k. not_none form kind is k);
   read_fault = record { rose_at_3 = λ e. absurd (told_other n 3 c (λ k. omega (arith, k)) (λ k. omega (arith, k)) e); calm_else = λ _. refl };
-  disk_fault = record { rose_at_5 = λ e. absurd (told_other n 5 c (λ k. omega (arith, k)) (λ k. omega (arith, k)) e); calm_else = λ _. same };
-  write_fault = told_write text a b f g n (WasStopped ms (opened_state kept told) l l h) (inl z) t;
+  disk_fault = disk_calm p q n n refl (told_other n 5 c (λ k. omega (arith, k)) (λ k. omega (arith, k))) same;
+  write_fault = told_write text kept a b f g n (WasStopped ms (opened_state kept told) l l h) (inl z) t;
   damaged = λ k. no_touch form kind is run check k;
   complete = λ k. two_forms form Run kind k is run;
   reads = reads_nothing l x n (told_other n 9 c (λ k. omega (arith, k)) (λ k. omega (arith, k)));
@@ -371,42 +387,52 @@ program_text ms kept told form kind text l x i seen p q a b f g n h is run check
   unread = λ _. does_nothing l x i h z;
 }
 
-pub program_help : (ms : Meanings) (kept : Option Durable) (told : List Told) (form : Option Form) (l : Option (List ℕ)) (x : Option ℕ) (i : ℕ) (seen : Option Contents) (p q : ℕ) (a b : Option (List ℕ)) (f g n : ℕ) (h : List Entry)
-    → form ≡ Some Help → q ≡ p → kept ≡ None → Tells help_text a b f g n → h ≡ [] → EndsProgram ms kept told form l l x x i i seen p q a b f g n h
-program_help ms kept told form l x i seen p q a b f g n h is same none t z =
-    program_text ms kept told form Help help_text l x i seen p q a b f g n h is run_not_help check_not_help (λ _. t) (λ k. two_forms form Help Version is k help_not_version) same none t z
+pub program_help : (ms : Meanings) (kept : Option Durable) (told : List Told) (parts : List PartTold) (form : Option Form) (l : Option (List ℕ)) (x : Option ℕ) (i : ℕ) (seen : Option Contents) (p q : ℕ) (a b : Option (List ℕ)) (f g n : ℕ) (h : List Entry)
+    → form ≡ Some Help → q ≡ p → kept ≡ None → Tells help_text a b f g n → h ≡ [] → EndsProgram ms kept told parts form l l x x i i seen p q a b f g n h
+program_help ms kept told parts form l x i seen p q a b f g n h is same none t z =
+    program_text ms kept told parts form Help help_text l x i seen p q a b f g n h is run_not_help check_not_help (λ _. t) (λ k. two_forms form Help Version is k help_not_version) same none t z
 
-pub program_version : (ms : Meanings) (kept : Option Durable) (told : List Told) (form : Option Form) (l : Option (List ℕ)) (x : Option ℕ) (i : ℕ) (seen : Option Contents) (p q : ℕ) (a b : Option (List ℕ)) (f g n : ℕ) (h : List Entry)
-    → form ≡ Some Version → q ≡ p → kept ≡ None → Tells version_text a b f g n → h ≡ [] → EndsProgram ms kept told form l l x x i i seen p q a b f g n h
-program_version ms kept told form l x i seen p q a b f g n h is same none t z =
-    program_text ms kept told form Version version_text l x i seen p q a b f g n h is run_not_version check_not_version (λ k. two_forms form Help Version k is help_not_version) (λ _. t) same none t z
+pub program_version : (ms : Meanings) (kept : Option Durable) (told : List Told) (parts : List PartTold) (form : Option Form) (l : Option (List ℕ)) (x : Option ℕ) (i : ℕ) (seen : Option Contents) (p q : ℕ) (a b : Option (List ℕ)) (f g n : ℕ) (h : List Entry)
+    → form ≡ Some Version → q ≡ p → kept ≡ None → Tells version_text a b f g n → h ≡ [] → EndsProgram ms kept told parts form l l x x i i seen p q a b f g n h
+program_version ms kept told parts form l x i seen p q a b f g n h is same none t z =
+    program_text ms kept told parts form Version version_text l x i seen p q a b f g n h is run_not_version check_not_version (λ k. two_forms form Help Version k is help_not_version) (λ _. t) same none t z
 
 -- ---- what the areas hold
 
-checked_status : (seen : Option Contents) (a b : Option (List ℕ)) (f g n : ℕ) → TellsFound seen a b f g n ⊎ WasUnopened n ⊎ (n ≡ 8) → IsStatus n
+checked_status : (seen : Option Contents) (a b : Option (List ℕ)) (f g n : ℕ) → TellsFound seen a b f g n ⊎ WasUnopened None n ⊎ (n ≡ 8) → IsStatus n
 checked_status seen a b f g n (inl t) = is_told n (told_status (check_text t.found) a b f g n t.told)
-checked_status seen a b f g n (inr (inl u)) = is_refused n u
+checked_status seen a b f g n (inr (inl u)) = is_refused None n u
 checked_status seen a b f g n (inr (inr e)) = inr (inr (inr (inr (inr (inl e)))))
 
-checked_other : (seen : Option Contents) (a b : Option (List ℕ)) (f g n t : ℕ) → TellsFound seen a b f g n ⊎ WasUnopened n ⊎ (n ≡ 8) → (0 ≡ t → ⊥) → (4 ≡ t → ⊥) → (5 ≡ t → ⊥) → (7 ≡ t → ⊥) → (8 ≡ t → ⊥) → n ≢ t
+checked_other : (seen : Option Contents) (a b : Option (List ℕ)) (f g n t : ℕ) → TellsFound seen a b f g n ⊎ WasUnopened None n ⊎ (n ≡ 8) → (0 ≡ t → ⊥) → (4 ≡ t → ⊥) → (5 ≡ t → ⊥) → (7 ≡ t → ⊥) → (8 ≡ t → ⊥) → n ≢ t
 checked_other seen a b f g n t (inl o) d0 d4 d5 d7 d8 = told_other n t (told_status (check_text o.found) a b f g n o.told) d0 d4
-checked_other seen a b f g n t (inr (inl u)) d0 d4 d5 d7 d8 = not_refused n t u d5 d7
+checked_other seen a b f g n t (inr (inl u)) d0 d4 d5 d7 d8 = not_refused None n t u d5 d7
 checked_other seen a b f g n t (inr (inr e)) d0 d4 d5 d7 d8 = λ k. apart n 8 t e k d8
 
-checked_write : (seen : Option Contents) (a b : Option (List ℕ)) (f g n : ℕ) (W : Type 0) → W → TellsFound seen a b f g n ⊎ WasUnopened n ⊎ (n ≡ 8) → TellsWriteFault f g n W
-checked_write seen a b f g n W w (inl t) = told_write (check_text t.found) a b f g n W w t.told
-checked_write seen a b f g n W w (inr (inl u)) = record { rose_at_4 = λ e. refused_run n u (inr e); calm_at_0 = λ e. refused_run n u (inl e); calm_or_later_at_8 = λ _. inr w }
-checked_write seen a b f g n W w (inr (inr e)) = record { rose_at_4 = λ k. apart n 8 4 e k (λ k. omega (arith, k)); calm_at_0 = λ k. apart n 8 0 e k (λ k. omega (arith, k)); calm_or_later_at_8 = λ _. inr w }
+checked_write : (kept : Option Durable) (seen : Option Contents) (a b : Option (List ℕ)) (f g n : ℕ) (W : Type 0) → kept ≡ None → W → TellsFound seen a b f g n ⊎ WasUnopened None n ⊎ (n ≡ 8) → TellsWriteFault kept f g n W
+checked_write kept seen a b f g n W none w (inl t) = told_write (check_text t.found) kept a b f g n W w t.told
+checked_write kept seen a b f g n W none w (inr (inl u)) = record {
+  rose_at_4 = λ e. refused_4 None n u e;
+  calm_at_0 = λ e. refused_0 None n u e;
+  calm_at_5 = λ _ some. some_not_none kept some none;
+  calm_or_later_at_8 = λ _. inr w;
+}
+checked_write kept seen a b f g n W none w (inr (inr e)) = record {
+  rose_at_4 = λ k. apart n 8 4 e k (λ k. omega (arith, k));
+  calm_at_0 = λ k. apart n 8 0 e k (λ k. omega (arith, k));
+  calm_at_5 = λ _ some. some_not_none kept some none;
+  calm_or_later_at_8 = λ _. inr w;
+}
 
 -- the words ask what the areas hold
-pub program_check : (ms : Meanings) (kept : Option Durable) (told : List Told) (form : Option Form) (l : Option (List ℕ)) (x : Option ℕ) (i : ℕ) (seen : Option Contents) (p q : ℕ) (a b : Option (List ℕ)) (f g n : ℕ) (h : List Entry)
-    → form ≡ Some Check → TellsDiskFault p q n → TellsUnopened kept seen a b f g n h → IfSome seen (λ both. FindsDamage both n) → kept ≡ None → Checks seen p q a b f g n → h ≡ [] → EndsProgram ms kept told form l l x x i i seen p q a b f g n h
-program_check ms kept told form l x i seen p q a b f g n h is fault unopened damaged none t z = record {
+pub program_check : (ms : Meanings) (kept : Option Durable) (told : List Told) (parts : List PartTold) (form : Option Form) (l : Option (List ℕ)) (x : Option ℕ) (i : ℕ) (seen : Option Contents) (p q : ℕ) (a b : Option (List ℕ)) (f g n : ℕ) (h : List Entry)
+    → form ≡ Some Check → TellsDiskFault p q n → TellsUnopened kept seen a b f g n h → IfSome seen (λ both. FindsDamage both n) → kept ≡ None → Checks seen p q a b f g n → h ≡ [] → EndsProgram ms kept told parts form l l x x i i seen p q a b f g n h
+program_check ms kept told parts form l x i seen p q a b f g n h is fault unopened damaged none t z = record {
   ends = checked_status seen a b f g n t.tells;
   usage = (λ e. absurd (checked_other seen a b f g n 2 t.tells (λ k. omega (arith, k)) (λ k. omega (arith, k)) (λ k. omega (arith, k)) (λ k. omega (arith, k)) (λ k. omega (arith, k)) e), λ k. not_none form Check is k);
   read_fault = record { rose_at_3 = λ e. absurd (checked_other seen a b f g n 3 t.tells (λ k. omega (arith, k)) (λ k. omega (arith, k)) (λ k. omega (arith, k)) (λ k. omega (arith, k)) (λ k. omega (arith, k)) e); calm_else = λ _. refl };
   disk_fault = fault;
-  write_fault = checked_write seen a b f g n (WasStopped ms (opened_state kept told) l l h) (inl z) t.tells;
+  write_fault = checked_write kept seen a b f g n (WasStopped ms (opened_state kept told) l l h) none (inl z) t.tells;
   damaged = λ _. damaged;
   complete = λ k. two_forms form Run Check k is run_not_check;
   reads = reads_nothing l x n (checked_other seen a b f g n 9 t.tells (λ k. omega (arith, k)) (λ k. omega (arith, k)) (λ k. omega (arith, k)) (λ k. omega (arith, k)) (λ k. omega (arith, k)));

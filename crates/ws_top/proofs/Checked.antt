@@ -1,5 +1,5 @@
 -- What `check` tells.
-use Rattle.std.proofs.Common.{◌≡◌, ◌⊎◌, inl, inr, ℕ, List, Option, Some, subst}
+use Rattle.std.proofs.Common.{◌≡◌, ◌⊎◌, inl, inr, ℕ, List, Option, Some, refl, subst}
 use Rattle.std.specs.Prelude.{IfSome}
 use Rattle.ws_outside.specs.declared.contents.Contents.{Contents}
 use Rattle.ws_outside.specs.Faults.{Rose}
@@ -28,7 +28,7 @@ checks_found found seen p q a b f g n held (inr (eight, _)) = record { tells = i
 
 -- the areas couldn't be read
 pub checks_refused : (e : OpenFault) (seen : Option Contents) (p q : ℕ) (a b : Option (List ℕ)) (f g n : ℕ) → HasFault seen p q e → Refuses e a b f g n → Checks seen p q a b f g n
-checks_refused Disk seen p q a b f g n fault (five, _) = record { tells = inr (inl (inl five)); complete = λ _ sound both is whole. absurd (sound fault.cause) }
+checks_refused Disk seen p q a b f g n fault (five, _) = record { tells = inr (inl (inl (five, refl))); complete = λ _ sound both is whole. absurd (sound fault.cause) }
 checks_refused (Damaged damage) seen p q a b f g n fault (inl (seven, _)) = record {
   tells = inr (inl (inr seven));
   complete = λ _ _ both is whole. absurd (whole damage (subst (λ o. IsDamage o damage) is fault.damage));

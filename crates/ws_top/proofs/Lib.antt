@@ -10,3 +10,7 @@ pub mod Responded
 pub mod Checked
 pub mod Answered
 pub mod Built
+pub mod Taking
+pub mod KeptAlike
+pub mod Blocks
+pub mod Ran

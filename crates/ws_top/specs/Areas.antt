@@ -1,5 +1,5 @@
 -- What becomes of the two areas, and which state is opened from them.
-use Rattle.std.specs.Prelude.{◌≡◌, ◌≢◌, ◌⊎◌, ◌≤◌, ℕ, List, map, Option, Some, None, IfSome}
+use Rattle.std.specs.Prelude.{◌≡◌, ◌≢◌, ◌⊎◌, ◌≤◌, ℕ, List, [], ◌∷◌, map, Option, Some, None, IfSome}
 use Rattle.ws_outside.specs.declared.contents.Contents.{Contents}
 use Rattle.ws_outside.specs.Disk.{Each, LeavesOnly}
 use Rattle.ws_outside.specs.Faults.{Rose}
@@ -7,7 +7,11 @@ use Rattle.disk_area.specs.declared.damage.Damage.{Damage}
 use Rattle.ws_durable.specs.declared.durable.Durable.{Durable}
 use Rattle.ws_durable.specs.Saved.{Saved, saved}
 use Rattle.save_store.specs.Damages.{IsDamaged}
-use Rattle.save_store.specs.States.{fresh, Holds}
+use Rattle.save_store.specs.States.{fresh, Holds, HoldsOne}
+use Rattle.core_event.specs.declared.entry.Entry.{Entry}
+use Rattle.save_history.specs.Kept.{HasRisenBy}
+use Rattle.save_history.specs.Points.{Points, points_of}
+use Rattle.save_history.specs.Steps.{failures, steps_of}
 use Rattle.builder_api.specs.Told.{Told}
 use Rattle.ws_core.specs.Opened.{opened_of}
 use Rattle.ws_core.specs.States.{Moment}
@@ -45,10 +49,11 @@ EndsDamaged status = (status ≡ 7) ⊎ (status ≡ 3) ⊎ (status ≡ 9) ⊎ (s
 abbrev pub FindsDamage : Contents → ℕ → Type 0
 FindsDamage both status = (damage : Damage) → IsDamaged both damage → EndsDamaged status
 
--- A failed call on the disk is told by the status 5, and by no other.
+-- A failed call on the disk is told by the status 5, or by one that comes before it where a save failed: by 8 or by 4.
 pub record TellsDiskFault (before after status : ℕ) : Type 0 where
   pub rose_at_5 : status ≡ 5 → Rose before after
-  pub calm_else : status ≢ 5 → after ≡ before
+  pub either_at_4_and_8 : (status ≡ 4) ⊎ (status ≡ 8) → (after ≡ before) ⊎ Rose before after
+  pub calm_else : status ≢ 5 → status ≢ 4 → status ≢ 8 → after ≡ before
 
 -- ---- what a crash leaves
 
@@ -57,11 +62,30 @@ pub record StaysAsItWas {D : Type 0} (moment : D → ℕ) (left_since : D → �
   pub contents : seen new ≡ seen old
   pub any_moment : LeavesOnly moment left_since may_leave old new (may_leave old)
 
+-- the points of a run: the state that was opened, and those of its saves
+abbrev pub run_points : Saved → Moment → List Entry → Points
+run_points d opened h = points_of d opened h
+
 -- There is a moment, that at which opening had brought both areas to the device, since which each crash leaves areas that
--- hold the opened state.
-pub record LeavesOpened {D : Type 0} (moment : D → ℕ) (left_since : D → ℕ → Contents → Type 0) (may_leave : D → Contents → Type 0) (old new : D) (d : Saved) : Type 0 where
+-- hold a point of the history; and now it leaves the one that was acknowledged last, or one that was begun after it.
+pub record LeavesPoints {D : Type 0} (moment : D → ℕ) (left_since : D → ℕ → Contents → Type 0) (may_leave : D → Contents → Type 0) (old new : D) (points : Points) : Type 0 where
   pub since : ℕ
   pub later : moment old ≤ since
   pub passed : since ≤ moment new
-  pub each : Each (left_since new since) (λ c. Holds c d)
-  pub now : Each (may_leave new) (λ c. Holds c d)
+  pub each : Each (left_since new since) (HoldsOne points.all)
+  pub now : Each (may_leave new) (HoldsOne (points.acknowledged ∷ points.begun))
+
+-- What a run leaves of the areas that it opened to this state. Before opening had brought them to the device a crash leaves
+-- what one at the start could have left. Where nothing was saved they hold what they held. The count of faults rose for each
+-- save that ended because a call on the disk failed.
+pub record KeepsAreas {D : Type 0} (moment : D → ℕ) (left_since : D → ℕ → Contents → Type 0) (may_leave : D → Contents → Type 0) (seen : D → Option Contents) (faults : D → ℕ)
+    (old new : D) (d : Saved) (opened : Moment) (h : List Entry) : Type 0 where
+  pub points : LeavesPoints moment left_since may_leave old new (run_points d opened h)
+  pub any_moment : LeavesOnly moment left_since may_leave old new (λ c. may_leave old c ⊎ HoldsOne (run_points d opened h).all c)
+  pub unsaved : steps_of h ≡ [] → seen new ≡ seen old
+  pub counted : HasRisenBy (failures (steps_of h)) (faults old) (faults new)
+
+-- What becomes of the areas: those of a run that opened a state, and of one that opened none, which leaves them as they are.
+abbrev pub LeavesAreasOf : {D : Type 0} → (D → ℕ) → (D → ℕ → Contents → Type 0) → (D → Contents → Type 0) → (D → Option Contents) → (D → ℕ) → D → D → Option Durable → Moment → List Entry → Type 0
+LeavesAreasOf moment left_since may_leave seen faults old new None opened h = StaysAsItWas moment left_since may_leave seen old new
+LeavesAreasOf moment left_since may_leave seen faults old new (Some d) opened h = KeepsAreas moment left_since may_leave seen faults old new (saved d) opened h

@@ -30,7 +30,7 @@ Touches form = IsRun form ⊎ IsCheck form
 
 -- how the program is called, and what it does
 abbrev pub help_text : List ℕ
-help_text = codes "wsrun run A B\n\nRuns the script on standard input, on the workspace that the area files A and B hold, and prints what was done.\n\nwsrun check A B\n\nPrints what the area files A and B hold.\n"
+help_text = codes "wsrun run A B\n\nRuns the script on standard input, on the workspace that the area files A and B hold, and prints what was done. A save goes into these files.\n\nwsrun check A B\n\nPrints what the area files A and B hold.\n"
 
 -- the program and its version
 abbrev pub version_text : List ℕ

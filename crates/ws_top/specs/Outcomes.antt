@@ -16,6 +16,11 @@ use Rattle.script_lang.specs.Scripts.{IsScript, IsFirstBad}
 use Rattle.core_event.specs.declared.entry.Entry.{Entry}
 use Rattle.builder_api.specs.Meanings.{Meanings}
 use Rattle.builder_api.specs.Told.{Told}
+use Rattle.save_round.specs.Told.{Told as PartTold}
+use Rattle.save_round.specs.Restoring.{HasStoppedRestoring, WereRestored}
+use Rattle.save_round.specs.declared.restoring.KeptState.{KeptState}
+use Rattle.save_history.specs.Rounds.{HadSaves, rounds_of}
+use Rattle.ws_core.specs.Durables.{kept_since}
 use Rattle.ws_core.specs.States.{Moment}
 use Rattle.ws_core.specs.Histories.{has_entered, replay, Legal, notices, told_of}
 use Rattle.run_order.specs.Orders as order
@@ -42,9 +47,9 @@ pub record WasRead (status : ℕ) : Type 0 where
   pub memory : status ≢ 8
   pub too_long : status ≢ 9
 
--- a script was run to its end; the sink may have failed
-abbrev pub WasRun : ℕ → Type 0
-WasRun status = (status ≡ 0) ⊎ (status ≡ 4)
+-- a script was run to its end: the sink may have failed, or, where a state was opened, the disk in a save
+abbrev pub WasRun : Option Durable → ℕ → Type 0
+WasRun kept status = (status ≡ 0) ⊎ (status ≡ 4) ⊎ ((status ≡ 5) × IsSome kept)
 
 -- the source wasn't read to its end, and memory sufficed
 abbrev pub WasUnread : ℕ → Type 0
@@ -54,9 +59,9 @@ WasUnread status = (status ≡ 2) ⊎ (status ≡ 3) ⊎ (status ≡ 9)
 abbrev pub WasIdle : ℕ → Type 0
 WasIdle status = WasUnread status ⊎ (status ≡ 6)
 
--- the areas couldn't be read: the disk failed, or they are damaged
-abbrev pub WasUnopened : ℕ → Type 0
-WasUnopened status = (status ≡ 5) ⊎ (status ≡ 7)
+-- the areas couldn't be read: the disk failed, and no state was opened, or they are damaged
+abbrev pub WasUnopened : Option Durable → ℕ → Type 0
+WasUnopened kept status = ((status ≡ 5) × (kept ≡ None)) ⊎ (status ≡ 7)
 
 -- ---- faults
 
@@ -66,10 +71,11 @@ pub record TellsReadFault (before after status : ℕ) : Type 0 where
   pub calm_else : status ≢ 3 → after ≡ before
 
 -- A failed write is told by the status 4, or by one whose cause came earlier: at 8 that is where memory had wanted
--- before the first failed write.
-pub record TellsWriteFault (before after status : ℕ) (WantedBefore : Type 0) : Type 0 where
+-- before the first failed write. None failed at 0, and at 5 where a state was opened.
+pub record TellsWriteFault (kept : Option Durable) (before after status : ℕ) (WantedBefore : Type 0) : Type 0 where
   pub rose_at_4 : status ≡ 4 → Rose before after
   pub calm_at_0 : status ≡ 0 → after ≡ before
+  pub calm_at_5 : status ≡ 5 → IsSome kept → after ≡ before
   pub calm_or_later_at_8 : status ≡ 8 → (after ≡ before) ⊎ WantedBefore
 
 -- ---- which state is opened
@@ -78,9 +84,9 @@ pub record TellsWriteFault (before after status : ℕ) (WantedBefore : Type 0) :
 -- nothing was run and memory sufficed. Where there is none nothing was done.
 pub record TellsState (kept : Option Durable) (seen : Option Contents) (status : ℕ) (h : List Entry) : Type 0 where
   pub held : IsHeld kept seen
-  pub some_if_run : WasRun status → IsSome kept
+  pub some_if_run : WasRun kept status → IsSome kept
   pub none_if_idle : WasIdle status → kept ≡ None
-  pub none_if_unopened : WasUnopened status → kept ≡ None
+  pub none_if_unopened : WasUnopened kept status → kept ≡ None
   pub nothing_if_none : kept ≡ None → h ≡ []
 
 -- ---- what is done
@@ -143,18 +149,32 @@ pub record HearsNotices (opened : Moment) (status : ℕ) (h : List Entry) (old n
   pub front_at_8 : status ≡ 8 → (front : List (List DeltaNode)) × (rest : List (List DeltaNode)) × (notices opened h ≡ front ++ rest) × HeardMore front old new
 
 -- What was done: `All` says that it is all of the script, `Front` that it is a front of it.
-pub record DoesScript (All Front : List Entry → Type 0) (status : ℕ) (h : List Entry) : Type 0 where
-  pub all_at_0_and_4 : WasRun status → All h
+pub record DoesScript (All Front : List Entry → Type 0) (kept : Option Durable) (status : ℕ) (h : List Entry) : Type 0 where
+  pub all_if_run : WasRun kept status → All h
   pub some_at_8 : status ≡ 8 → (h ≡ []) ⊎ Front h
+
+-- ---- participants
+
+-- What participants were told: where a state was opened the first of each name that kept something in it got that back, with
+-- what changed since where it asked for that, and then had the calls of the saves of the history, in order, and no others.
+-- Where none was opened they had no call; or memory wanted while they got back what they kept.
+abbrev pub HaveTakenPart : Option Durable → Moment → ℕ → List Entry → List PartTold → List PartTold → Type 0
+HaveTakenPart None opened status h old new = (new ≡ old) ⊎ ((status ≡ 8) × ((kept : List KeptState) × HasStoppedRestoring kept old new))
+HaveTakenPart (Some d) opened status h old new = (then : List PartTold) × WereRestored (kept_since opened) old then × HadSaves (rounds_of h).ended then new
 
 -- ---- what is written
 
+-- the status of a run without a failed write: a call on the disk failed in a save, or none did
+abbrev pub IsUnwritten : ℕ → Type 0
+IsUnwritten status = (status ≡ 0) ⊎ (status ≡ 5)
+
 -- What was written is the text of what was done: all of it, a front of it where a write failed, or a front of the text of
 -- a want of memory.
-pub record WritesText (kept : Option Durable) (opened : Moment) (old new : Option (List ℕ)) (status : ℕ) (h : List Entry) : Type 0 where
-  pub all_at_0 : status ≡ 0 → Gains old (text opened h 0) new
-  pub front_at_4 : status ≡ 4 → GainsFront old (text opened h 0) new
-  pub front_at_8 : status ≡ 8 → GainsFront old (cut_text kept opened h) new
+pub record WritesText (kept : Option Durable) (parts : List PartTold) (opened : Moment) (old new : Option (List ℕ)) (status : ℕ) (h : List Entry) : Type 0 where
+  pub all_at_0 : status ≡ 0 → Gains old (text parts opened h 0) new
+  pub all_at_5 : status ≡ 5 → IsSome kept → Gains old (text parts opened h 5) new
+  pub front_at_4 : status ≡ 4 → (n : ℕ) × IsUnwritten n × GainsFront old (text parts opened h n) new
+  pub front_at_8 : status ≡ 8 → GainsFront old (cut_text kept parts opened h) new
 
 -- the text was written; or a front of it, and then a write failed
 abbrev pub Writes : Option (List ℕ) → Option (List ℕ) → ℕ → ℕ → List ℕ → Type 0
@@ -169,8 +189,8 @@ pub record WritesDamage (seen : Option Contents) (old new : Option (List ℕ)) (
 -- Where no state was opened nothing was done. What was written is the line of the status, which names the first damage where
 -- the areas are damaged.
 pub record TellsUnopened (kept : Option Durable) (seen : Option Contents) (old new : Option (List ℕ)) (before after status : ℕ) (h : List Entry) : Type 0 where
-  pub nothing : WasUnopened status → h ≡ []
-  pub line_at_5 : status ≡ 5 → Writes old new before after (status_line 5)
+  pub nothing : WasUnopened kept status → h ≡ []
+  pub line_at_5 : kept ≡ None → status ≡ 5 → Writes old new before after (status_line 5)
   pub damage_at_7 : status ≡ 7 → WritesDamage seen old new before after
   pub line_at_8 : kept ≡ None → status ≡ 8 → Writes old new before after (status_line 8)
 
@@ -203,12 +223,12 @@ Completes left seen ReadFailed WriteFailed DiskFailed status = (ReadFailed → �
     → seen ≡ Some both → AreUndamaged both → (status ≡ 0) ⊎ (status ≡ 8)
 
 -- The source `left` what it had to read, and the sink went from `old` to `new`.
-pub record RunsScript (ms : Meanings) (kept : Option Durable) (opened : Moment) (left after_reading old new : Option (List ℕ)) (before after status : ℕ) (h : List Entry) : Type 0 where
+pub record RunsScript (ms : Meanings) (kept : Option Durable) (parts : List PartTold) (opened : Moment) (left after_reading old new : Option (List ℕ)) (before after status : ℕ) (h : List Entry) : Type 0 where
   pub to_its_end : WasRead status → IsAtEnd after_reading
   pub judged : WasRead status → Judges left after_reading status
   pub nothing_if_idle : WasIdle status → h ≡ []
-  pub done : DoesScript (RanAll ms opened left after_reading) (RanSome ms opened left after_reading) status h
-  pub text : WritesText kept opened old new status h
+  pub done : DoesScript (RanAll ms opened left after_reading) (RanSome ms opened left after_reading) kept status h
+  pub text : WritesText kept parts opened old new status h
   pub bad_line_at_6 : status ≡ 6 → (written : List ℕ) × IsTextBad left after_reading written × Writes old new before after written
 
 -- the text was told; or a front of it, and then a write failed
@@ -223,7 +243,7 @@ pub record TellsFound (seen : Option Contents) (old new : Option (List ℕ)) (be
 
 -- What `check` tells: what both areas hold; or a status that says why it doesn't.
 pub record Checks (seen : Option Contents) (disk_before disk_after : ℕ) (old new : Option (List ℕ)) (before after status : ℕ) : Type 0 where
-  pub tells : TellsFound seen old new before after status ⊎ WasUnopened status ⊎ (status ≡ 8)
+  pub tells : TellsFound seen old new before after status ⊎ WasUnopened None status ⊎ (status ≡ 8)
   -- where nothing failed and the areas have no damage, they are told, or memory wants
   pub complete : (Rose before after → ⊥) → (Rose disk_before disk_after → ⊥) → (both : Contents) → seen ≡ Some both → AreUndamaged both → (status ≡ 0) ⊎ (status ≡ 8)
 
@@ -235,20 +255,20 @@ pub record DoesNothing (old new : Option (List ℕ)) (reads_before reads_after :
   pub nothing : h ≡ []
 
 -- What the program answers to words of a form, or of none.
-pub record EndsProgram (ms : Meanings) (kept : Option Durable) (told : List Told) (form : Option Form) (left after_reading : Option (List ℕ)) (reads_before reads_after : Option ℕ) (reads_failed reads_fail : ℕ)
+pub record EndsProgram (ms : Meanings) (kept : Option Durable) (told : List Told) (parts : List PartTold) (form : Option Form) (left after_reading : Option (List ℕ)) (reads_before reads_after : Option ℕ) (reads_failed reads_fail : ℕ)
     (seen : Option Contents) (disk_before disk_after : ℕ) (old new : Option (List ℕ)) (before after status : ℕ) (h : List Entry) : Type 0 where
   pub ends : IsStatus status
   pub usage : (status ≡ 2) ↔ (form ≡ None)
   pub read_fault : TellsReadFault reads_failed reads_fail status
   pub disk_fault : TellsDiskFault disk_before disk_after status
-  pub write_fault : TellsWriteFault before after status (WasStopped ms (opened_state kept told) left after_reading h)
+  pub write_fault : TellsWriteFault kept before after status (WasStopped ms (opened_state kept told) left after_reading h)
   pub damaged : Touches form → IfSome seen (λ both. FindsDamage both status)
   pub complete : IsRun form → Completes left seen (Rose reads_failed reads_fail) (Rose before after) (Rose disk_before disk_after) status
   pub reads : ReadsNoMore left after_reading reads_before reads_after status
   pub opens : IsRun form → TellsState kept seen status h
   pub none : (IsRun form → ⊥) → kept ≡ None
   pub thread : IsOneThread (opened_state kept told) h
-  pub runs : IsRun form → RunsScript ms kept (opened_state kept told) left after_reading old new before after status h
+  pub runs : IsRun form → RunsScript ms kept parts (opened_state kept told) left after_reading old new before after status h
   pub calm : status ≢ 8 → IsCalm h
   pub line : WasUnread status → Writes old new before after (status_line status)
   pub unopened : TellsUnopened kept seen old new before after status h

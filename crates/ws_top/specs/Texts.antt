@@ -1,12 +1,18 @@
 -- The text of a run.
-use Rattle.std.specs.Prelude.{ℕ, List, ◌++◌, Option, Some, None, codes, decimal}
+use Rattle.std.specs.Prelude.{ℕ, List, [], ◌++◌, Option, Some, None, codes, decimal}
+use Rattle.std.specs.List.{flat_map}
+use Rattle.script_words.specs.Words.{word_text}
+use Rattle.save_round.specs.declared.restoring.KeptState.{KeptState}
+use Rattle.save_round.specs.Restoring.{kept_for_each}
+use Rattle.save_round.specs.Told.{Told as PartTold}
+use Rattle.ws_core.specs.Durables.{kept_since}
 use Rattle.ws_durable.specs.declared.durable.Durable.{Durable}
 use Rattle.save_store.specs.declared.look.Found.{Found}
 use Rattle.area_text.specs.Looks.{found_text}
 use Rattle.delta_kind.specs.Deltas.{delta}
 use Rattle.core_event.specs.declared.entry.Entry.{Entry}
 use Rattle.report_text.specs.Deltas.{delta_lines}
-use Rattle.run_text.specs.Lines.{history_lines}
+use Rattle.run_text.specs.Lines.{history_lines, some_lines}
 use Rattle.ws_core.specs.States.{Moment}
 use Rattle.ws_core.specs.Histories.{replay}
 
@@ -14,21 +20,42 @@ use Rattle.ws_core.specs.Histories.{replay}
 abbrev pub changes_from : Moment → List Entry → List ℕ
 changes_from opened h = codes "since start\n" ++ delta_lines (delta opened.resources.tree (replay opened h).resources.tree)
 
--- what is written of a history from a state on, before the status: its entries, and what changed since that state
-abbrev pub report_from : Moment → List Entry → List ℕ
-report_from opened h = history_lines h ++ changes_from opened h
+-- ---- what is restored
+
+-- what is told of what is given back, if something is: the name, and what changed since that was kept, where that is told
+abbrev pub restored_block : Option KeptState → List ℕ
+restored_block None = []
+restored_block (Some k) = codes "restored " ++ word_text k.name ++ (codes "\n" ++ some_lines k.delta)
+
+-- what is told of these, one after another
+abbrev pub restored_blocks : List (Option KeptState) → List ℕ
+restored_blocks = flat_map restored_block
+
+-- of each participant that is the first of its name, in their order
+abbrev pub restored_text : Moment → List PartTold → List ℕ
+restored_text opened parts = restored_blocks (kept_for_each (kept_since opened) parts)
+
+-- ---- the whole
+
+-- what was done from a state on: the entries, and what changed since that state
+abbrev pub done_from : Moment → List Entry → List ℕ
+done_from opened h = history_lines h ++ changes_from opened h
+
+-- what is written of a history from a state on, before the status: what was restored to these participants, and what was done
+abbrev pub report_from : List PartTold → Moment → List Entry → List ℕ
+report_from parts opened h = restored_text opened parts ++ done_from opened h
 
 abbrev pub status_line : ℕ → List ℕ
 status_line n = codes "status " ++ decimal n ++ codes "\n"
 
--- the text of a run: what was done since the state was opened, what changed, and the status
-abbrev pub text : Moment → List Entry → ℕ → List ℕ
-text opened h n = report_from opened h ++ status_line n
+-- the text of a run: what was restored, what was done since the state was opened, what changed, and the status
+abbrev pub text : List PartTold → Moment → List Entry → ℕ → List ℕ
+text parts opened h n = report_from parts opened h ++ status_line n
 
 -- the text of a want of memory: of what was done, as above, or the status alone where no state was opened
-abbrev pub cut_text : Option Durable → Moment → List Entry → List ℕ
-cut_text None opened h = status_line 8
-cut_text (Some d) opened h = text opened h 8
+abbrev pub cut_text : Option Durable → List PartTold → Moment → List Entry → List ℕ
+cut_text None parts opened h = status_line 8
+cut_text (Some d) parts opened h = text parts opened h 8
 
 abbrev pub bad_line : ℕ → List ℕ
 bad_line line = codes "status " ++ decimal 6 ++ codes " line " ++ decimal line ++ codes "\n"

@@ -1,5 +1,6 @@
 //! What the areas hold is told.
-ghost use Rattle.std.specs.Prelude.{◌≡◌, ◌++◌, [], None, IfOk, OnOk};
+ghost use Rattle.std.specs.Prelude.{◌≡◌, ◌++◌, [], map, None, IfOk, OnOk};
+ghost use Rattle.ws_top.specs.Areas.{opened_state};
 ghost use Rattle.ws_top.specs.Inside.Opening.{TellsHeld, LeavesAreas};
 ghost use Rattle.ws_top.specs.Outcomes.{Checks};
 ghost use Rattle.ws_top.specs.Texts.{check_text, status_line};
@@ -12,19 +13,20 @@ use area_text::put_found;
 use builder_api::Builder;
 use report_text::{put_counted, put_text};
 use save_parts::Listener;
+use save_round::Participant;
 use save_store::{Found, Store};
 use std::alloc::Global;
 use ws_outside::{Disk, Sink};
 
 /// Tells what both areas hold, or why that couldn't be read. They are not brought to the device, and hold what they held.
-pub fn check<K: Sink, D: Disk, L: Listener, B: Builder>(
+pub fn check<K: Sink, D: Disk, L: Listener, B: Builder, P: Participant>(
     alloc: Global,
     sink: &mut K,
     areas: Areas<D>,
-    kit: Kit<L, B>,
-) -> Outcome<D, L, B>
+    kit: Kit<L, B, P>,
+) -> Outcome<D, L, B, P>
     ensures checks { Checks (D.seen areas.disk) (D.faults areas.disk) (D.faults result.areas.disk) (K.written sink.old) (K.written sink.new) (K.faults sink.old) (K.faults sink.new) result.status }
-    ensures areas { LeavesAreas D.moment D.left_since D.may_leave D.seen D.faults areas.disk result.areas.disk (K.written sink.old) (K.written sink.new) (K.faults sink.old) (K.faults sink.new) result.kept result.status result.history }
+    ensures areas { LeavesAreas D.moment D.left_since D.may_leave D.seen D.faults areas.disk result.areas.disk (K.written sink.old) (K.written sink.new) (K.faults sink.old) (K.faults sink.new) result.kept (opened_state result.kept (map (λ b. B.tells b) kit.builders)) result.status result.history }
     ensures nothing { result.history ≡ [] }
     ensures none { result.kept ≡ None }
     ensures kit { result.kit ≡ kit }
@@ -39,13 +41,13 @@ pub fn check<K: Sink, D: Disk, L: Listener, B: Builder>(
 }
 
 /// Tells what was found in both areas.
-fn tell_found<K: Sink, D: Disk, L: Listener, B: Builder>(
+fn tell_found<K: Sink, D: Disk, L: Listener, B: Builder, P: Participant>(
     alloc: Global,
     sink: &mut K,
     areas: Areas<D>,
-    kit: Kit<L, B>,
+    kit: Kit<L, B, P>,
     found: Found,
-) -> Outcome<D, L, B>
+) -> Outcome<D, L, B, P>
     ensures tells { TellsHeld found (K.written sink.old) (K.written sink.new) (K.faults sink.old) (K.faults sink.new) result.status }
     ensures nothing { result.history ≡ [] }
     ensures none { result.kept ≡ None }

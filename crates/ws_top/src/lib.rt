@@ -7,8 +7,10 @@
 //! - `words`: the forms of words that the program takes.
 //! - `reading`: a source is read to its end.
 //! - `opening`: the areas are opened, and a workspace over what they hold.
-//! - `response`: a script is run, and what was done is written.
-//! - `report`: what was done, and what changed since the start, is written.
+//! - `running`: participants get back what they kept, a script is run on the workspace that was opened, and what was done is
+//!   written.
+//! - `response`: a script is read, the areas are opened, and it is run on what they hold.
+//! - `report`: what was given back, what was done, and what changed since the start, is written.
 //! - `checking`: what the areas hold is told.
 //! - `refusal`: why the areas couldn't be read is told.
 #![tactic(auto)]
@@ -23,6 +25,7 @@ mod reading;
 mod refusal;
 mod report;
 mod response;
+mod running;
 mod words;
 
 pub use builder_api::{Builder, Builders, Meanings, Silent};
@@ -32,4 +35,5 @@ pub use program::{answer, top};
 pub use res_path::NoMemory;
 pub use response::Outcome;
 pub use save_parts::{Listener, Listeners};
+pub use save_round::{Participant, Participants};
 pub use ws_outside::Disk;

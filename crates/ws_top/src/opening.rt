@@ -1,7 +1,9 @@
 //! The areas are opened, and a workspace over what they hold.
-ghost use Rattle.std.specs.Prelude.{◌≡◌, [], map, Some, IfOk};
+ghost use Rattle.std.specs.Prelude.{◌≡◌, [], map, Some, Ok, Err, IfOk, MatchResult};
 ghost use Rattle.ws_durable.specs.Saved.{saved};
 ghost use Rattle.save_format.specs.Valid.{Valid};
+ghost use Rattle.save_store.specs.Stored.{IsStored};
+ghost use Rattle.ws_core.specs.Durables.{kept_since};
 ghost use Rattle.ws_core.specs.Opened.{opened_of};
 ghost use Rattle.ws_top.specs.Areas.{opened_state};
 ghost use Rattle.ws_top.specs.Inside.Opening.{Opens};
@@ -12,6 +14,7 @@ use crate::kit::Areas;
 use crate::naming::names_of;
 use builder_api::{Builder, Builders};
 use elem_tree::LayerTree;
+use save_round::KeptState;
 use save_store::{OpenFault, Store};
 use service_desk::BuilderNames;
 use std::alloc::Global;
@@ -19,32 +22,46 @@ use ws_core::Core;
 use ws_durable::Durable;
 use ws_outside::Disk;
 
-/// Opens the areas, and gives the state that they hold. They are brought to the device, and hold what they held.
-pub fn open_areas<D: Disk>(alloc: Global, areas: Areas<D>) -> (Result<Durable, OpenFault>, Areas<D>)
-    ensures opens { Opens D.moment D.left_since D.may_leave D.seen D.faults areas.disk result.1.disk result.0 }
-    ensures valid { IfOk result.0 (λ d. Valid (saved d)) }
+/// A workspace that was just opened, in which nothing was done.
+#[derive(Drop)]
+pub struct Opened {
+    pub core: Core<LayerTree>,
+    /// Which state it was opened from.
+    pub kept: Kept,
+    /// What participants kept in that state, by their names, with what changed since where they asked for that.
+    pub states: Vec<KeptState>,
+}
+
+/// Opens the areas, and gives a store over them with the state that they hold. They are brought to the device, and hold what
+/// they held.
+pub fn open_areas<D: Disk>(
+    alloc: Global,
+    areas: Areas<D>,
+) -> Result<(Store<D>, Durable), (OpenFault, Areas<D>)>
+    ensures opens { MatchResult result (λ o. Opens D.moment D.left_since D.may_leave D.seen D.faults areas.disk o.0.areas.disk (Ok o.1)) (λ e. Opens D.moment D.left_since D.may_leave D.seen D.faults areas.disk e.1.disk (Err e.0)) }
+    ensures valid { IfOk result (λ o. Valid (saved o.1)) }
+    ensures stored { IfOk result (λ o. IsStored D.may_leave [] o.0) }
+    ensures last { IfOk result (λ o. o.0.last ≡ o.1) }
 {
     let Areas { disk } = areas;
     match Store::open(alloc, disk) {
-        Ok((store, durable)) => {
-            let disk = store.into_disk();
-            (Ok(durable), Areas { disk })
-        }
-        Err((fault, disk)) => (Err(fault), Areas { disk }),
+        Ok((store, durable)) => Ok((store, durable)),
+        Err((fault, disk)) => Err((fault, Areas { disk })),
     }
 }
 
-/// The workspace that was kept so, with these builders, in which nothing was done, and which state it was opened from.
+/// The workspace that was kept so, with these builders, which state it was opened from, and what participants kept in it.
 pub fn workspace<B: Builder>(
     alloc: Global,
     durable: Durable,
     builders: &Builders<B>,
-) -> Result<(Core<LayerTree>, Kept), NoMemory>
+) -> Result<Opened, NoMemory>
     requires valid { Valid (saved durable) }
-    ensures kept { IfOk result (λ o. o.1 ≡ Some durable) }
-    ensures opened { IfOk result (λ o. o.0.opened ≡ opened_state o.1 (map (λ b. B.tells b) builders.now)) }
-    ensures state { IfOk result (λ o. o.0.state ≡ o.0.opened) }
-    ensures history { IfOk result (λ o. o.0.history ≡ []) }
+    ensures kept { IfOk result (λ o. o.kept ≡ Some durable) }
+    ensures opened { IfOk result (λ o. o.core.opened ≡ opened_state o.kept (map (λ b. B.tells b) builders.now)) }
+    ensures state { IfOk result (λ o. o.core.state ≡ o.core.opened) }
+    ensures history { IfOk result (λ o. o.core.history ≡ []) }
+    ensures states { IfOk result (λ o. o.states.items ≡ kept_since o.core.opened) }
 {
     let names = names_of(alloc, builders)?;
     with_builders(alloc, durable, names)
@@ -55,14 +72,31 @@ fn with_builders(
     alloc: Global,
     durable: Durable,
     names: BuilderNames,
-) -> Result<(Core<LayerTree>, Kept), NoMemory>
+) -> Result<Opened, NoMemory>
     requires valid { Valid (saved durable) }
-    ensures kept { IfOk result (λ o. o.1 ≡ Some durable) }
-    ensures opened { IfOk result (λ o. o.0.opened ≡ opened_of (saved durable) names) }
-    ensures state { IfOk result (λ o. o.0.state ≡ o.0.opened) }
-    ensures history { IfOk result (λ o. o.0.history ≡ []) }
+    ensures kept { IfOk result (λ o. o.kept ≡ Some durable) }
+    ensures opened { IfOk result (λ o. o.core.opened ≡ opened_of (saved durable) names) }
+    ensures state { IfOk result (λ o. o.core.state ≡ o.core.opened) }
+    ensures history { IfOk result (λ o. o.core.history ≡ []) }
+    ensures states { IfOk result (λ o. o.states.items ≡ kept_since o.core.opened) }
 {
     let kept = Kept::of(&durable);
     let core = Core::of(alloc, durable, names)?;
-    Ok((core, kept))
+    with_states(alloc, core, kept)
+}
+
+/// The same, with what participants kept in it.
+fn with_states(alloc: Global, core: Core<LayerTree>, kept: Kept) -> Result<Opened, NoMemory>
+    requires state { core.state ≡ core.opened }
+    ensures core { IfOk result (λ o. o.core ≡ core) }
+    ensures kept { IfOk result (λ o. o.kept ≡ kept) }
+    ensures states { IfOk result (λ o. o.states.items ≡ kept_since o.core.opened) }
+{
+    match core.kept_states(alloc) {
+        Ok(states) => Ok(Opened { core, kept, states }),
+        Err(wanted) => {
+            drop(core);
+            Err(wanted)
+        }
+    }
 }

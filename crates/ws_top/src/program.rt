@@ -2,15 +2,14 @@
 ghost use Rattle.std.specs.Prelude.{◌≡◌, ◌↔◌, ◌⊎◌, ◌≢◌, [], map, string_bytes, Some, None, IfOk, IfErr, IfSome};
 ghost use Rattle.builder_api.specs.Told.{HaveMeanings};
 ghost use Rattle.phase_run.specs.Calm.{IsCalm};
-ghost use Rattle.ws_durable.specs.Saved.{saved};
-ghost use Rattle.ws_outside.specs.Disk.{LeavesOnly};
+ghost use Rattle.save_history.specs.Steps.{steps_of};
 ghost use Rattle.ws_outside.specs.Faults.{Rose};
-ghost use Rattle.ws_top.specs.Areas.{opened_state, FindsDamage, LeavesOpened, TellsDiskFault};
+ghost use Rattle.ws_top.specs.Areas.{opened_state, FindsDamage, LeavesAreasOf, TellsDiskFault};
 ghost use Rattle.ws_top.specs.Builds.{MakesBuilds};
 ghost use Rattle.ws_top.specs.Forms.{form_of, IsRun, IsCheck, Touches, help_text, version_text};
 ghost use Rattle.ws_top.specs.Inside.Opening.{OpensAreas};
 ghost use Rattle.ws_top.specs.Inside.Parts.{unread_status, EndsRun};
-ghost use Rattle.ws_top.specs.Outcomes.{IsStatus, TellsReadFault, TellsWriteFault, TellsState, TellsUnopened, WasStopped, Completes, ReadsNoMore, IsOneThread, HearsNotices, RunsScript, WasUnread, WasIdle, Checks, Writes, Tells, DoesNothing, EndsProgram};
+ghost use Rattle.ws_top.specs.Outcomes.{IsStatus, TellsReadFault, TellsWriteFault, TellsState, TellsUnopened, WasStopped, Completes, ReadsNoMore, IsOneThread, HaveTakenPart, HearsNotices, RunsScript, WasUnread, WasIdle, Checks, Writes, Tells, DoesNothing, EndsProgram};
 ghost use Rattle.ws_top.specs.Texts.{status_line};
 
 use crate::NoMemory;
@@ -21,35 +20,37 @@ use crate::response::{Outcome, respond, stop, tell, want};
 use crate::words::{self, Form};
 use builder_api::{Builder, Meanings};
 use save_parts::Listener;
+use save_round::Participant;
 use std::alloc::Global;
 use ws_outside::{Disk, Sink, Source};
 
 const HELP: &str =
-    "wsrun run A B\n\nRuns the script on standard input, on the workspace that the area files A and B hold, and prints what was done.\n\nwsrun check A B\n\nPrints what the area files A and B hold.\n";
+    "wsrun run A B\n\nRuns the script on standard input, on the workspace that the area files A and B hold, and prints what was done. A save goes into these files.\n\nwsrun check A B\n\nPrints what the area files A and B hold.\n";
 
 const VERSION: &str = "wsrun 0.1.0\n";
 
-/// Runs the program: reads the script from the source, opens the areas, runs the script on the workspace that they hold by
-/// one worker, whose builds call the kit's builders, tells the listeners after each phase what it changed, and writes to
-/// the sink what was asked, answered and told. Or tells what the areas hold. Nothing is saved in them.
+/// Runs the program: reads the script from the source, opens the areas, gives the kit's participants back what they kept,
+/// runs the script on the workspace that the areas hold by one worker, whose builds call the kit's builders and whose saves
+/// go into the areas, tells the listeners after each phase what it changed, and writes to the sink what was given back,
+/// asked, answered and told. Or tells what the areas hold.
 ///
 /// The one condition: of the kit's builders, the first of each name for which `M` has a meaning has that meaning. A caller
 /// that claims nothing of its builders picks `Silent`.
-pub fn top<S: Source, K: Sink, D: Disk, L: Listener, B: Builder, M: Meanings>(
+pub fn top<S: Source, K: Sink, D: Disk, L: Listener, B: Builder, P: Participant, M: Meanings>(
     alloc: Global,
     words: &[String],
     source: &mut S,
     sink: &mut K,
     areas: Areas<D>,
-    kit: Kit<L, B>,
-) -> Outcome<D, L, B>
+    kit: Kit<L, B, P>,
+) -> Outcome<D, L, B, P>
     requires means { HaveMeanings M.meaning (map (λ b. B.tells b) kit.builders) }
     // which status it is
     ensures status { IsStatus result.status }
     ensures usage { (result.status ≡ 2) ↔ (form_of (map string_bytes words.now) ≡ None) }
     ensures read_fault { TellsReadFault (S.faults source.old) (S.faults source.new) result.status }
     ensures disk_fault { TellsDiskFault (D.faults areas.disk) (D.faults result.areas.disk) result.status }
-    ensures write_fault { TellsWriteFault (K.faults sink.old) (K.faults sink.new) result.status (WasStopped M.meaning (opened_state result.kept (map (λ b. B.tells b) kit.builders)) (S.left source.old) (S.left source.new) result.history) }
+    ensures write_fault { TellsWriteFault result.kept (K.faults sink.old) (K.faults sink.new) result.status (WasStopped M.meaning (opened_state result.kept (map (λ b. B.tells b) kit.builders)) (S.left source.old) (S.left source.new) result.history) }
     ensures damaged { Touches (form_of (map string_bytes words.now)) → IfSome (D.seen areas.disk) (λ both. FindsDamage both result.status) }
     ensures complete { IsRun (form_of (map string_bytes words.now)) → Completes (S.left source.old) (D.seen areas.disk) (Rose (S.faults source.old) (S.faults source.new)) (Rose (K.faults sink.old) (K.faults sink.new)) (Rose (D.faults areas.disk) (D.faults result.areas.disk)) result.status }
     // what is read, and what is opened
@@ -58,16 +59,16 @@ pub fn top<S: Source, K: Sink, D: Disk, L: Listener, B: Builder, M: Meanings>(
     ensures none { (IsRun (form_of (map string_bytes words.now)) → ⊥) → result.kept ≡ None }
     // what is done, and what of it is written
     ensures thread { IsOneThread (opened_state result.kept (map (λ b. B.tells b) kit.builders)) result.history }
-    ensures runs { IsRun (form_of (map string_bytes words.now)) → RunsScript M.meaning result.kept (opened_state result.kept (map (λ b. B.tells b) kit.builders)) (S.left source.old) (S.left source.new) (K.written sink.old) (K.written sink.new) (K.faults sink.old) (K.faults sink.new) result.status result.history }
+    ensures runs { IsRun (form_of (map string_bytes words.now)) → RunsScript M.meaning result.kept (map (λ p. P.tells p) kit.participants) (opened_state result.kept (map (λ b. B.tells b) kit.builders)) (S.left source.old) (S.left source.new) (K.written sink.old) (K.written sink.new) (K.faults sink.old) (K.faults sink.new) result.status result.history }
     ensures calm { result.status ≢ 8 → IsCalm result.history }
     ensures heard { HearsNotices (opened_state result.kept (map (λ b. B.tells b) kit.builders)) result.status result.history (map (λ l. L.heard l) kit.listeners) (map (λ l. L.heard l) result.kit.listeners) }
     ensures builds { MakesBuilds M.meaning (opened_state result.kept (map (λ b. B.tells b) kit.builders)) result.history (map (λ b. B.tells b) kit.builders) (map (λ b. B.tells b) result.kit.builders) }
+    ensures participants { HaveTakenPart result.kept (opened_state result.kept (map (λ b. B.tells b) kit.builders)) result.status result.history (map (λ p. P.tells p) kit.participants) (map (λ p. P.tells p) result.kit.participants) }
     ensures line { WasUnread result.status → Writes (K.written sink.old) (K.written sink.new) (K.faults sink.old) (K.faults sink.new) (status_line result.status) }
     ensures unopened { TellsUnopened result.kept (D.seen areas.disk) (K.written sink.old) (K.written sink.new) (K.faults sink.old) (K.faults sink.new) result.status result.history }
     // what becomes of the areas
-    ensures seen { D.seen result.areas.disk ≡ D.seen areas.disk }
-    ensures any_moment { LeavesOnly D.moment D.left_since D.may_leave areas.disk result.areas.disk (D.may_leave areas.disk) }
-    ensures leaves { IfSome result.kept (λ d. LeavesOpened D.moment D.left_since D.may_leave areas.disk result.areas.disk (saved d)) }
+    ensures leaves { LeavesAreasOf D.moment D.left_since D.may_leave D.seen D.faults areas.disk result.areas.disk result.kept (opened_state result.kept (map (λ b. B.tells b) kit.builders)) result.history }
+    ensures unsaved { steps_of result.history ≡ [] → D.seen result.areas.disk ≡ D.seen areas.disk }
     ensures untouched { (Touches (form_of (map string_bytes words.now)) → ⊥) ⊎ WasIdle result.status → result.areas.disk ≡ areas.disk }
     // the other forms write their text and do nothing else
     ensures checks { IsCheck (form_of (map string_bytes words.now)) → Checks (D.seen areas.disk) (D.faults areas.disk) (D.faults result.areas.disk) (K.written sink.old) (K.written sink.new) (K.faults sink.old) (K.faults sink.new) result.status }
@@ -80,28 +81,28 @@ pub fn top<S: Source, K: Sink, D: Disk, L: Listener, B: Builder, M: Meanings>(
         Some(Form::Help) => tell(alloc, sink, areas, kit, HELP.as_bytes()),
         Some(Form::Version) => tell(alloc, sink, areas, kit, VERSION.as_bytes()),
         Some(Form::Check) => check(alloc, sink, areas, kit),
-        Some(Form::Run) => run::<S, K, D, L, B, M>(alloc, source, sink, areas, kit),
+        Some(Form::Run) => run::<S, K, D, L, B, P, M>(alloc, source, sink, areas, kit),
     }
 }
 
 /// Runs the program as `top` does, on the words with which it was called. Where memory wanted for these, the status is 8,
 /// nothing is read and the areas aren't touched.
-pub fn answer<S: Source, K: Sink, D: Disk, L: Listener, B: Builder, M: Meanings>(
+pub fn answer<S: Source, K: Sink, D: Disk, L: Listener, B: Builder, P: Participant, M: Meanings>(
     alloc: Global,
     words: Result<Vec<String>, NoMemory>,
     source: &mut S,
     sink: &mut K,
     areas: Areas<D>,
-    kit: Kit<L, B>,
-) -> Outcome<D, L, B>
+    kit: Kit<L, B, P>,
+) -> Outcome<D, L, B, P>
     requires means { HaveMeanings M.meaning (map (λ b. B.tells b) kit.builders) }
-    ensures ends { IfOk words (λ given. EndsProgram M.meaning result.kept (map (λ b. B.tells b) kit.builders) (form_of (map string_bytes given.items)) (S.left source.old) (S.left source.new) (S.reads source.old) (S.reads source.new) (S.faults source.old) (S.faults source.new)
+    ensures ends { IfOk words (λ given. EndsProgram M.meaning result.kept (map (λ b. B.tells b) kit.builders) (map (λ p. P.tells p) kit.participants) (form_of (map string_bytes given.items)) (S.left source.old) (S.left source.new) (S.reads source.old) (S.reads source.new) (S.faults source.old) (S.faults source.new)
         (D.seen areas.disk) (D.faults areas.disk) (D.faults result.areas.disk) (K.written sink.old) (K.written sink.new) (K.faults sink.old) (K.faults sink.new) result.status result.history) }
     ensures heard { HearsNotices (opened_state result.kept (map (λ b. B.tells b) kit.builders)) result.status result.history (map (λ l. L.heard l) kit.listeners) (map (λ l. L.heard l) result.kit.listeners) }
     ensures builds { MakesBuilds M.meaning (opened_state result.kept (map (λ b. B.tells b) kit.builders)) result.history (map (λ b. B.tells b) kit.builders) (map (λ b. B.tells b) result.kit.builders) }
-    ensures seen { D.seen result.areas.disk ≡ D.seen areas.disk }
-    ensures any_moment { LeavesOnly D.moment D.left_since D.may_leave areas.disk result.areas.disk (D.may_leave areas.disk) }
-    ensures leaves { IfSome result.kept (λ d. LeavesOpened D.moment D.left_since D.may_leave areas.disk result.areas.disk (saved d)) }
+    ensures participants { HaveTakenPart result.kept (opened_state result.kept (map (λ b. B.tells b) kit.builders)) result.status result.history (map (λ p. P.tells p) kit.participants) (map (λ p. P.tells p) result.kit.participants) }
+    ensures leaves { LeavesAreasOf D.moment D.left_since D.may_leave D.seen D.faults areas.disk result.areas.disk result.kept (opened_state result.kept (map (λ b. B.tells b) kit.builders)) result.history }
+    ensures unsaved { steps_of result.history ≡ [] → D.seen result.areas.disk ≡ D.seen areas.disk }
     ensures untouched { IfOk words (λ given. (Touches (form_of (map string_bytes given.items)) → ⊥) ⊎ WasIdle result.status → result.areas.disk ≡ areas.disk) }
     // where memory wanted for the words
     ensures memory { IfErr words (λ _. result.status ≡ 8) }
@@ -111,40 +112,41 @@ pub fn answer<S: Source, K: Sink, D: Disk, L: Listener, B: Builder, M: Meanings>
     ensures none { IfErr words (λ _. result.kept ≡ None) }
 {
     match words {
-        Ok(words) => top::<S, K, D, L, B, M>(alloc, words.as_slice(), source, sink, areas, kit),
+        Ok(words) => top::<S, K, D, L, B, P, M>(alloc, words.as_slice(), source, sink, areas, kit),
         Err(_) => want(alloc, sink, areas, kit),
     }
 }
 
 /// Reads the script and runs it.
-fn run<S: Source, K: Sink, D: Disk, L: Listener, B: Builder, M: Meanings>(
+fn run<S: Source, K: Sink, D: Disk, L: Listener, B: Builder, P: Participant, M: Meanings>(
     alloc: Global,
     source: &mut S,
     sink: &mut K,
     areas: Areas<D>,
-    kit: Kit<L, B>,
-) -> Outcome<D, L, B>
+    kit: Kit<L, B, P>,
+) -> Outcome<D, L, B, P>
     requires means { HaveMeanings M.meaning (map (λ b. B.tells b) kit.builders) }
-    ensures ends { EndsRun M.meaning result.kept (opened_state result.kept (map (λ b. B.tells b) kit.builders)) (S.left source.old) (S.left source.new) (S.reads source.old) (S.reads source.new) (S.faults source.old) (S.faults source.new)
+    ensures ends { EndsRun M.meaning result.kept (map (λ p. P.tells p) kit.participants) (opened_state result.kept (map (λ b. B.tells b) kit.builders)) (S.left source.old) (S.left source.new) (S.reads source.old) (S.reads source.new) (S.faults source.old) (S.faults source.new)
         (D.seen areas.disk) (D.faults areas.disk) (D.faults result.areas.disk) (K.written sink.old) (K.written sink.new) (K.faults sink.old) (K.faults sink.new) result.status result.history }
-    ensures areas { OpensAreas D.moment D.left_since D.may_leave D.seen D.faults areas.disk result.areas.disk (K.written sink.old) (K.written sink.new) (K.faults sink.old) (K.faults sink.new) result.kept result.status result.history }
+    ensures areas { OpensAreas D.moment D.left_since D.may_leave D.seen D.faults areas.disk result.areas.disk (K.written sink.old) (K.written sink.new) (K.faults sink.old) (K.faults sink.new) result.kept (opened_state result.kept (map (λ b. B.tells b) kit.builders)) result.status result.history }
     ensures heard { HearsNotices (opened_state result.kept (map (λ b. B.tells b) kit.builders)) result.status result.history (map (λ l. L.heard l) kit.listeners) (map (λ l. L.heard l) result.kit.listeners) }
     ensures builds { MakesBuilds M.meaning (opened_state result.kept (map (λ b. B.tells b) kit.builders)) result.history (map (λ b. B.tells b) kit.builders) (map (λ b. B.tells b) result.kit.builders) }
+    ensures participants { HaveTakenPart result.kept (opened_state result.kept (map (λ b. B.tells b) kit.builders)) result.status result.history (map (λ p. P.tells p) kit.participants) (map (λ p. P.tells p) result.kit.participants) }
 {
     match read_all(alloc, source) {
-        Ok(bytes) => respond::<K, D, L, B, M>(alloc, sink, areas, kit, bytes),
+        Ok(bytes) => respond::<K, D, L, B, P, M>(alloc, sink, areas, kit, bytes),
         Err(error) => stop_unread(alloc, sink, areas, kit, error),
     }
 }
 
 /// Tells why the source was not read to its end.
-fn stop_unread<K: Sink, D: Disk, L: Listener, B: Builder>(
+fn stop_unread<K: Sink, D: Disk, L: Listener, B: Builder, P: Participant>(
     alloc: Global,
     sink: &mut K,
     areas: Areas<D>,
-    kit: Kit<L, B>,
+    kit: Kit<L, B, P>,
     error: Unread,
-) -> Outcome<D, L, B>
+) -> Outcome<D, L, B, P>
     ensures status { result.status ≡ unread_status error }
     ensures line { Writes (K.written sink.old) (K.written sink.new) (K.faults sink.old) (K.faults sink.new) (status_line (unread_status error)) }
     ensures nothing { result.history ≡ [] }

@@ -8,18 +8,19 @@ use area_text::put_damage;
 use builder_api::Builder;
 use disk_area::Damage;
 use save_parts::Listener;
+use save_round::Participant;
 use save_store::OpenFault;
 use std::alloc::Global;
 use ws_outside::{Disk, Sink};
 
 /// Tells why the areas couldn't be read.
-pub fn refuse<K: Sink, D: Disk, L: Listener, B: Builder>(
+pub fn refuse<K: Sink, D: Disk, L: Listener, B: Builder, P: Participant>(
     alloc: Global,
     sink: &mut K,
     areas: Areas<D>,
-    kit: Kit<L, B>,
+    kit: Kit<L, B, P>,
     fault: OpenFault,
-) -> Outcome<D, L, B>
+) -> Outcome<D, L, B, P>
     ensures told { Refuses fault (K.written sink.old) (K.written sink.new) (K.faults sink.old) (K.faults sink.new) result.status }
     ensures nothing { result.history ≡ [] }
     ensures none { result.kept ≡ None }
@@ -34,13 +35,13 @@ pub fn refuse<K: Sink, D: Disk, L: Listener, B: Builder>(
 }
 
 /// Tells the first damage of the areas.
-fn say_damage<K: Sink, D: Disk, L: Listener, B: Builder>(
+fn say_damage<K: Sink, D: Disk, L: Listener, B: Builder, P: Participant>(
     alloc: Global,
     sink: &mut K,
     areas: Areas<D>,
-    kit: Kit<L, B>,
+    kit: Kit<L, B, P>,
     damage: Damage,
-) -> Outcome<D, L, B>
+) -> Outcome<D, L, B, P>
     ensures told { Refuses (OpenFault.Damaged damage) (K.written sink.old) (K.written sink.new) (K.faults sink.old) (K.faults sink.new) result.status }
     ensures nothing { result.history ≡ [] }
     ensures none { result.kept ≡ None }

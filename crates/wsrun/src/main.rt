@@ -1,5 +1,5 @@
-//! The program: its words, standard input, standard output, the area files and the standard builders go to `answer`, with
-//! whose status it ends.
+//! The program: its words, standard input, standard output, the area files, the standard builders and the participant
+//! `notes` go to `answer`, with whose status it ends.
 #![tactic(auto)]
 
 ghost use Rattle.std.specs.Prelude.{◌≡◌, map, None};
@@ -10,12 +10,13 @@ ghost use Rattle.std_builders.specs.Standards.{standard};
 
 use builder_api::Builders;
 use delta_kind::Delta;
+use save_round::Notes;
 use std::alloc::{AllocError, Global};
 use std::process::ExitCode;
 use std::{env, io, mem};
 use std_builders::{Standard, StandardBuilder, standard_builders};
 use ws_outside::{FileDisk, StdSink, StdSource};
-use ws_top::{Areas, Kit, Listener, Listeners, Outcome, answer};
+use ws_top::{Areas, Kit, Listener, Listeners, Outcome, Participants, answer};
 
 /// The two area files.
 type Files = FileDisk<HostRuntime>;
@@ -35,6 +36,7 @@ fn main(rt: HostRuntime) -> ExitCode {
     let mut source = StdSource::new(rt.stdin());
     let mut sink = StdSink::new(rt.stdout());
     let (builders, words) = brought(&rt, alloc);
+    let (participants, words) = attended(alloc, words);
     let (words, left, right) = named(alloc, words);
     let areas = Areas {
         disk: FileDisk::new(rt, left, right),
@@ -42,8 +44,9 @@ fn main(rt: HostRuntime) -> ExitCode {
     let kit = Kit {
         builders,
         listeners: Listeners::<Nobody>::of(Vec::new(alloc)),
+        participants,
     };
-    ended(answer::<StdSource, StdSink, Files, Nobody, StandardBuilder, Standard>(
+    ended(answer::<StdSource, StdSink, Files, Nobody, StandardBuilder, Notes, Standard>(
         alloc,
         words,
         &mut source,
@@ -67,9 +70,26 @@ fn brought(
     }
 }
 
+/// The participant `notes` alone. Where memory wants for it, there is none, and it wants for the words too.
+fn attended(
+    alloc: Global,
+    words: Result<Vec<String>, AllocError>,
+) -> (Participants<Notes>, Result<Vec<String>, AllocError>) {
+    match notes(alloc) {
+        Ok(all) => (Participants::of(all), words),
+        Err(wanted) => (Participants::of(Vec::new(alloc)), Err(wanted)),
+    }
+}
+
+fn notes(alloc: Global) -> Result<Vec<Notes>, AllocError> {
+    let mut all = Vec::new(alloc);
+    all.push(Notes::new(alloc))?;
+    Ok(all)
+}
+
 /// The status with which the program ends. What was done is not let go entry by entry: the system takes the memory back
 /// at once.
-fn ended(outcome: Outcome<Files, Nobody, StandardBuilder>) -> ExitCode
+fn ended(outcome: Outcome<Files, Nobody, StandardBuilder, Notes>) -> ExitCode
     ensures { exit_status result ≡ outcome.status }
 {
     let Outcome {

@@ -17,7 +17,7 @@ use Rattle.run_order.specs.Alone.{IsIdle, IsBusy, IsCommand}
 use Rattle.run_order.specs.Counts.{left, scheduling}
 use Rattle.phase_run.specs.Calm.{IsCalm}
 use Rattle.phase_run.specs.declared.plan.Asked.{Asked}
-use Rattle.phase_run.specs.declared.plan.Asked.TheVariants.{One, Build}
+use Rattle.phase_run.specs.declared.plan.Asked.TheVariants.{One, Build, Save}
 
 -- pass 0 is there, and so is the worker, which has nothing
 pub record IsReady (s : Moment) : Type 0 where
@@ -30,7 +30,7 @@ pub record IsAtWork (s : Moment) : Type 0 where
   pub name : List ℕ
   pub busy : IsBusy name s.manager
 
--- the history went on by such entries, of which no build ended for want of memory, and the worker is ready for more
+-- the history went on by such entries, of which no build or save ended for want of memory, and the worker is ready for more
 pub record Makes (P : List Entry → Type 0) (old new : Session) : Type 0 where
   pub opened : new.opened ≡ old.opened
   pub grew : Grew P old.history new.history
@@ -43,7 +43,7 @@ pub record Stops (P : List Entry → Type 0) (old new : Session) : Type 0 where
   pub grew : Grew P old.history new.history
   pub there : has_entered 1 new.state ≡ true
 
--- it went on by such entries, of which no build ended so, the worker still runs a job, and no more jobs are left than before
+-- it went on by such entries, of which none ended so, the worker still runs a job, and no more jobs are left than before
 pub record Works (P : List Entry → Type 0) (old new : Session) : Type 0 where
   pub opened : new.opened ≡ old.opened
   pub grew : Grew P old.history new.history
@@ -60,6 +60,7 @@ pub record IsAsked (e : Event) : Type 0 where
 abbrev pub IsAskable : Asked → Type 0
 IsAskable (One event) = IsAsked event
 IsAskable (Build kind project) = Unit {0}
+IsAskable (Save kind) = Unit {0}
 
 -- the entries of a job's commands, and Finish
 pub record EndsPart (Make : Making Command) (commands : List Command) (h : List Entry) : Type 0 where

@@ -2,7 +2,7 @@
 use Rattle.std.specs.Prelude.{◌≡◌, ◌≢◌, ℕ, Bool, true, false, not, List, [], ◌∷◌, Option, Some, None, codes}
 use Rattle.std.specs.List.{AllByRecursion}
 use Rattle.script_ops.specs.declared.verb.Verb.{Verb}
-use Rattle.script_ops.specs.declared.verb.Verb.TheVariants.{Phase, EndPhase, Job, EndJob, Batch, EndBatch, Checkpoint, Begin, TryBegin, End, Sleep, Wake, Cancel, Build, Create, Delete, Write, Touch, Derived, Move, Copy, Open, Close, Describe, Forget, Mark, Attr, Unmark, ClearMarks, Partner, Sync, NoSync, Flush, Show, Cat, Tree, Digest}
+use Rattle.script_ops.specs.declared.verb.Verb.TheVariants.{Phase, EndPhase, Job, EndJob, Batch, EndBatch, Checkpoint, Begin, TryBegin, End, Sleep, Wake, Cancel, Build, Save, Create, Delete, Write, Touch, Derived, Move, Copy, Open, Close, Describe, Forget, Mark, Attr, Unmark, ClearMarks, Partner, Sync, NoSync, Flush, Show, Cat, Tree, Digest}
 use Rattle.script_words.specs.declared.words.Token.{Token}
 
 -- the word that a line begins with
@@ -21,6 +21,7 @@ verb_word Sleep = codes "sleep"
 verb_word Wake = codes "wake"
 verb_word Cancel = codes "cancel"
 verb_word Build = codes "build"
+verb_word Save = codes "save"
 verb_word Create = codes "create"
 verb_word Delete = codes "delete"
 verb_word Write = codes "write"
@@ -45,10 +46,10 @@ verb_word Cat = codes "cat"
 verb_word Tree = codes "tree"
 verb_word Digest = codes "digest"
 
--- the verbs, by what their lines are: the bounds of phases, jobs, batches and rules with what steers jobs and what builds,
--- the changes of resources, those of markers and synchronisation bytes, and the reads
+-- the verbs, by what their lines are: the bounds of phases, jobs, batches and rules with what steers jobs, what builds and
+-- what saves, the changes of resources, those of markers and synchronisation bytes, and the reads
 abbrev pub bounds : List Verb
-bounds = Phase ∷ EndPhase ∷ Job ∷ EndJob ∷ Batch ∷ EndBatch ∷ Checkpoint ∷ Begin ∷ TryBegin ∷ End ∷ Sleep ∷ Wake ∷ Cancel ∷ Build ∷ []
+bounds = Phase ∷ EndPhase ∷ Job ∷ EndJob ∷ Batch ∷ EndBatch ∷ Checkpoint ∷ Begin ∷ TryBegin ∷ End ∷ Sleep ∷ Wake ∷ Cancel ∷ Build ∷ Save ∷ []
 
 abbrev pub changes : List Verb
 changes = Create ∷ Delete ∷ Write ∷ Touch ∷ Derived ∷ Move ∷ Copy ∷ Open ∷ Close ∷ Describe ∷ Forget ∷ []
@@ -84,6 +85,7 @@ begins_operation Sleep = false
 begins_operation Wake = false
 begins_operation Cancel = false
 begins_operation Build = false
+begins_operation Save = false
 begins_operation verb = not (stands_alone verb)
 
 -- a line that begins with the verb and goes on with these tokens

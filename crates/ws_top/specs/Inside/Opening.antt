@@ -1,7 +1,6 @@
 -- What is left where areas are opened or looked at.
 use Rattle.std.specs.Prelude.{◌≡◌, ◌⊎◌, ℕ, List, [], Option, Some, None, Result, IfSome, IfOk, IfErr}
 use Rattle.ws_outside.specs.declared.contents.Contents.{Contents}
-use Rattle.ws_outside.specs.Disk.{Each}
 use Rattle.disk_area.specs.declared.damage.Damage.{Damage}
 use Rattle.ws_durable.specs.declared.durable.Durable.{Durable}
 use Rattle.ws_durable.specs.Saved.{saved}
@@ -12,7 +11,8 @@ use Rattle.save_store.specs.Damages.{IsDamaged, TellsDamage, FaultOf}
 use Rattle.save_store.specs.States.{Holds}
 use Rattle.core_event.specs.declared.entry.Entry.{Entry}
 use Rattle.area_text.specs.Damages.{damage_line}
-use Rattle.ws_top.specs.Areas.{FindsDamage, StaysAsItWas, LeavesOpened, TellsDiskFault}
+use Rattle.ws_core.specs.States.{Moment}
+use Rattle.ws_top.specs.Areas.{FindsDamage, StaysAsItWas, LeavesAreasOf, TellsDiskFault}
 use Rattle.ws_top.specs.Outcomes.{WasIdle, TellsState, TellsUnopened, Tells, Writes}
 use Rattle.ws_top.specs.Texts.{status_line, check_text}
 
@@ -26,7 +26,6 @@ pub record HasFault (seen : Option Contents) (before after : ℕ) (fault : OpenF
 pub record Opens {D : Type 0} (moment : D → ℕ) (left_since : D → ℕ → Contents → Type 0) (may_leave : D → Contents → Type 0) (seen : D → Option Contents) (faults : D → ℕ)
     (old new : D) (result : Result Durable OpenFault) : Type 0 where
   pub held : IfOk result (λ d. IfSome (seen old) (λ both. Holds both (saved d)))
-  pub leaves : IfOk result (λ d. Each (may_leave new) (λ c. Holds c (saved d)))
   pub calm : IfOk result (λ d. faults new ≡ faults old)
   pub fault : IfErr result (HasFault (seen old) (faults old) (faults new))
   pub spoilt : IfSome (seen old) (λ both. (damage : Damage) → IsDamaged both damage → IfOk result (λ d. ⊥))
@@ -42,22 +41,21 @@ Refuses Memory old new before after status = (status ≡ 8) × Writes old new be
 abbrev pub TellsHeld : Found → Option (List ℕ) → Option (List ℕ) → ℕ → ℕ → ℕ → Type 0
 TellsHeld found old new before after status = Tells (check_text found) old new before after status ⊎ ((status ≡ 8) × Writes old new before after (status_line 8))
 
--- this state was opened; or memory wanted for it, and nothing was done
-abbrev pub RunsFrom : Durable → Option Durable → Option (List ℕ) → Option (List ℕ) → ℕ → ℕ → ℕ → List Entry → Type 0
-RunsFrom durable kept old new before after status h = (kept ≡ Some durable) ⊎ ((kept ≡ None) × (status ≡ 8) × (h ≡ []) × Writes old new before after (status_line 8))
+-- a run was made from this state; or memory wanted before it, and nothing was done
+abbrev pub RunsFrom : Option Durable → Option Durable → Option (List ℕ) → Option (List ℕ) → ℕ → ℕ → ℕ → List Entry → Type 0
+RunsFrom opened kept old new before after status h = (kept ≡ opened) ⊎ ((kept ≡ None) × (status ≡ 8) × (h ≡ []) × Writes old new before after (status_line 8))
 
 -- What became of the areas, and what is told of it.
 pub record LeavesAreas {D : Type 0} (moment : D → ℕ) (left_since : D → ℕ → Contents → Type 0) (may_leave : D → Contents → Type 0) (seen : D → Option Contents) (faults : D → ℕ)
-    (held left : D) (old new : Option (List ℕ)) (before after : ℕ) (kept : Option Durable) (status : ℕ) (h : List Entry) : Type 0 where
+    (held left : D) (old new : Option (List ℕ)) (before after : ℕ) (kept : Option Durable) (opened : Moment) (status : ℕ) (h : List Entry) : Type 0 where
   pub fault : TellsDiskFault (faults held) (faults left) status
   pub unopened : TellsUnopened kept (seen held) old new before after status h
   pub damaged : IfSome (seen held) (λ both. FindsDamage both status)
-  pub stays : StaysAsItWas moment left_since may_leave seen held left
-  pub leaves : IfSome kept (λ d. LeavesOpened moment left_since may_leave held left (saved d))
+  pub leaves : LeavesAreasOf moment left_since may_leave seen faults held left kept opened h
   pub idle : WasIdle status → left ≡ held
 
 -- the same of a run, with the state that it opened
 pub record OpensAreas {D : Type 0} (moment : D → ℕ) (left_since : D → ℕ → Contents → Type 0) (may_leave : D → Contents → Type 0) (seen : D → Option Contents) (faults : D → ℕ)
-    (held left : D) (old new : Option (List ℕ)) (before after : ℕ) (kept : Option Durable) (status : ℕ) (h : List Entry) : Type 0 where
-  pub areas : LeavesAreas moment left_since may_leave seen faults held left old new before after kept status h
+    (held left : D) (old new : Option (List ℕ)) (before after : ℕ) (kept : Option Durable) (opened : Moment) (status : ℕ) (h : List Entry) : Type 0 where
+  pub areas : LeavesAreas moment left_since may_leave seen faults held left old new before after kept opened status h
   pub state : TellsState kept (seen held) status h

@@ -8,6 +8,7 @@ use Rattle.script_lang.specs.declared.script.Script.{Script}
 use Rattle.script_lang.specs.Scripts.{IsScript, IsFirstBad}
 use Rattle.core_event.specs.declared.entry.Entry.{Entry}
 use Rattle.builder_api.specs.Meanings.{Meanings}
+use Rattle.save_round.specs.Told.{Told as PartTold}
 use Rattle.run_text.specs.declared.writing.Unwritten.{Unwritten}
 use Rattle.run_text.specs.declared.writing.Unwritten.TheVariants.{Fault, Memory}
 use Rattle.run_text.specs.Printing.{IsCause}
@@ -52,14 +53,14 @@ WritesReport old new before after report result =
     MatchResult result (λ _. Gains old report new × (after ≡ before)) (λ e. GainsFront old report new × IsCause e before after)
 
 -- where the text of a run wasn't written whole: a write failed, or memory wanted before the last line
-abbrev pub IsBreak : Unwritten → Option (List ℕ) → Option (List ℕ) → ℕ → ℕ → Moment → List Entry → ℕ → Type 0
-IsBreak Fault old new before after opened h n = GainsFront old (text opened h n) new × Rose before after
-IsBreak Memory old new before after opened h n = GainsFront old (report_from opened h) new × (after ≡ before)
+abbrev pub IsBreak : Unwritten → Option (List ℕ) → Option (List ℕ) → ℕ → ℕ → List PartTold → Moment → List Entry → ℕ → Type 0
+IsBreak Fault old new before after parts opened h n = GainsFront old (text parts opened h n) new × Rose before after
+IsBreak Memory old new before after parts opened h n = GainsFront old (report_from parts opened h) new × (after ≡ before)
 
 -- the text of a run was written, or some front of it
-abbrev pub WritesRun : {E : Type 0} → Option (List ℕ) → Option (List ℕ) → ℕ → ℕ → Moment → List Entry → ℕ → Result E Unwritten → Type 0
-WritesRun old new before after opened h n result =
-    MatchResult result (λ _. Gains old (text opened h n) new × (after ≡ before)) (λ e. IsBreak e old new before after opened h n)
+abbrev pub WritesRun : {E : Type 0} → Option (List ℕ) → Option (List ℕ) → ℕ → ℕ → List PartTold → Moment → List Entry → ℕ → Result E Unwritten → Type 0
+WritesRun old new before after parts opened h n result =
+    MatchResult result (λ _. Gains old (text parts opened h n) new × (after ≡ before)) (λ e. IsBreak e old new before after parts opened h n)
 
 -- ---- running
 
@@ -73,12 +74,12 @@ Same done h = h ≡ done
 
 -- A script was run, as far as memory sufficed, and what was done was written: `All` says that it is all of the script,
 -- `Front` that it is a front of it, `Stopped` that at least one call was not made.
-pub record Performs (All Front Stopped : List Entry → Type 0) (kept : Option Durable) (opened : Moment) (old new : Option (List ℕ)) (before after status : ℕ) (h : List Entry) : Type 0 where
-  pub ends : WasRun status ⊎ (status ≡ 8)
-  pub fault : TellsWriteFault before after status ((h ≡ []) ⊎ Stopped h)
-  pub done : DoesScript All Front status h
+pub record Performs (All Front Stopped : List Entry → Type 0) (kept : Option Durable) (parts : List PartTold) (opened : Moment) (old new : Option (List ℕ)) (before after status : ℕ) (h : List Entry) : Type 0 where
+  pub ends : WasRun kept status ⊎ (status ≡ 8)
+  pub fault : TellsWriteFault kept before after status ((h ≡ []) ⊎ Stopped h)
+  pub done : DoesScript All Front kept status h
   pub thread : IsOneThread opened h
-  pub text : WritesText kept opened old new status h
+  pub text : WritesText kept parts opened old new status h
   pub calm : status ≢ 8 → IsCalm h
 
 -- the line that is the first bad one was written, or memory wanted for it
@@ -86,15 +87,15 @@ abbrev pub SaysBadLine : ℕ → Option (List ℕ) → Option (List ℕ) → ℕ
 SaysBadLine line old new before after status = ((status ≡ 6) × Writes old new before after (bad_line line)) ⊎ ((status ≡ 8) × Writes old new before after (status_line 8))
 
 -- no state was opened, and nothing was done
-pub record IsRefused (status : ℕ) (h : List Entry) : Type 0 where
-  pub ends : WasUnopened status
+pub record IsRefused (kept : Option Durable) (status : ℕ) (h : List Entry) : Type 0 where
+  pub ends : WasUnopened kept status
   pub nothing : h ≡ []
 
 -- the bytes spell a script, and no state was opened for it
-pub record IsUnopenedFor (bytes : List ℕ) (status : ℕ) (h : List Entry) : Type 0 where
+pub record IsUnopenedFor (kept : Option Durable) (bytes : List ℕ) (status : ℕ) (h : List Entry) : Type 0 where
   pub script : Script
   pub spelled : IsScript bytes script
-  pub refused : IsRefused status h
+  pub refused : IsRefused kept status h
 
 -- The bytes spell no script: nothing was done, and the line that is the first bad one was written.
 pub record TellsBadLine (bytes : List ℕ) (old new : Option (List ℕ)) (before after status : ℕ) (h : List Entry) : Type 0 where
@@ -106,22 +107,22 @@ pub record TellsBadLine (bytes : List ℕ) (old new : Option (List ℕ)) (before
   pub written : Writes old new before after (bad_line line)
 
 -- what the bytes ask for was done
-abbrev pub Responds : Meanings → Option Durable → Moment → List ℕ → Option (List ℕ) → Option (List ℕ) → ℕ → ℕ → ℕ → List Entry → Type 0
-Responds ms kept opened bytes old new before after status h =
-    Performs (Spelled (Shuffle ms opened) bytes) (Spelled (CutShuffle ms opened) bytes) (Spelled (StoppedShuffle ms opened) bytes) kept opened old new before after status h
+abbrev pub Responds : Meanings → Option Durable → List PartTold → Moment → List ℕ → Option (List ℕ) → Option (List ℕ) → ℕ → ℕ → ℕ → List Entry → Type 0
+Responds ms kept parts opened bytes old new before after status h =
+    Performs (Spelled (Shuffle ms opened) bytes) (Spelled (CutShuffle ms opened) bytes) (Spelled (StoppedShuffle ms opened) bytes) kept parts opened old new before after status h
     ⊎ TellsBadLine bytes old new before after status h
-    ⊎ IsUnopenedFor bytes status h
+    ⊎ IsUnopenedFor kept bytes status h
 
 -- the source was read, and what its bytes ask for was done
-pub record EndsRun (ms : Meanings) (kept : Option Durable) (opened : Moment) (left after_reading : Option (List ℕ)) (reads_before reads_after : Option ℕ) (reads_failed reads_fail : ℕ)
+pub record EndsRun (ms : Meanings) (kept : Option Durable) (parts : List PartTold) (opened : Moment) (left after_reading : Option (List ℕ)) (reads_before reads_after : Option ℕ) (reads_failed reads_fail : ℕ)
     (seen : Option Contents) (disk_before disk_after : ℕ) (old new : Option (List ℕ)) (before after status : ℕ) (h : List Entry) : Type 0 where
   pub ends : IsStatus status
   pub usage : status ≢ 2
   pub read_fault : TellsReadFault reads_failed reads_fail status
-  pub write_fault : TellsWriteFault before after status (WasStopped ms opened left after_reading h)
+  pub write_fault : TellsWriteFault kept before after status (WasStopped ms opened left after_reading h)
   pub complete : Completes left seen (Rose reads_failed reads_fail) (Rose before after) (Rose disk_before disk_after) status
   pub reads : ReadsNoMore left after_reading reads_before reads_after status
   pub thread : IsOneThread opened h
-  pub runs : RunsScript ms kept opened left after_reading old new before after status h
+  pub runs : RunsScript ms kept parts opened left after_reading old new before after status h
   pub calm : status ≢ 8 → IsCalm h
   pub line : WasUnread status → Writes old new before after (status_line status)

@@ -1,4 +1,4 @@
-use Rattle.std.proofs.Common.{take}
+use Rattle.std.proofs.Common.{◌≡◌, take}
 use Rattle.ws_core.specs.Histories.{replay}
 use Rattle.phase_run.specs.Plans.{jobs_plan}
 use Rattle.phase_run.specs.Inside.Doing.{Makes}
@@ -7,4 +7,5 @@ use Rattle.phase_run.proofs.phase.cancel.Given as goal
 
 -- of the jobs so far those that slept are cancelled
 abbrev pub invariant-loop-job : goal.invariant-loop-job
-invariant-loop-job l = Makes (Cancelled (replay l.fn.core.opened l.fn.core.history) (take l.job-index (jobs_plan l.jobs))) l.fn.core l.core
+invariant-loop-job g l = Makes (Cancelled (replay l.fn.space.core.opened l.fn.space.core.history) (take l.job-index (jobs_plan l.jobs))) l.fn.space.core l.space.core
+    × (l.space.keeper.began ≡ l.fn.space.keeper.began) × (l.space.began ≡ l.fn.space.began)

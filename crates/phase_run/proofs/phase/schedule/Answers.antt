@@ -1,4 +1,4 @@
-use Rattle.std.proofs.Common.{◌≡◌, ◌∷◌, [], subst}
+use Rattle.std.proofs.Common.{refl, ◌∙◌, ◌≡◌, ◌∷◌, [], subst}
 use Rattle.run_order.specs.Lists.{acts}
 use Rattle.run_order.specs.Orders.{scheduled}
 use Rattle.phase_run.specs.Plans.{job_plan}
@@ -8,15 +8,19 @@ use Rattle.phase_run.proofs.Phases.{schedule_none, schedule_next, schedule_stop,
 use Rattle.phase_run.proofs.phase.schedule.Goals as goal
 
 pub loop-job-init : goal.loop-job-init
-loop-job-init c = schedule_none c.args.jobs.now c.args.core.now c.requires
+loop-job-init g c = (schedule_none c.args.jobs.now c.args.space.now.core c.requires, refl, refl)
 
 pub loop-job-preserved : goal.loop-job-preserved
-loop-job-preserved c = schedule_next c.args.jobs.now c.loop-job.job-index c.job-item.result c.args.core.now c.loop-job.core c.schedule_one.new.core c.loop-job-test.true c.loop-job.invariant
-    (subst (λ x. Makes (λ h. acts h ≡ scheduled (job_plan x) ∷ []) c.loop-job.core c.schedule_one.new.core) c.job-item.is c.in_ok-schedule_one.ensures)
+loop-job-preserved g c = (
+  schedule_next c.args.jobs.now c.loop-job.job-index c.job-item.result c.args.space.now.core c.loop-job.space.core c.schedule_one.new.space.core c.loop-job-test.true c.loop-job.invariant.0
+      (subst (λ x. Makes (λ h. acts h ≡ scheduled (job_plan x) ∷ []) c.loop-job.space.core c.schedule_one.new.space.core) c.job-item.is c.in_ok-schedule_one.ensures.done),
+  c.in_ok-schedule_one.ensures.start.0 ∙ c.loop-job.invariant.1,
+  c.in_ok-schedule_one.ensures.start.1 ∙ c.loop-job.invariant.2,
+)
 
-pub returns-in_err-schedule_one : goal.returns-in_err-schedule_one
-returns-in_err-schedule_one c = on_err _ _ c.from_residual.result c.from_residual.ensures.0
-    (schedule_stop c.args.jobs.now c.loop-job.job-index c.args.core.now c.loop-job.core c.schedule_one.new.core c.loop-job.invariant c.in_err-schedule_one.ensures)
+pub returns-in_err-schedule_one-clause-done : goal.returns-in_err-schedule_one-clause-done
+returns-in_err-schedule_one-clause-done g c = on_err _ _ c.from_residual.result c.from_residual.ensures.0
+    (schedule_stop c.args.jobs.now c.loop-job.job-index c.args.space.now.core c.loop-job.space.core c.schedule_one.new.space.core c.loop-job.invariant.0 c.in_err-schedule_one.ensures.done)
 
-pub returns : goal.returns
-returns c = schedule_all c.args.jobs.now c.loop-job.job-index c.args.core.now c.loop-job.core c.loop-job-test.false c.loop-job.invariant
+pub returns-clause-done : goal.returns-clause-done
+returns-clause-done g c = schedule_all c.args.jobs.now c.loop-job.job-index c.args.space.now.core c.loop-job.space.core c.loop-job-test.false c.loop-job.invariant.0

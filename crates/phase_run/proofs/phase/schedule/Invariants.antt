@@ -1,4 +1,4 @@
-use Rattle.std.proofs.Common.{take}
+use Rattle.std.proofs.Common.{◌≡◌, take}
 use Rattle.phase_run.specs.Plans.{jobs_plan}
 use Rattle.phase_run.specs.Inside.Doing.{Makes}
 use Rattle.phase_run.proofs.Phases.{Scheduled}
@@ -6,4 +6,5 @@ use Rattle.phase_run.proofs.phase.schedule.Given as goal
 
 -- the jobs so far are scheduled
 abbrev pub invariant-loop-job : goal.invariant-loop-job
-invariant-loop-job l = Makes (Scheduled (take l.job-index (jobs_plan l.jobs))) l.fn.core l.core
+invariant-loop-job g l = Makes (Scheduled (take l.job-index (jobs_plan l.jobs))) l.fn.space.core l.space.core
+    × (l.space.keeper.began ≡ l.fn.space.keeper.began) × (l.space.began ≡ l.fn.space.began)

@@ -14,11 +14,11 @@ do_asked-requires-clause-asked g c = subst IsAskable (sym c.in_ok-asked.ensures)
 
 pub returns-in_err-asked-clause-done : goal.returns-in_err-asked-clause-done
 returns-in_err-asked-clause-done g c = on_err _ _ c.from_residual.result c.from_residual.ensures.0
-    (not_begun (Made g.M.Meanings.meaning 1 c.args.command.now) c.args.core.now c.args.core.now (some_made g.M.Meanings.meaning c.args.command.now) refl c.requires.work)
+    (not_begun (Made g.M.Meanings.meaning 1 c.args.command.now) c.args.space.now.core c.args.space.now.core (some_made g.M.Meanings.meaning c.args.command.now) refl c.requires.work)
 
 pub returns-clause-done : goal.returns-clause-done
-returns-clause-done g c = subst (λ x. MatchResult c.do_asked.result (λ _. Works (AskedEntries g.M.Meanings.meaning 1 x) c.args.core.now c.do_asked.new.core) (λ _. Stops (Cut (AskedEntries g.M.Meanings.meaning 1 x)) c.args.core.now c.do_asked.new.core))
+returns-clause-done g c = subst (λ x. MatchResult c.do_asked.result (λ _. Works (AskedEntries g.M.Meanings.meaning 1 x) c.args.space.now.core c.do_asked.new.space.core) (λ _. Stops (Cut (AskedEntries g.M.Meanings.meaning 1 x)) c.args.space.now.core c.do_asked.new.space.core))
     c.in_ok-asked.ensures c.do_asked.ensures.done
 
 pub returns-in_err-asked-clause-serves : goal.returns-in_err-asked-clause-serves
-returns-in_err-asked-clause-serves g c = serves_itself g.M.Meanings.meaning c.args.core.now (map (λ b. g.B.Builder.tells b) c.args.builders.now)
+returns-in_err-asked-clause-serves g c = serves_itself g.M.Meanings.meaning c.args.space.now.core (map (λ b. g.B.Builder.tells b) c.args.builders.now)

@@ -23,3 +23,6 @@ returns-in-Cancel c = rw c.in-Cancel.is c.cancel_line.ensures
 
 pub returns-in-Build : goal.returns-in-Build
 returns-in-Build c = rw c.in-Build.is c.build_line.ensures
+
+pub returns-in-Save : goal.returns-in-Save
+returns-in-Save c = rw c.in-Save.is c.save_line.ensures
