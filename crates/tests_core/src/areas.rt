@@ -1,7 +1,7 @@
 //! The program over disks that fail at each call.
 use crate::asserting::{holds, let_go, must, reads, same};
 use crate::rows::{cut, lines_of};
-use crate::running::{disk, run_over, source};
+use crate::running::{disk, kit_of, notes, run_over, source};
 use report_text::{put_counted, put_text};
 use save_store::Store;
 use std::process::Abort;
@@ -62,8 +62,8 @@ fn ended(
     let mut source = source(rt, "");
     let mut sink = MemSink::new(rt.alloc());
     let disk = disk(rt, left, b"").failing_at(calls(rt, failing));
-    let (builders, listeners) = (Vec::new(rt.alloc()), Vec::new(rt.alloc()));
-    let outcome = run_over(rt, asked, &mut source, &mut sink, disk, builders, listeners);
+    let kit = kit_of(rt, notes(rt));
+    let outcome = run_over(rt, asked, &mut source, &mut sink, disk, kit);
     let Outcome {
         status,
         history,

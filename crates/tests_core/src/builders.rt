@@ -2,6 +2,7 @@
 ghost use Rattle.std.specs.Prelude.{None};
 
 use crate::asserting::{let_go, must, reads, same};
+use crate::rows::lines_with;
 use crate::running::{run, source};
 use builder_api::{BuildFault, Builder, Edits, FileEdits, Handed, Problems};
 use bytes::Bytes;
@@ -148,23 +149,6 @@ fn written(rt: &(impl Abort + AllocGlobal), script: &str, status: u8) -> Vec<u8>
     out
 }
 
-/// The lines of what is handed, committed, checked in and read.
-fn builds(rt: &(impl Abort + AllocGlobal), text: &[u8]) -> String {
-    let mut out = String::new(rt.alloc());
-    let mut follows = false;
-    for line in must(rt, str::from_utf8(text)).lines() {
-        follows = match line.split(' ').nth(1) {
-            Some("handed" | "commit" | "checkin" | "cat") => true,
-            _ => follows && line.starts_with("  "),
-        };
-        if follows {
-            must(rt, out.push_str(line));
-            must(rt, out.push_str("\n"));
-        }
-    }
-    out
-}
-
 /// Where the builder answers that memory wants, the run stops behind its build.
 #[test]
 fn builders_that_give_no_edits_and_one_that_is_refused(rt: HostRuntime) {
@@ -174,7 +158,7 @@ fn builders_that_give_no_edits_and_one_that_is_refused(rt: HostRuntime) {
     ] {
         let script = must(&rt, SCRIPT.replace(rt.alloc(), "@", name));
         let text = written(&rt, script.as_str(), status);
-        let found = builds(&rt, text.as_slice());
+        let found = lines_with(&rt, text.as_slice(), "handed commit checkin cat");
         let mut wanted = must(&rt, BUILDS.replace(rt.alloc(), "@", outcome));
         must(&rt, wanted.push_str(later));
         reads(&rt, name, found.as_str().as_bytes(), wanted.as_str());

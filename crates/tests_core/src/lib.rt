@@ -11,6 +11,7 @@
 //! - `scripts`: scripts read, copied and printed.
 //! - `runs`: the program over sources and sinks that fail at each call.
 //! - `areas`: the program over disks that fail at each call.
+//! - `saves`: saves over such disks, and with participants that fail.
 #![tactic(auto)]
 
 #[cfg(test)]
@@ -31,5 +32,7 @@ mod rows;
 mod running;
 #[cfg(test)]
 mod runs;
+#[cfg(test)]
+mod saves;
 #[cfg(test)]
 mod scripts;

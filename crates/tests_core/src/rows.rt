@@ -49,3 +49,29 @@ pub fn job<'a>(rt: &impl Abort, script: &'a Script) -> &'a Job {
 pub fn command<'a>(rt: &impl Abort, script: &'a Script) -> &'a Command {
     some(rt, job(rt, script).commands.as_slice().first())
 }
+
+/// The lines of which one of the first two words is one of these, each with the lines behind it that begin with two blanks.
+pub fn lines_with(rt: &(impl Abort + AllocGlobal), text: &[u8], words: &str) -> String {
+    let mut out = String::new(rt.alloc());
+    let mut follows = false;
+    for line in must(rt, str::from_utf8(text)).lines() {
+        follows = begins_with(line, words) || follows && line.starts_with("  ");
+        if follows {
+            must(rt, out.push_str(line));
+            must(rt, out.push_str("\n"));
+        }
+    }
+    out
+}
+
+/// One of the line's first two words is one of these.
+fn begins_with(line: &str, words: &str) -> bool {
+    for word in words.split(' ') {
+        for first in line.split(' ').take(2) {
+            if first == word {
+                return true;
+            }
+        }
+    }
+    false
+}

@@ -6,7 +6,7 @@ use builder_api::{Builders, Silent};
 use save_round::Notes;
 use std::process::Abort;
 use ws_outside::{Contents, MemDisk, MemSink, MemSource, Octets};
-use ws_top::{Areas, Kit, Listeners, Outcome, Participants, top};
+use ws_top::{Areas, Kit, Listeners, Outcome, Participant, Participants, top};
 
 /// What comes of a run over empty areas, with these words, builders and listeners, and the participant `notes`. Nothing is
 /// claimed of the builders.
@@ -18,31 +18,29 @@ pub fn run(
     builders: Vec<Asked>,
     listeners: Vec<Note>,
 ) -> Outcome<MemDisk, Note, Asked, Notes> {
-    let disk = disk(rt, b"", b"");
-    run_over(rt, asked, source, sink, disk, builders, listeners)
-}
-
-/// The same over the areas of this disk.
-pub fn run_over(
-    rt: &(impl Abort + AllocGlobal),
-    asked: &str,
-    source: &mut MemSource,
-    sink: &mut MemSink,
-    disk: MemDisk,
-    builders: Vec<Asked>,
-    listeners: Vec<Note>,
-) -> Outcome<MemDisk, Note, Asked, Notes> {
-    let mut words = Vec::new(rt.alloc());
-    for word in asked.split(' ') {
-        must(rt, words.push(must(rt, String::from_str(rt.alloc(), word))));
-    }
     let kit = Kit {
         builders: Builders::of(builders),
         listeners: Listeners::of(listeners),
         participants: Participants::of(notes(rt)),
     };
+    run_over(rt, asked, source, sink, disk(rt, b"", b""), kit)
+}
+
+/// The same over the areas of this disk, with this kit.
+pub fn run_over<P: Participant>(
+    rt: &(impl Abort + AllocGlobal),
+    asked: &str,
+    source: &mut MemSource,
+    sink: &mut MemSink,
+    disk: MemDisk,
+    kit: Kit<Note, Asked, P>,
+) -> Outcome<MemDisk, Note, Asked, P> {
+    let mut words = Vec::new(rt.alloc());
+    for word in asked.split(' ') {
+        must(rt, words.push(must(rt, String::from_str(rt.alloc(), word))));
+    }
     let areas = Areas { disk };
-    top::<MemSource, MemSink, MemDisk, Note, Asked, Notes, Silent>(
+    top::<MemSource, MemSink, MemDisk, Note, Asked, P, Silent>(
         rt.alloc(),
         words.as_slice(),
         source,
@@ -52,8 +50,20 @@ pub fn run_over(
     )
 }
 
+/// A kit with these participants, and nobody else.
+pub fn kit_of<P: Participant>(
+    rt: &(impl Abort + AllocGlobal),
+    participants: Vec<P>,
+) -> Kit<Note, Asked, P> {
+    Kit {
+        builders: Builders::of(Vec::new(rt.alloc())),
+        listeners: Listeners::of(Vec::new(rt.alloc())),
+        participants: Participants::of(participants),
+    }
+}
+
 /// The participant `notes` alone.
-fn notes(rt: &(impl Abort + AllocGlobal)) -> Vec<Notes> {
+pub fn notes(rt: &(impl Abort + AllocGlobal)) -> Vec<Notes> {
     let mut all = Vec::new(rt.alloc());
     must(rt, all.push(Notes::new(rt.alloc())));
     all
