@@ -31,7 +31,10 @@ impl Listener for Note {
 }
 
 /// What comes of the script, where two listen.
-pub fn heard(rt: &(impl Abort + AllocGlobal), script: &str) -> Outcome<MemDisk, Note, Asked, Notes> {
+pub fn heard(
+    rt: &(impl Abort + AllocGlobal),
+    script: &str,
+) -> Outcome<MemDisk, Note, Asked, Notes> {
     let mut listeners = Vec::new(rt.alloc());
     for _ in 0..2_u64 {
         let note = Note {

@@ -68,11 +68,7 @@ pub fn workspace<B: Builder>(
 }
 
 /// The same, with builders of these names.
-fn with_builders(
-    alloc: Global,
-    durable: Durable,
-    names: BuilderNames,
-) -> Result<Opened, NoMemory>
+fn with_builders(alloc: Global, durable: Durable, names: BuilderNames) -> Result<Opened, NoMemory>
     requires valid { Valid (saved durable) }
     ensures kept { IfOk result (λ o. o.kept ≡ Some durable) }
     ensures opened { IfOk result (λ o. o.core.opened ≡ opened_of (saved durable) names) }

@@ -37,11 +37,7 @@ fn print_changed<K: Sink>(
 }
 
 /// Prints what was given back.
-fn print_state<K: Sink>(
-    sink: &mut K,
-    out: &mut Vec<u8>,
-    state: &KeptState,
-) -> Result<(), Unwritten>
+fn print_state<K: Sink>(sink: &mut K, out: &mut Vec<u8>, state: &KeptState) -> Result<(), Unwritten>
     ensures printed { Printed (K.written sink.old) (K.written sink.new) (K.faults sink.old) (K.faults sink.new) out.old.items (codes "restored " ++ word_text state.now.name ++ (codes "\n" ++ some_lines state.now.delta)) out.new.items result }
 {
     match put_named(out, "restored ", state.name.text().as_bytes()) {

@@ -151,8 +151,7 @@ fn perform_on<K: Sink, D: Disk, L: Listener, B: Builder, P: Participant, M: Mean
     let keeper = Keeper::of(store);
     let mut space = SavedWorkspace::of(core, keeper, participants);
     let phases = script.phases.as_slice();
-    let ran =
-        run_phases::<L, D, P, B, M>(&mut space, &mut builders, alloc, &mut listeners, phases);
+    let ran = run_phases::<L, D, P, B, M>(&mut space, &mut builders, alloc, &mut listeners, phases);
     let (core, keeper, participants) = space.into_parts();
     let kit = Kit {
         builders,
@@ -187,9 +186,29 @@ fn report<K: Sink, D: Disk, L: Listener, B: Builder, P: Participant>(
     ensures kit { result.kit ≡ kit }
 {
     if keeper.has_failed() {
-        report_as(alloc, sink, core, keeper, kept, kit, states, 5, b"status 5\n")
+        report_as(
+            alloc,
+            sink,
+            core,
+            keeper,
+            kept,
+            kit,
+            states,
+            5,
+            b"status 5\n",
+        )
     } else {
-        report_as(alloc, sink, core, keeper, kept, kit, states, 0, b"status 0\n")
+        report_as(
+            alloc,
+            sink,
+            core,
+            keeper,
+            kept,
+            kit,
+            states,
+            0,
+            b"status 0\n",
+        )
     }
 }
 
@@ -246,7 +265,15 @@ fn report_cut<K: Sink, D: Disk, L: Listener, B: Builder, P: Participant>(
     ensures disk { result.areas.disk ≡ disk_of keeper }
     ensures kit { result.kit ≡ kit }
 {
-    let _ = write_run(sink, alloc, &core, &kit.participants, states, 8, b"status 8\n");
+    let _ = write_run(
+        sink,
+        alloc,
+        &core,
+        &kit.participants,
+        states,
+        8,
+        b"status 8\n",
+    );
     ended(core, keeper, kept, kit, 8)
 }
 
