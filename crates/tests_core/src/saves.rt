@@ -2,7 +2,7 @@
 ghost use Rattle.std.specs.Prelude.{◌≡◌, ◌≤◌, None, Err};
 ghost use Rattle.save_round.specs.Told.{HasRisen};
 
-use crate::asserting::{holds, let_go, must, reads};
+use crate::asserting::{holds, let_go, must, reads, same};
 use crate::builders::Asked;
 use crate::listening::Note;
 use crate::rows::{cut, lines_of, lines_with, number};
@@ -33,13 +33,16 @@ endphase
 /// Ends of these saves, with the status; then how many elements the areas hold behind the run. `/` ends a line. A call on the
 /// disk that fails ends the run as the areas are opened, or else the save that makes it; the saves behind that one are full
 /// ones. The areas hold what was acknowledged last, or what the save that failed brought to them.
-const ENDS: [&str; 5] = [
+const ENDS: [&str; 4] = [
     "status 5/|elements 1/status 0/|",
     "p1 checkin save-failed -> ok/p1 checkin saved -> ok/p1 checkin saved -> ok/status 5/|elements 4/status 0/|",
     "p1 checkin saved -> ok/p1 checkin save-failed -> ok/p1 checkin saved -> ok/status 5/|elements 4/status 0/|",
     "p1 checkin saved -> ok/p1 checkin saved -> ok/p1 checkin save-failed -> ok/status 5/|elements 3/status 0/|elements 4/status 0/",
-    "p1 checkin saved -> ok/p1 checkin saved -> ok/p1 checkin saved -> ok/status 0/|elements 4/status 0/|",
 ];
+
+/// The same where no call fails.
+const SAVED: &str =
+    "p1 checkin saved -> ok/p1 checkin saved -> ok/p1 checkin saved -> ok/status 0/|elements 4/status 0/|";
 
 /// What a run of the text over the disk writes in lines with these words, and the disk that it leaves with the kit.
 fn ran<P: Participant>(
@@ -87,24 +90,36 @@ fn is_row(rt: &(impl Abort + AllocGlobal), row: &str, ends: &str, held: &str) ->
     ends == lines_of(rt, wanted).as_str() && holds_one
 }
 
+/// The row of this number.
+fn row(number: usize) -> &'static str {
+    match ENDS.get(number) {
+        Some(row) => row,
+        None => "",
+    }
+}
+
+/// How many rows were met once this call has failed too, where so many were before. It is as the last of these tells, or the
+/// next one.
+fn met_with(rt: &(impl Abort + AllocGlobal), call: u64, met: usize) -> usize {
+    let (ends, held, _) = saved_over(rt, must(rt, vec![in rt.alloc(); call]));
+    if met > 0 && is_row(rt, row(met.saturating_sub(1)), ends.as_str(), held.as_str()) {
+        return met;
+    }
+    let is_next = is_row(rt, row(met), ends.as_str(), held.as_str());
+    holds(rt, row(met), is_next);
+    met.saturating_add(1)
+}
+
 #[test]
 fn each_call_on_the_disk_that_fails_ends_its_save(rt: HostRuntime) {
-    let mut rows = ENDS.iter();
-    let mut row = "";
-    let mut call = 0;
-    loop {
-        let failing = must(&rt, vec![in rt.alloc(); call]);
-        let (ends, held, calls) = saved_over(&rt, failing);
-        if !is_row(&rt, row, ends.as_str(), held.as_str()) {
-            row = rows.next().copied().unwrap_or("");
-        }
-        holds(&rt, row, is_row(&rt, row, ends.as_str(), held.as_str()));
-        if call >= calls {
-            break;
-        }
-        call += 1;
+    let (ends, held, calls) = saved_over(&rt, Vec::new(rt.alloc()));
+    let all_saved = is_row(&rt, SAVED, ends.as_str(), held.as_str());
+    holds(&rt, SAVED, all_saved);
+    let mut met = 0;
+    for call in 0..calls {
+        met = met_with(&rt, call, met);
     }
-    holds(&rt, "each row was met", rows.next().is_none());
+    same(&rt, "rows", met, ENDS.len());
 }
 
 /// A participant that keeps what it was called for so far, and answers the fault at its call of this number.
@@ -149,7 +164,10 @@ impl Participant for Part {
         match self.asked("s") {
             Ok(()) => {
                 let bytes = Bytes::copy_from_slice(self.alloc, self.calls.as_str().as_bytes())?;
-                Ok(Some(PartState { bytes, delta: true }))
+                Ok(Some(PartState {
+                    bytes,
+                    needs_delta: true,
+                }))
             }
             Err(fault) => Err(fault),
         }
@@ -219,13 +237,13 @@ endphase
 /// The number of b's call that has a fault, and the fault. Then what three runs write of their ends, with the calls of each
 /// participant: the script's; a check; and the empty script's, whose kit has two participants of one name. `/` ends a line.
 const FAULTS: &str = "\
-0|failed|p1 checkin saved -> ok/p1 checkin saved -> ok/status 0/a psdpsd/b psdpsd/c psdpsd/left open 1 1/status 0/restored b/restored a/restored c/status 0/b with tree psdps/a with tree psdps/a /c with tree psdps/
-1|failed|p1 checkin participant b -> ok/p1 checkin saved -> ok/status 0/a prpsd/b ppsd/c psd/left open 1 0/status 0/restored b/restored a/restored c/status 0/b with tree pps/a with tree prps/a /c with tree ps/
-2|failed|p1 checkin participant b -> ok/p1 checkin saved -> ok/status 0/a psrpsd/b psrpsd/c prpsd/left open 1 0/status 0/restored b/restored a/restored c/status 0/b with tree psrps/a with tree psrps/a /c with tree prps/
-4|failed|p1 checkin saved -> ok/p1 checkin participant b -> ok/status 0/a psdpr/b psdp/c psd/left open 1 0/status 0/restored b/restored a/restored c/status 0/b with tree ps/a with tree ps/a /c with tree ps/
-5|failed|p1 checkin saved -> ok/p1 checkin participant b -> ok/status 0/a psdpsr/b psdpsr/c psdpr/left open 1 0/status 0/restored b/restored a/restored c/status 0/b with tree ps/a with tree ps/a /c with tree ps/
+0|failed|p1 checkin saved -> ok/p1 checkin saved -> ok/status 0/a psdpsd/b psdpsd/c psdpsd/left open 1 1/chosen left/status 0/restored b/restored a/restored c/status 0/b with tree psdps/a with tree psdps/a /c with tree psdps/
+1|failed|p1 checkin participant b -> ok/p1 checkin saved -> ok/status 0/a prpsd/b ppsd/c psd/left open 1 0/chosen left/status 0/restored b/restored a/restored c/status 0/b with tree pps/a with tree prps/a /c with tree ps/
+2|failed|p1 checkin participant b -> ok/p1 checkin saved -> ok/status 0/a psrpsd/b psrpsd/c prpsd/left open 1 0/chosen left/status 0/restored b/restored a/restored c/status 0/b with tree psrps/a with tree psrps/a /c with tree prps/
+4|failed|p1 checkin saved -> ok/p1 checkin participant b -> ok/status 0/a psdpr/b psdp/c psd/left open 1 0/chosen left/status 0/restored b/restored a/restored c/status 0/b with tree ps/a with tree ps/a /c with tree ps/
+5|failed|p1 checkin saved -> ok/p1 checkin participant b -> ok/status 0/a psdpsr/b psdpsr/c psdpr/left open 1 0/chosen left/status 0/restored b/restored a/restored c/status 0/b with tree ps/a with tree ps/a /c with tree ps/
 1|memory|p1 checkin no-memory -> ok/status 8/a pr/b p/c /left closed/status 0/status 0/b /a /a /c /
-5|memory|p1 checkin saved -> ok/p1 checkin no-memory -> ok/status 8/a psdpsr/b psdpsr/c psdpr/left open 1 0/status 0/restored b/restored a/restored c/status 0/b with tree ps/a with tree ps/a /c with tree ps/";
+5|memory|p1 checkin saved -> ok/p1 checkin no-memory -> ok/status 8/a psdpsr/b psdpsr/c psdpr/left open 1 0/chosen left/status 0/restored b/restored a/restored c/status 0/b with tree ps/a with tree ps/a /c with tree ps/";
 
 /// What the three runs write where b answers the fault.
 fn sessions(rt: &(impl Abort + AllocGlobal), failing: u64, fault: PartFault) -> String {
