@@ -64,7 +64,8 @@ const BUILDERS: [(&str, bool, BuildFault); 3] = [
     ("nested", true, BuildFault::Failed),
 ];
 
-fn builders(rt: &(impl Abort + AllocGlobal)) -> Vec<Asked> {
+/// One builder of each of these names.
+pub fn builders(rt: &(impl Abort + AllocGlobal)) -> Vec<Asked> {
     let mut builders = Vec::new(rt.alloc());
     for (name, nests, fault) in BUILDERS {
         let builder = Asked {

@@ -12,6 +12,7 @@
 //! - `runs`: the program over sources and sinks that fail at each call.
 //! - `areas`: the program over disks that fail at each call.
 //! - `saves`: saves over such disks, and with participants that fail.
+//! - `stops`: the program over what a crash leaves of a run that saves.
 #![tactic(auto)]
 
 #[cfg(test)]
@@ -36,3 +37,5 @@ mod runs;
 mod saves;
 #[cfg(test)]
 mod scripts;
+#[cfg(test)]
+mod stops;

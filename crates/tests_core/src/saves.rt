@@ -45,7 +45,7 @@ const SAVED: &str =
     "p1 checkin saved -> ok/p1 checkin saved -> ok/p1 checkin saved -> ok/status 0/|elements 4/status 0/|";
 
 /// What a run of the text over the disk writes in lines with these words, and the disk that it leaves with the kit.
-fn ran<P: Participant>(
+pub fn ran<P: Participant>(
     rt: &(impl Abort + AllocGlobal),
     asked: &str,
     text: &str,
