@@ -3,7 +3,7 @@ use Rattle.std.proofs.Common.{Bool, ◌≡◌, ◌≢◌, ℕ, true, false, List
 use Rattle.std.specs.Prelude.{◌⊎◌, Option, None}
 use Rattle.ws_turn.specs.Lists.{StartsWith, of}
 use Rattle.ws_turn.proofs.Lists.{of_append, by_bool}
-use Rattle.pass_turns.specs.Turns.{AddsUpToOne}
+use Rattle.pass_turns.specs.Adds.{AddsUpToOne}
 
 cancel : {E : Type 0} (xs ys : List E) → xs ++ ys ≡ xs → ys ≡ []
 cancel xs [] e = refl

@@ -1,6 +1,6 @@
 //! What a pass does in one turn.
 ghost use Rattle.std.specs.Prelude.{◌≡◌, ◌++◌, ℕ, List, Option, true};
-ghost use Rattle.pass_turns.specs.Turns.{AddsUpToOne};
+ghost use Rattle.pass_turns.specs.Adds.{AddsUpToOne};
 
 use crate::machine::Machine;
 use std::alloc::Global;

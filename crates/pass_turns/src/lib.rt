@@ -3,7 +3,9 @@
 //! its passes. `specs/Turns.antt` says what contracts see.
 #![tactic(auto)]
 
+mod begin;
 mod deed;
+mod entering;
 mod machine;
 mod pass;
 mod room;

@@ -1,6 +1,7 @@
 //! What many threads share.
-ghost use Rattle.std.specs.Prelude.{◌≡◌, ◌≢◌, ◌++◌, ◌∷◌, [], ℕ, Bool, List, Option, Some, None, true, false, IfOk, OnErr, Err};
+ghost use Rattle.std.specs.Prelude.{◌≡◌, ◌≢◌, ◌++◌, ◌∷◌, [], ℕ, Bool, List, Option, Some, None, true, false, IfOk, IfErr, OnOk, OnErr};
 ghost use Rattle.ws_turn.specs.Lists.{given};
+ghost use Rattle.pass_turns.specs.Adds.{AddsUpToOne, WasRefused};
 
 use std::alloc::Global;
 use ws_turn::{Logged, NoMemory};
@@ -43,9 +44,8 @@ pub trait Machine: Logged {
     fn leave(&mut self, alloc: Global, pass: u64) -> Result<(), LeaveError>
         requires { is_there (Self.base self.old) (Self.list self.old) pass ≡ true }
         ensures base { Self.base self.new ≡ Self.base self.old }
-        ensures ok { IfOk result (λ _. (x : Self.Entry) × (Self.list self.new ≡ Self.list self.old ++ x ∷ []) × (Self.by x ≡ pass) × (parts x ≡ true) × (Self.gives x ≡ None)) }
-        ensures busy { result ≡ Err LeaveError.Busy → (x : Self.Entry) × (Self.list self.new ≡ Self.list self.old ++ x ∷ []) × (Self.by x ≡ pass) × (parts x ≡ false) × (Self.gives x ≡ None) }
-        ensures memory { result ≡ Err LeaveError.Memory → Self.list self.new ≡ Self.list self.old };
+        ensures ok { OnOk result ((x : Self.Entry) × (Self.list self.new ≡ Self.list self.old ++ x ∷ []) × (Self.by x ≡ pass) × (parts x ≡ true) × (Self.gives x ≡ None)) }
+        ensures err { IfErr result (λ e. (more : List Self.Entry) × (Self.list self.new ≡ Self.list self.old ++ more) × AddsUpToOne Self.by Self.gives parts pass more × WasRefused e more) };
 
     // a pass that is there stays, whatever is done, but for an entry of its own by which it leaves
     ghost stays: { (b : Self.Base) (h : List Self.Entry) (x : Self.Entry) (n : ℕ) → is_there b h n ≡ true → (parts x ≡ true → Self.Logged.by x ≢ n) → is_there b (h ++ x ∷ []) n ≡ true };

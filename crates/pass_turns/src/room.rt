@@ -2,7 +2,9 @@
 ghost use Rattle.std.specs.Prelude.{◌≡◌, List, [], ◌∷◌, ◌++◌, ℕ, true, false, IfOk, IfErr, OnOk, OnErr, Err};
 ghost use Rattle.ws_turn.specs.Lists.{StartsWith, longer, of};
 
+use crate::begin::begin_turn;
 use crate::deed::Deed;
+use crate::entering::{let_in, take_in};
 use crate::machine::{LeaveError, Machine};
 use crate::pass::Pass;
 use std::alloc::Global;
@@ -17,7 +19,7 @@ pub struct Room<S: Machine> {
 }
 
 impl<S: Machine> Room<S> {
-    ghost use Rattle.pass_turns.specs.Turns.{knows, base_of, IsOf, IsFaithful, TookTurn};
+    ghost use Rattle.pass_turns.specs.Turns.{knows, base_of, IsOf, IsFaithful, TookTurn, LetIn, LetNobodyIn, TookIn, StaysThere};
 
     /// A room with this machine, which has done nothing yet, and its first pass, which has the number 0. Where memory wants
     /// the machine is handed back.
@@ -47,12 +49,62 @@ impl<S: Machine> Room<S> {
         ensures of { IsOf self.now pass.new }
         ensures took { TookTurn S.by S.legal (D.did deed.old deed.new) (base_of S.base self.now) result (knows pass.old) (knows pass.new) }
     {
-        let mut machine = self.lock.take(rt, &mut pass.token);
-        machine.settle();
+        let mut machine = begin_turn(rt, &self.lock, &mut pass.token);
         let number = pass.token.number();
         let answer = deed.make(alloc, &mut machine, number);
         machine.settle();
         self.lock.give_back(&mut pass.token, machine);
         answer
+    }
+
+    /// Lets a new pass in, whose number no pass has had, and which has seen what the pass has seen then. Waits for the pass's
+    /// turn. Where memory wants none is let in, but the entry that gives the number may stand.
+    pub fn split<R: Wait>(
+        &self,
+        rt: &R,
+        alloc: Global,
+        pass: &mut Pass<S>,
+    ) -> Result<Pass<S>, NoMemory>
+        requires { IsOf self.now pass.old }
+        ensures of { IsOf self.now pass.new × IfOk result (IsOf self.now) }
+        ensures ok { IfOk result (λ new. LetIn S.by S.gives S.legal (base_of S.base self.now) (knows pass.old) (knows pass.new) (knows new)) }
+        ensures err { OnErr result (LetNobodyIn S.by S.gives S.legal (base_of S.base self.now) (knows pass.old) (knows pass.new)) }
+    {
+        let token = let_in(rt, &self.lock, alloc, &mut pass.token)?;
+        Ok(Pass { token })
+    }
+
+    /// Takes in another pass, which leaves: the pass has then seen what each of the two had seen. Waits for the other's turn.
+    /// Where it doesn't leave it is handed back, and the pass stays as it was.
+    pub fn join<R: Wait>(
+        &self,
+        rt: &R,
+        alloc: Global,
+        pass: &mut Pass<S>,
+        other: Pass<S>,
+    ) -> Result<(), (LeaveError, Pass<S>)>
+        requires { IsOf self.now pass.old × IsOf self.now other }
+        ensures of { IsOf self.now pass.new × IfErr result (λ e. IsOf self.now e.1) }
+        ensures ok { OnOk result (TookIn S.by S.parts S.legal (base_of S.base self.now) (knows pass.old) (knows other) (knows pass.new)) }
+        ensures same { OnErr result (knows pass.new ≡ knows pass.old) }
+        ensures err { IfErr result (λ e. StaysThere S.by S.gives S.parts S.legal (base_of S.base self.now) e.0 (knows other) (knows e.1)) }
+    {
+        let Pass { token } = other;
+        match take_in(rt, &self.lock, alloc, &mut pass.token, token) {
+            Ok(()) => Ok(()),
+            Err((error, token)) => Err((error, Pass { token })),
+        }
+    }
+
+    /// The pass has then seen what each of the two had seen; the other stays as it is. Waits for nobody, and takes no memory.
+    pub fn meet(&self, pass: &mut Pass<S>, other: &mut Pass<S>)
+        requires { IsOf self.now pass.old × IsOf self.now other.old }
+        ensures of { IsOf self.now pass.new × IsOf self.now other.new }
+        ensures pass { knows pass.new ≡ record (knows pass.old) { seen = longer (knows pass.old).seen (knows other.old).seen } }
+        ensures begins { StartsWith (knows pass.new).seen (knows pass.old).seen × StartsWith (knows pass.new).seen (knows other.old).seen }
+        ensures faithful { IsFaithful S.by (knows pass.new) }
+        ensures other { knows other.new ≡ knows other.old }
+    {
+        self.lock.meet(&mut pass.token, &mut other.token);
     }
 }
