@@ -1,3 +1,5 @@
 pub mod There
 pub mod Turned
 pub mod Entered
+pub mod Pairs
+pub mod Told

@@ -110,6 +110,29 @@ pub record StaysThere {E B : Type 0} (by : E → ℕ) (gives : E → Option ℕ)
   pub legal_seen : legal b k'.seen
   pub faithful : IsFaithful by k'
 
+-- A pass came to see the history h, which begins with what it had seen, has just those entries of its number that it knows
+-- as its own, and none of a number that it gave in vain. All else of the pass stays
+pub record CameTo {E : Type 0} (by : E → ℕ) (h : List E) (k k' : Knows E) : Type 0 where
+  pub begins : StartsWith h k.seen
+  pub own : of by k.number h ≡ k.mine
+  pub silent : HasNoneOf by k.lost h
+  pub now : k' ≡ record k { seen = h }
+
+-- the machine was closed with the history h, of which the pass had seen a beginning, and which has just those entries of its
+-- number that it knows as its own, and none of a number that it gave in vain
+pub record EndsWith {E B : Type 0} (by : E → ℕ) (legal : B → List E → Type 0) (b : B) (h : List E) (k : Knows E) : Type 0 where
+  pub legal_then : legal b h
+  pub begins : StartsWith h k.seen
+  pub own : of by k.number h ≡ k.mine
+  pub silent : HasNoneOf by k.lost h
+
+-- the two lists are as long, and what stands at one place in both is so related
+abbrev pub Pairs : {A : Type 0} → (A → A → Type 0) → List A → List A → Type 0
+Pairs R [] [] = Unit {0}
+Pairs R [] (y ∷ ys) = ⊥
+Pairs R (x ∷ xs) [] = ⊥
+Pairs R (x ∷ xs) (y ∷ ys) = R x y × Pairs R xs ys
+
 -- the base of the machine that the room was made with
 abbrev pub base_of : {S E B : Type 0} → (S → B) → Room S E B → B
 base_of base r = tokens.base_of base r.lock

@@ -7,6 +7,7 @@ mod begin;
 mod deed;
 mod entering;
 mod machine;
+mod meeting;
 mod pass;
 mod room;
 

@@ -27,6 +27,13 @@ pub trait Machine: Logged {
     // by the entry its pass leaves
     ghost parts: { Self.Entry → Bool };
 
+    // after the entries nothing is out, so that the machine may be closed
+    ghost may_close: { Self.Base → List Self.Entry → Bool };
+
+    /// Whether nothing is out, so that the machine may be closed.
+    fn may_close(&self) -> bool
+        ensures { result ≡ may_close (Self.base self.now) (Self.list self.now) };
+
     /// What was done may follow the base, as of every machine. Nothing is done.
     fn settle(&self)
         ensures { legal (Self.base self.now) (Self.list self.now) };

@@ -1,11 +1,13 @@
 //! A machine with its passes.
 ghost use Rattle.std.specs.Prelude.{◌≡◌, List, [], ◌∷◌, ◌++◌, ℕ, true, false, IfOk, IfErr, OnOk, OnErr, Err};
+ghost use Rattle.std.specs.List.{AllByRecursion};
 ghost use Rattle.ws_turn.specs.Lists.{StartsWith, longer, of};
 
 use crate::begin::begin_turn;
 use crate::deed::Deed;
 use crate::entering::{let_in, take_in};
 use crate::machine::{LeaveError, Machine};
+use crate::meeting::tell_all;
 use crate::pass::Pass;
 use std::alloc::Global;
 use std::sync::Wait;
@@ -19,7 +21,7 @@ pub struct Room<S: Machine> {
 }
 
 impl<S: Machine> Room<S> {
-    ghost use Rattle.pass_turns.specs.Turns.{knows, base_of, IsOf, IsFaithful, TookTurn, LetIn, LetNobodyIn, TookIn, StaysThere};
+    ghost use Rattle.pass_turns.specs.Turns.{knows, base_of, IsOf, IsFaithful, TookTurn, LetIn, LetNobodyIn, TookIn, StaysThere, CameTo, EndsWith, Pairs};
 
     /// A room with this machine, which has done nothing yet, and its first pass, which has the number 0. Where memory wants
     /// the machine is handed back.
@@ -106,5 +108,34 @@ impl<S: Machine> Room<S> {
         ensures other { knows other.new ≡ knows other.old }
     {
         self.lock.meet(&mut pass.token, &mut other.token);
+    }
+
+    /// Waits for the pass's turn, and ends the room, where nothing of the machine is out: gives the machine, whose history
+    /// begins with what the pass and each of the others had seen. Where something is out nothing ends. The others, and the
+    /// pass, have seen that history then.
+    pub fn close<R: Wait>(
+        self,
+        rt: &R,
+        pass: Pass<S>,
+        others: &mut Vec<Pass<S>>,
+    ) -> Result<S, (Room<S>, Pass<S>)>
+        requires of { IsOf self pass }
+        requires others { AllByRecursion (λ p. IsOf self p) others.old.items }
+        ensures base { IfOk result (λ m. S.base m ≡ base_of S.base self) }
+        ensures closed { IfOk result (λ m. S.may_close (base_of S.base self) (S.list m) ≡ true) }
+        ensures ok { IfOk result (λ m. EndsWith S.by S.legal (base_of S.base self) (S.list m) (knows pass)) }
+        ensures told { IfOk result (λ m. Pairs (λ p q. CameTo S.by (S.list m) (knows p) (knows q)) others.old.items others.new.items) }
+        ensures refused { IfErr result (λ e. (h : List S.Entry) × S.legal (base_of S.base self) h × (S.may_close (base_of S.base self) h ≡ false) × CameTo S.by h (knows pass) (knows e.1)
+            × Pairs (λ p q. IsOf self q × CameTo S.by h (knows p) (knows q)) others.old.items others.new.items) }
+        ensures same { IfErr result (λ e. (e.0 ≡ self) × IsOf e.0 e.1) }
+    {
+        let Pass { mut token } = pass;
+        let machine = begin_turn(rt, &self.lock, &mut token);
+        tell_all(&self.lock, &mut token, others);
+        if machine.may_close() {
+            return Ok(machine);
+        }
+        self.lock.give_back(&mut token, machine);
+        Err((self, Pass { token }))
     }
 }
