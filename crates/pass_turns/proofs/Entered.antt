@@ -42,10 +42,10 @@ module _ {E B : Type 0} (by : E → ℕ) (gives : E → Option ℕ) (legal : B �
   pub own_then : (k k1 : Known E) (h : List E) (o1 : Known E) → k1 ≡ both k o1 → k1.seen ≡ h → of by k1.number k1.seen ≡ k1.mine → of by k.number h ≡ k.mine
   own_then k k1 h o1 joined is own = subst (λ l. of by k.number l ≡ k.mine) is (ap (λ n. of by n k1.seen) (sym (ap (λ z. z.number) joined)) ∙ (own ∙ ap (λ z. z.mine) joined))
 
-  pub took_in : (parts : E → Bool) (b : B) (k o k1 o1 k2 : Known E) (h xs : List E) (x : E) → o1 ≡ took o h → k1 ≡ both k o1 → k1.seen ≡ h → StartsWith k1.seen k.seen → StartsWith h o.seen
-      → of by o.number h ≡ o.mine → xs ≡ h ++ x ∷ [] → by x ≡ o.number → parts x ≡ true → gives x ≡ None → has k1.number k1.joined ≡ false → k2 ≡ gave by gives k1 xs (x ∷ []) → IsFaithful by k2 → legal b xs
-      → TookIn by parts legal b (shown k) (shown o) (shown k2)
-  took_in parts b k o k1 o1 k2 h xs x holding joined is begins theirs own list by_it leaves none apart back faithful lawful =
+  pub took_in : (left : E → Type 0) (b : B) (k o k1 o1 k2 : Known E) (h xs : List E) (x : E) → o1 ≡ took o h → k1 ≡ both k o1 → k1.seen ≡ h → StartsWith k1.seen k.seen → StartsWith h o.seen
+      → of by o.number h ≡ o.mine → xs ≡ h ++ x ∷ [] → by x ≡ o.number → left x → gives x ≡ None → has k1.number k1.joined ≡ false → k2 ≡ gave by gives k1 xs (x ∷ []) → IsFaithful by k2 → legal b xs
+      → TookIn by left legal b (shown k) (shown o) (shown k2)
+  took_in left b k o k1 o1 k2 h xs x holding joined is begins theirs own list by_it leaves none apart back faithful lawful =
       let not = ap (λ c. if c then x ∷ [] else []) (ne_eqb (by x) k1.number (λ same. not_own k o k1 o1 h x holding joined apart by_it (same ∙ ap (λ z. z.number) joined))) in
       let one = ap (λ c. if c then x ∷ [] else []) (eq-eqb (by x) o.number by_it) in
       let seen : k2.seen ≡ h ++ x ∷ [] = ap (λ z. z.seen) back ∙ list in

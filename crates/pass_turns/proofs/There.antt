@@ -1,9 +1,7 @@
 -- A pass that is there stays while others go on.
 use Rattle.std.proofs.Common.{Bool, ◌≡◌, ◌≢◌, ℕ, true, false, List, [], ◌∷◌, ◌++◌, length, nat_eq, refl, sym, ap, ◌∙◌, subst, arith, inl, inr, true≢false, eq-eqb, append-nil, append_assoc, length-append, if◌then◌else◌}
-use Rattle.std.specs.Prelude.{◌⊎◌, Option, None}
 use Rattle.ws_turn.specs.Lists.{StartsWith, of}
 use Rattle.ws_turn.proofs.Lists.{of_append, by_bool}
-use Rattle.pass_turns.specs.Adds.{AddsUpToOne}
 
 cancel : {E : Type 0} (xs ys : List E) → xs ++ ys ≡ xs → ys ≡ []
 cancel xs [] e = refl
@@ -20,19 +18,13 @@ module _ {E : Type 0} (by : E → ℕ) where
   pub none_between : (n : ℕ) (seen rest mine : List E) → of by n seen ≡ mine → of by n (seen ++ rest) ≡ mine → of by n rest ≡ []
   none_between n seen rest mine a b = cancel (of by n seen) (of by n rest) (sym (of_append by n seen rest) ∙ (b ∙ sym a))
 
-module _ {E B : Type 0} (by : E → ℕ) (gives : E → Option ℕ) (parts : E → Bool) (there : B → List E → ℕ → Bool)
-    (stays : (b : B) (h : List E) (x : E) (n : ℕ) → there b h n ≡ true → (parts x ≡ true → by x ≢ n) → there b (h ++ x ∷ []) n ≡ true) where
+module _ {E B : Type 0} (by : E → ℕ) (there : B → List E → ℕ → Bool) (stays : (b : B) (h : List E) (x : E) (n : ℕ) → there b h n ≡ true → by x ≢ n → there b (h ++ x ∷ []) n ≡ true) where
   pub stays_over : (b : B) (n : ℕ) (h more : List E) → there b h n ≡ true → of by n more ≡ [] → there b (h ++ more) n ≡ true
   stays_over b n h [] t none = subst (λ l. there b l n ≡ true) (sym (append-nil h)) t
   stays_over b n h (x ∷ more) t none =
       let o = others by n x more none in
-      subst (λ l. there b l n ≡ true) (append_assoc h (x ∷ []) more) (stays_over b n (h ++ x ∷ []) more (stays b h x n t (λ _. o.0)) o.1)
+      subst (λ l. there b l n ≡ true) (append_assoc h (x ∷ []) more) (stays_over b n (h ++ x ∷ []) more (stays b h x n t o.0) o.1)
 
   pub there_found : (b : B) (n : ℕ) (seen found mine : List E) → there b seen n ≡ true → StartsWith found seen → of by n seen ≡ mine → of by n found ≡ mine → there b found n ≡ true
   there_found b n seen found mine t s old now =
       subst (λ l. there b l n ≡ true) (sym s.1) (stays_over b n seen s.0 t (none_between by n seen s.0 mine old (ap (of by n) (sym s.1) ∙ now)))
-
-  pub there_after : (b : B) (n : ℕ) (found more : List E) → there b found n ≡ true → AddsUpToOne by gives parts n more → there b (found ++ more) n ≡ true
-  there_after b n found more t (inl none) = subst (λ l. there b (found ++ l) n ≡ true) (sym none) (subst (λ l. there b l n ≡ true) (sym (append-nil found)) t)
-  there_after b n found more t (inr one) =
-      subst (λ l. there b (found ++ l) n ≡ true) (sym one.1) (stays b found one.0 n t (λ leaves. absurd (true≢false (sym leaves ∙ one.4))))

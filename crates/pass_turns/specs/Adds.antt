@@ -1,13 +1,13 @@
 -- What a pass adds in one turn.
-use Rattle.std.specs.Prelude.{Bool, ◌≡◌, ◌⊎◌, ℕ, List, [], ◌∷◌, false, Option, None}
+use Rattle.std.specs.Prelude.{◌≡◌, ◌⊎◌, ℕ, List, [], ◌∷◌, Option, None}
 use Rattle.pass_turns.specs.declared.machine.LeaveError.{LeaveError}
 use Rattle.pass_turns.specs.declared.machine.LeaveError.TheVariants.{Busy, Memory}
 
--- no entry, or one of the pass's own number, by which no pass enters and the pass doesn't leave
-abbrev pub AddsUpToOne : {E : Type 0} → (E → ℕ) → (E → Option ℕ) → (E → Bool) → ℕ → List E → Type 0
-AddsUpToOne {E = E} by gives parts n more = (more ≡ []) ⊎ ((x : E) × (more ≡ x ∷ []) × (by x ≡ n) × (gives x ≡ None) × (parts x ≡ false))
+-- no entry, or one of the pass's own number, by which no pass enters
+abbrev pub AddsUpToOne : {E : Type 0} → (E → ℕ) → (E → Option ℕ) → ℕ → List E → Type 0
+AddsUpToOne {E = E} by gives n more = (more ≡ []) ⊎ ((x : E) × (more ≡ x ∷ []) × (by x ≡ n) × (gives x ≡ None))
 
 -- a pass that asked to leave was busy, and that it asked is its entry; or memory wanted, and it added nothing
-abbrev pub WasRefused : {E : Type 0} → LeaveError → List E → Type 0
-WasRefused {E = E} Busy more = (x : E) × (more ≡ x ∷ [])
-WasRefused Memory more = more ≡ []
+abbrev pub WasRefused : {E : Type 0} → (E → Type 0) → LeaveError → List E → Type 0
+WasRefused {E = E} asked Busy more = (x : E) × (more ≡ x ∷ []) × asked x
+WasRefused asked Memory more = more ≡ []

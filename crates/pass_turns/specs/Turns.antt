@@ -43,11 +43,12 @@ pub record TookTurn {E B A : Type 0} (by : E → ℕ) (legal : B → List E → 
 
 -- A pass let another in: it found a history that begins with what it had seen, and added the entry that gives the other's
 -- number, which no entry had given
-pub record LetIn {E B : Type 0} (by : E → ℕ) (gives : E → Option ℕ) (legal : B → List E → Type 0) (b : B) (k k' new : Knows E) : Type 0 where
+pub record LetIn {E B : Type 0} (by : E → ℕ) (gives : E → Option ℕ) (lets_in : E → Type 0) (legal : B → List E → Type 0) (b : B) (k k' new : Knows E) : Type 0 where
   pub found : List E
   pub entry : E
   pub begins : StartsWith found k.seen
   pub by_it : by entry ≡ k.number
+  pub lets : lets_in entry
   pub gives_number : gives entry ≡ Some new.number
   pub not_first : new.number ≢ 0
   pub not_given : given gives new.number found ≡ false
@@ -80,13 +81,13 @@ pub record LetNobodyIn {E B : Type 0} (by : E → ℕ) (gives : E → Option ℕ
 
 -- A pass took another in: that one found a history that begins with what each of the two had seen, and its last entry is
 -- that by which it left
-pub record TookIn {E B : Type 0} (by : E → ℕ) (parts : E → Bool) (legal : B → List E → Type 0) (b : B) (k other k' : Knows E) : Type 0 where
+pub record TookIn {E B : Type 0} (by : E → ℕ) (left : E → Type 0) (legal : B → List E → Type 0) (b : B) (k other k' : Knows E) : Type 0 where
   pub found : List E
   pub entry : E
   pub begins : StartsWith found k.seen
   pub other_begins : StartsWith found other.seen
   pub by_it : by entry ≡ other.number
-  pub leaves : parts entry ≡ true
+  pub leaves : left entry
   pub number : k'.number ≡ k.number
   pub seen : k'.seen ≡ found ++ entry ∷ []
   pub mine : k'.mine ≡ k.mine
@@ -97,12 +98,12 @@ pub record TookIn {E B : Type 0} (by : E → ℕ) (parts : E → Bool) (legal : 
   pub faithful : IsFaithful by k'
 
 -- a pass that asked to leave stays: it found a history that begins with what it had seen, and added at most that it asked
-pub record StaysThere {E B : Type 0} (by : E → ℕ) (gives : E → Option ℕ) (parts : E → Bool) (legal : B → List E → Type 0) (b : B) (error : LeaveError) (k k' : Knows E) : Type 0 where
+pub record StaysThere {E B : Type 0} (by : E → ℕ) (gives : E → Option ℕ) (asked : E → Type 0) (legal : B → List E → Type 0) (b : B) (error : LeaveError) (k k' : Knows E) : Type 0 where
   pub found : List E
   pub added : List E
   pub begins : StartsWith found k.seen
-  pub adds : AddsUpToOne by gives parts k.number added
-  pub refused : WasRefused error added
+  pub adds : AddsUpToOne by gives k.number added
+  pub refused : WasRefused asked error added
   pub number : k'.number ≡ k.number
   pub seen : k'.seen ≡ found ++ added
   pub mine : k'.mine ≡ k.mine ++ added

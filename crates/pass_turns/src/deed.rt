@@ -20,5 +20,6 @@ pub trait Deed<S: Machine> {
         requires there { S.is_there (S.base machine.old) (S.list machine.old) pass ≡ true }
         requires may { may self.old (S.base machine.old) pass (S.list machine.old) }
         ensures base { S.base machine.new ≡ S.base machine.old }
-        ensures did { (more : List S.Entry) × (S.list machine.new ≡ S.list machine.old ++ more) × AddsUpToOne S.by S.gives S.parts pass more × did self.old self.new (S.base machine.old) pass (S.list machine.old) more result };
+        ensures did { (more : List S.Entry) × (S.list machine.new ≡ S.list machine.old ++ more) × AddsUpToOne S.by S.gives pass more × did self.old self.new (S.base machine.old) pass (S.list machine.old) more result }
+        ensures still { S.is_there (S.base machine.new) (S.list machine.new) pass ≡ true };
 }

@@ -23,7 +23,7 @@ pub(crate) fn let_in<S: Machine, R: Wait>(
     ensures idle { ((known token.new).holds ≡ false) × IfOk result (λ new. (known new).holds ≡ false) }
     ensures there { S.is_there (base_of S.base lock.now) (known token.new).seen (known token.new).number ≡ true }
     ensures new_there { IfOk result (λ new. S.is_there (base_of S.base lock.now) (known new).seen (known new).number ≡ true) }
-    ensures ok { IfOk result (λ new. LetIn S.by S.gives S.legal (base_of S.base lock.now) (shown (known token.old)) (shown (known token.new)) (shown (known new))) }
+    ensures ok { IfOk result (λ new. LetIn S.by S.gives S.lets_in S.legal (base_of S.base lock.now) (shown (known token.old)) (shown (known token.new)) (shown (known new))) }
     ensures err { OnErr result (LetNobodyIn S.by S.gives S.legal (base_of S.base lock.now) (shown (known token.old)) (shown (known token.new))) }
 {
     let mut machine = begin_turn(rt, lock, token);
@@ -63,9 +63,9 @@ pub(crate) fn take_in<S: Machine, R: Wait>(
     ensures idle { ((known token.new).holds ≡ false) × IfErr result (λ e. (known e.1).holds ≡ false) }
     ensures there { S.is_there (base_of S.base lock.now) (known token.new).seen (known token.new).number ≡ true }
     ensures other_there { IfErr result (λ e. S.is_there (base_of S.base lock.now) (known e.1).seen (known e.1).number ≡ true) }
-    ensures ok { OnOk result (TookIn S.by S.parts S.legal (base_of S.base lock.now) (shown (known token.old)) (shown (known other)) (shown (known token.new))) }
+    ensures ok { OnOk result (TookIn S.by S.left S.legal (base_of S.base lock.now) (shown (known token.old)) (shown (known other)) (shown (known token.new))) }
     ensures same { OnErr result (known token.new ≡ known token.old) }
-    ensures err { IfErr result (λ e. StaysThere S.by S.gives S.parts S.legal (base_of S.base lock.now) e.0 (shown (known other)) (shown (known e.1))) }
+    ensures err { IfErr result (λ e. StaysThere S.by S.gives S.asked S.legal (base_of S.base lock.now) e.0 (shown (known other)) (shown (known e.1))) }
 {
     let mut machine = begin_turn(rt, lock, &mut other);
     let left = machine.leave(alloc, other.number());

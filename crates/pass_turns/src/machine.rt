@@ -24,8 +24,14 @@ pub trait Machine: Logged {
     // after the entries the pass is there: it has entered and hasn't left
     ghost is_there: { Self.Base → List Self.Entry → ℕ → Bool };
 
-    // by the entry its pass leaves
-    ghost parts: { Self.Entry → Bool };
+    // the entry lets a pass in
+    ghost lets_in: { Self.Entry → Type 0 };
+
+    // by the entry its pass has left
+    ghost left: { Self.Entry → Type 0 };
+
+    // by the entry its pass asked to leave, and stays
+    ghost asked: { Self.Entry → Type 0 };
 
     // after the entries nothing is out, so that the machine may be closed
     ghost may_close: { Self.Base → List Self.Entry → Bool };
@@ -42,18 +48,19 @@ pub trait Machine: Logged {
     fn enter(&mut self, alloc: Global, pass: u64) -> Result<u64, NoMemory>
         requires { is_there (Self.base self.old) (Self.list self.old) pass ≡ true }
         ensures base { Self.base self.new ≡ Self.base self.old }
-        ensures ok { IfOk result (λ m. (x : Self.Entry) × (Self.list self.new ≡ Self.list self.old ++ x ∷ []) × (Self.by x ≡ pass) × (parts x ≡ false) × (Self.gives x ≡ Some m)) }
+        ensures ok { IfOk result (λ m. (x : Self.Entry) × (Self.list self.new ≡ Self.list self.old ++ x ∷ []) × (Self.by x ≡ pass) × lets_in x × (Self.gives x ≡ Some m)) }
         ensures new { IfOk result (λ m. (m ≢ 0) × (given Self.gives m (Self.list self.old) ≡ false)) }
-        ensures there { IfOk result (λ m. is_there (Self.base self.new) (Self.list self.new) m ≡ true) }
+        ensures there { IfOk result (λ m. (is_there (Self.base self.new) (Self.list self.new) m ≡ true) × (is_there (Self.base self.new) (Self.list self.new) pass ≡ true)) }
         ensures err { OnErr result (Self.list self.new ≡ Self.list self.old) };
 
     /// The pass leaves, unless it has something that it must give back first. Both is written down.
     fn leave(&mut self, alloc: Global, pass: u64) -> Result<(), LeaveError>
         requires { is_there (Self.base self.old) (Self.list self.old) pass ≡ true }
         ensures base { Self.base self.new ≡ Self.base self.old }
-        ensures ok { OnOk result ((x : Self.Entry) × (Self.list self.new ≡ Self.list self.old ++ x ∷ []) × (Self.by x ≡ pass) × (parts x ≡ true) × (Self.gives x ≡ None)) }
-        ensures err { IfErr result (λ e. (more : List Self.Entry) × (Self.list self.new ≡ Self.list self.old ++ more) × AddsUpToOne Self.by Self.gives parts pass more × WasRefused e more) };
+        ensures ok { OnOk result ((x : Self.Entry) × (Self.list self.new ≡ Self.list self.old ++ x ∷ []) × (Self.by x ≡ pass) × left x × (Self.gives x ≡ None)) }
+        ensures err { IfErr result (λ e. (more : List Self.Entry) × (Self.list self.new ≡ Self.list self.old ++ more) × AddsUpToOne Self.by Self.gives pass more × WasRefused asked e more) }
+        ensures still { OnErr result (is_there (Self.base self.new) (Self.list self.new) pass ≡ true) };
 
-    // a pass that is there stays, whatever is done, but for an entry of its own by which it leaves
-    ghost stays: { (b : Self.Base) (h : List Self.Entry) (x : Self.Entry) (n : ℕ) → is_there b h n ≡ true → (parts x ≡ true → Self.Logged.by x ≢ n) → is_there b (h ++ x ∷ []) n ≡ true };
+    // a pass that is there stays while others do what they do
+    ghost stays: { (b : Self.Base) (h : List Self.Entry) (x : Self.Entry) (n : ℕ) → is_there b h n ≡ true → Self.Logged.by x ≢ n → is_there b (h ++ x ∷ []) n ≡ true };
 }

@@ -69,7 +69,7 @@ impl<S: Machine> Room<S> {
     ) -> Result<Pass<S>, NoMemory>
         requires { IsOf self.now pass.old }
         ensures of { IsOf self.now pass.new × IfOk result (IsOf self.now) }
-        ensures ok { IfOk result (λ new. LetIn S.by S.gives S.legal (base_of S.base self.now) (knows pass.old) (knows pass.new) (knows new)) }
+        ensures ok { IfOk result (λ new. LetIn S.by S.gives S.lets_in S.legal (base_of S.base self.now) (knows pass.old) (knows pass.new) (knows new)) }
         ensures err { OnErr result (LetNobodyIn S.by S.gives S.legal (base_of S.base self.now) (knows pass.old) (knows pass.new)) }
     {
         let token = let_in(rt, &self.lock, alloc, &mut pass.token)?;
@@ -87,9 +87,9 @@ impl<S: Machine> Room<S> {
     ) -> Result<(), (LeaveError, Pass<S>)>
         requires { IsOf self.now pass.old × IsOf self.now other }
         ensures of { IsOf self.now pass.new × IfErr result (λ e. IsOf self.now e.1) }
-        ensures ok { OnOk result (TookIn S.by S.parts S.legal (base_of S.base self.now) (knows pass.old) (knows other) (knows pass.new)) }
+        ensures ok { OnOk result (TookIn S.by S.left S.legal (base_of S.base self.now) (knows pass.old) (knows other) (knows pass.new)) }
         ensures same { OnErr result (knows pass.new ≡ knows pass.old) }
-        ensures err { IfErr result (λ e. StaysThere S.by S.gives S.parts S.legal (base_of S.base self.now) e.0 (knows other) (knows e.1)) }
+        ensures err { IfErr result (λ e. StaysThere S.by S.gives S.asked S.legal (base_of S.base self.now) e.0 (knows other) (knows e.1)) }
     {
         let Pass { token } = other;
         match take_in(rt, &self.lock, alloc, &mut pass.token, token) {

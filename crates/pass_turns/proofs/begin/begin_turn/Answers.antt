@@ -12,7 +12,7 @@ returns-clause-there g c =
     let l = g.S.Logged in
     let k = c.args.token.now in
     let t = c.take-machine.ensures in
-    there_found l.by l.gives m.parts m.is_there g.met.S.Machine.stays _ k.number k.seat.me.0.seen (l.list c.take-machine.result) k.seat.me.0.mine c.requires.there t.begins k.own (subst (λ z. of l.by z.number z.seen ≡ z.mine) t.pass t.own.0)
+    there_found l.by m.is_there g.met.S.Machine.stays _ k.number k.seat.me.0.seen (l.list c.take-machine.result) k.seat.me.0.mine c.requires.there t.begins k.own (subst (λ z. of l.by z.number z.seen ≡ z.mine) t.pass t.own.0)
 
 pub returns-clause-legal : goal.returns-clause-legal
 returns-clause-legal g c = subst (λ b. g.S.Machine.legal b (g.S.Logged.list c.take-machine.result)) c.take-machine.ensures.base c.settle.ensures

@@ -22,7 +22,7 @@ invariant_of-pass g c =
     (c.meet.ensures.holder c.requires.holds) c.meet.ensures.begins.1 c.meet.ensures.other c.meet-2.ensures.pass in
     let did = came l.by (known k) (known c.meet.new.other) (known c.meet-2.new.pass) (known c.args.token.now) (known c.meet.new.pass)
     (c.meet.ensures.holder c.requires.holds) c.meet.ensures.begins.1 c.meet.ensures.other c.meet-2.ensures.pass c.meet-2.ensures.own in
-    let found = there_found l.by l.gives m.parts m.is_there g.met.S.Machine.stays b k.number k.seat.me.0.seen h k.seat.me.0.mine (c.args.pass.now.there b c.requires.of.1.1) did.begins k.own did.own in
+    let found = there_found l.by m.is_there g.met.S.Machine.stays b k.number k.seat.me.0.seen h k.seat.me.0.mine (c.args.pass.now.there b c.requires.of.1.1) did.begins k.own did.own in
     record {
       idle = ap (λ z. z.holds) is ∙ c.args.pass.now.idle;
       there = λ x e. subst (λ z. m.is_there z c.meet-2.new.pass.seat.me.0.seen c.meet-2.new.pass.number ≡ true) (same_in _ b x c.meet-2.ensures.of.0.1 e)

@@ -1,7 +1,5 @@
 use Rattle.std.proofs.Common.{◌≡◌, true, sym, ap, ◌∙◌, subst, ◌++◌}
-use Rattle.pass_turns.specs.Adds.{AddsUpToOne}
 use Rattle.pass_turns.specs.Tokens.{gave}
-use Rattle.pass_turns.proofs.There.{there_after}
 use Rattle.pass_turns.proofs.Turned.{same_in}
 use Rattle.pass_turns.proofs.room.Room.turn.Goals as goal
 
@@ -27,8 +25,9 @@ invariant_of-pass g c =
       idle = c.give_back.ensures.idle;
       there = λ x e.
           let same = same_in _ b x c.give_back.ensures.of.1 e in
-          let after = there_after l.by l.gives m.parts m.is_there g.met.S.Machine.stays b k.number (l.list c.begin_turn-machine.result) d.0 t.there (subst (λ j. AddsUpToOne l.by l.gives m.parts j d.0) n d.2) in
+          let xs = l.list c.make-answer.new.machine in
+          let after = subst (λ j. m.is_there b xs j ≡ true) n (subst (λ z. m.is_there z xs c.number-number.result ≡ true) (c.make-answer.ensures.base ∙ t.base) c.make-answer.ensures.still) in
           subst (λ z. m.is_there z c.give_back.new.pass.seat.me.0.seen c.give_back.new.pass.number ≡ true) same
           (subst (λ j. m.is_there b c.give_back.new.pass.seat.me.0.seen j ≡ true) (sym (ap (λ z. z.number) left))
-          (subst (λ s. m.is_there b s k.number ≡ true) (sym (ap (λ z. z.seen) left ∙ d.1)) after));
+          (subst (λ s. m.is_there b s k.number ≡ true) (sym (ap (λ z. z.seen) left)) after));
     }
