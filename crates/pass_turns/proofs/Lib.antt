@@ -3,3 +3,4 @@ pub mod Turned
 pub mod Entered
 pub mod Pairs
 pub mod Told
+pub mod Waited

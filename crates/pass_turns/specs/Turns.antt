@@ -41,6 +41,14 @@ pub record TookTurn {E B A : Type 0} (by : E → ℕ) (legal : B → List E → 
   pub legal_seen : legal b k'.seen
   pub faithful : IsFaithful by k'
 
+-- a pass looked on: it has seen a history that begins with what it had seen, and added nothing
+pub record LookedOn {E : Type 0} (by : E → ℕ) (k k' : Knows E) : Type 0 where
+  pub begins : StartsWith k'.seen k.seen
+  pub number : k'.number ≡ k.number
+  pub mine : k'.mine ≡ k.mine
+  pub lost : k'.lost ≡ k.lost
+  pub faithful : IsFaithful by k'
+
 -- A pass let another in: it found a history that begins with what it had seen, and added the entry that gives the other's
 -- number, which no entry had given
 pub record LetIn {E B : Type 0} (by : E → ℕ) (gives : E → Option ℕ) (lets_in : E → Type 0) (legal : B → List E → Type 0) (b : B) (k k' new : Knows E) : Type 0 where

@@ -3,6 +3,7 @@ ghost use Rattle.std.specs.Prelude.{◌≡◌, List, [], ◌∷◌, ◌++◌, �
 ghost use Rattle.std.specs.List.{AllByRecursion};
 ghost use Rattle.ws_turn.specs.Lists.{StartsWith, longer, of};
 
+use crate::attempt::Attempt;
 use crate::begin::begin_turn;
 use crate::deed::Deed;
 use crate::entering::{let_in, take_in};
@@ -11,6 +12,7 @@ use crate::meeting::tell_all;
 use crate::pass::Pass;
 use std::alloc::Global;
 use std::sync::Wait;
+use std::thread;
 use ws_turn::{NoMemory, Shared};
 
 /// A machine that many threads share, each with a pass. One pass at a time has its turn, in the order in which they asked,
@@ -21,6 +23,7 @@ pub struct Room<S: Machine> {
 }
 
 impl<S: Machine> Room<S> {
+    ghost use Rattle.pass_turns.specs.Adds.{Tried};
     ghost use Rattle.pass_turns.specs.Turns.{knows, base_of, IsOf, IsFaithful, TookTurn, LetIn, LetNobodyIn, TookIn, StaysThere, CameTo, EndsWith, Pairs};
 
     /// A room with this machine, which has done nothing yet, and its first pass, which has the number 0. Where memory wants
@@ -57,6 +60,51 @@ impl<S: Machine> Room<S> {
         machine.settle();
         self.lock.give_back(&mut pass.token, machine);
         answer
+    }
+
+    /// Waits for the pass's turn, and makes the attempt in it; none where it has to wait.
+    fn try_once<R: Wait, A: Attempt<S>>(
+        &self,
+        rt: &R,
+        alloc: Global,
+        pass: &mut Pass<S>,
+        attempt: &mut A,
+    ) -> Option<A::Answer>
+        requires of { IsOf self.now pass.old }
+        requires may { (h : List S.Entry) → StartsWith h (knows pass.old).seen → of S.by (knows pass.old).number h ≡ (knows pass.old).mine → S.legal (base_of S.base self.now) h
+            → A.may attempt.old (base_of S.base self.now) (knows pass.old).number h }
+        ensures of { IsOf self.now pass.new }
+        ensures took { TookTurn S.by S.legal (Tried (A.did attempt.old) (attempt.new ≡ attempt.old)) (base_of S.base self.now) result (knows pass.old) (knows pass.new) }
+    {
+        let mut machine = begin_turn(rt, &self.lock, &mut pass.token);
+        let number = pass.token.number();
+        let answer = attempt.attempt(alloc, &mut machine, number);
+        machine.settle();
+        self.lock.give_back(&mut pass.token, machine);
+        answer
+    }
+
+    /// Waits until the pass's attempt has an answer, turn after turn. It may wait for ever.
+    pub fn wait<R: Wait, A: Attempt<S>>(
+        &self,
+        rt: &R,
+        alloc: Global,
+        pass: &mut Pass<S>,
+        attempt: &mut A,
+    ) -> A::Answer
+        requires of { IsOf self.now pass.old }
+        requires may { (h : List S.Entry) → StartsWith h (knows pass.old).seen → of S.by (knows pass.old).number h ≡ (knows pass.old).mine → S.legal (base_of S.base self.now) h
+            → A.may attempt.old (base_of S.base self.now) (knows pass.old).number h }
+        ensures of { IsOf self.now pass.new }
+        ensures took { TookTurn S.by S.legal (A.did attempt.old) (base_of S.base self.now) result (knows pass.old) (knows pass.new) }
+    {
+        for _ in rt.forever() {
+            match self.try_once(rt, alloc, pass, attempt) {
+                Some(answer) => return answer,
+                None => thread::yield_now(),
+            }
+        }
+        unreachable!()
     }
 
     /// Lets a new pass in, whose number no pass has had, and which has seen what the pass has seen then. Waits for the pass's
