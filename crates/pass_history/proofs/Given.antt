@@ -114,8 +114,8 @@ given_between s [] m told is = absurd (true≢false (sym is))
 given_between s (x ∷ h) m told is =
     let t = heads _ _ _ _ told in
     has_here (gives x) m (numbers gives h) ((next_of s ≤ m) × (m < next_of (replay (after s x) h))) is
-      (λ here. let g = given_here s x m t.0 here in let n = replay_next (after s x) h in let a = g.0 in let b = g.1 in (omega (arith, a), omega (arith, a, b, n)))
-      (λ later. let g = given_between (after s x) h m t.1 later in let n = step_next s x.pass x.event in let a = g.0 in (omega (arith, a, n), g.1))
+    (λ here. let g = given_here s x m t.0 here in let n = replay_next (after s x) h in let a = g.0 in let b = g.1 in (omega (arith, a), omega (arith, a, b, n)))
+    (λ later. let g = given_between (after s x) h m t.1 later in let n = step_next s x.pass x.event in let a = g.0 in (omega (arith, a, n), g.1))
 
 -- so the next one was never given
 pub next_new : (s : Moment) (h : List Entry) → Legal s h → given gives (next_of (replay s h)) h ≡ false

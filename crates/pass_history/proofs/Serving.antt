@@ -1,5 +1,5 @@
 -- While a pass has the services no other does anything that concerns them.
-use Rattle.std.proofs.Common.{◌≡◌, ◌≢◌, ℕ, Bool, true, false, List, [], ◌∷◌, ◌++◌, map, refl, sym, ap, ◌∙◌, subst, append_assoc, inl, inr, ◌⊎◌, if◌then◌else◌}
+use Rattle.std.proofs.Common.{◌≡◌, ◌≢◌, ℕ, Bool, true, false, List, [], ◌∷◌, ◌++◌, map, refl, sym, ap, ◌∙◌, subst, append_assoc, inl, inr, ◌⊎◌, true≢false, if◌then◌else◌}
 use Rattle.std.specs.Prelude.{Option, Some, None}
 use Rattle.std.specs.Option.{option_or, option_to_list}
 use Rattle.std.specs.List.{AllByRecursion}
@@ -17,20 +17,20 @@ use Rattle.core_event.specs.declared.service.ServiceEvent.{ServiceEvent}
 use Rattle.core_event.specs.declared.service.ServiceEvent.TheVariants.{Checkout, CheckIn, Handed, Commit, Clean, Saving}
 use Rattle.core_event.specs.Events.{service_of}
 use Rattle.service_desk.specs.Desks.{is_building, is_saving, may_end}
-use Rattle.service_desk.specs.Refusals.{not_serving}
+use Rattle.service_desk.specs.Refusals.{not_serving, unrooted, project_causes, command_causes}
 use Rattle.service_desk.specs.Sites.{site_in}
 use Rattle.ws_core.specs.States.{Moment}
 use Rattle.ws_core.specs.Effects.{clean_for, commit_for, hand, serve}
-use Rattle.ws_core.specs.Refusals.{current, refusal, service_causes}
+use Rattle.ws_core.specs.Refusals.{current, edit_cause, no_build, refusal}
 use Rattle.ws_core.specs.Steps.{acted, act, told, tells, step}
-use Rattle.ws_core.specs.Histories.{after, replay, replies}
+use Rattle.ws_core.specs.Histories.{after, entry_of, replay, replies}
 use Rattle.ws_core.proofs.Grown.{replay_append}
 use Rattle.ws_core.proofs.ServingPass.{serving_named}
 use Rattle.ws_core.proofs.Stepped.{Concern, OfOperation, OfService, OfManager, concern_of}
 use Rattle.run_order.proofs.Managed.{step_services, told_answer}
 use Rattle.ws_turn.specs.Lists.{of}
 use Rattle.pass_turns.proofs.There.{others}
-use Rattle.pass_history.specs.Served.{Served, served, services_of, served_by, site_named, was_done, who_serves}
+use Rattle.pass_history.specs.Served.{Served, keeps_services, moves_nothing, served, services_of, served_by, site_named, was_done, who_serves}
 use Rattle.pass_history.proofs.Given.{heads}
 
 abbrev serving_of : Moment → Option ℕ
@@ -76,13 +76,13 @@ done_serving s j k (Checkout (Build kind scope)) other none is = other (same_som
 done_serving s j k (Checkout (Save kind)) other none is = other (same_some j k is)
 done_serving s j k (CheckIn outcome) other none is = none_some k is
 done_serving s j k (Handed project index kind) other none is =
-    other (same_some j k (sym (serving_named s.manager.passes (is_building s.desk.serving) j (first_none _ _ none)) ∙ (sym (hand_serving s (site_in s.resources.tree project index) kind) ∙ is)))
+    other (same_some j k (sym (serving_named s.manager.passes (is_building s.desk.serving) j (first_none _ (unrooted s.manager.passes.rules j ∷ (project_causes s.resources.tree project ++ command_causes s.resources.tree s.desk.builders project index)) none)) ∙ (sym (hand_serving s (site_in s.resources.tree project index) kind) ∙ is)))
 done_serving s j k (Commit edits) other none is =
-    other (same_some j k (sym (serving_named s.manager.passes (is_building s.desk.serving) j (first_none _ _ none)) ∙ (sym (commit_serving s (current s) edits) ∙ is)))
+    other (same_some j k (sym (serving_named s.manager.passes (is_building s.desk.serving) j (first_none _ (no_build (current s) ∷ unrooted s.manager.passes.rules j ∷ edit_cause s.resources edits (current s) ∷ []) none)) ∙ (sym (commit_serving s (current s) edits) ∙ is)))
 done_serving s j k (Clean project index) other none is =
-    other (same_some j k (sym (serving_named s.manager.passes (is_building s.desk.serving) j (first_none _ _ none)) ∙ (sym (clean_serving s (site_in s.resources.tree project index)) ∙ is)))
+    other (same_some j k (sym (serving_named s.manager.passes (is_building s.desk.serving) j (first_none _ (unrooted s.manager.passes.rules j ∷ (project_causes s.resources.tree project ++ command_causes s.resources.tree s.desk.builders project index)) none)) ∙ (sym (clean_serving s (site_in s.resources.tree project index)) ∙ is)))
 done_serving s j k (Saving states) other none is =
-    other (same_some j k (sym (serving_named s.manager.passes (is_saving s.desk.serving) j (first_none _ _ none)) ∙ is))
+    other (same_some j k (sym (serving_named s.manager.passes (is_saving s.desk.serving) j (first_none _ [] none)) ∙ is))
 
 -- where a pass has the services after an event of another, it had them before, and the other was refused
 pub others_refused : (s : Moment) (j k : ℕ) (x : ServiceEvent) → j ≢ k → serving_of (step s j (Service x)).0 ≡ Some k → (serving_of s ≡ Some k) × Refuses s j x
@@ -144,3 +144,56 @@ quiet_services s (x ∷ h) all = ap (λ o. option_to_list o ++ services_of (afte
 pub services_append : (s : Moment) (g h : List Entry) → services_of s (g ++ h) ≡ services_of s g ++ services_of (replay s g) h
 services_append s [] h = refl
 services_append s (x ∷ g) h = ap (λ l. option_to_list (served s x) ++ l) (services_append (after s x) g h) ∙ sym (append_assoc (option_to_list (served s x)) (services_of (after s x) g) (services_of (replay (after s x) g) h))
+
+-- ---- an event that takes no services and gives none back
+
+pub moved_nothing : (s : Moment) (k : ℕ) (e : Event) → keeps_services e ≡ true → serving_of (step s k e).0 ≡ serving_of s
+moved_nothing s k e keeps = by (concern_of e)
+  where
+    still : (x : ServiceEvent) → moves_nothing x ≡ true → serving_of (serve s k x).0 ≡ serving_of s
+    still (Checkout purpose) is = absurd (true≢false (sym is))
+    still (CheckIn outcome) is = absurd (true≢false (sym is))
+    still (Handed project index kind) is = hand_serving s (site_in s.resources.tree project index) kind
+    still (Commit edits) is = commit_serving s (current s) edits
+    still (Clean project index) is = clean_serving s (site_in s.resources.tree project index)
+    still (Saving states) is = refl
+
+    acted_still : (x : ServiceEvent) (r : Option Refusal) → moves_nothing x ≡ true → serving_of (acted r s k (Service x)).0 ≡ serving_of s
+    acted_still x None is = still x is
+    acted_still x (Some r) is = refl
+
+    by : Concern e → serving_of (step s k e).0 ≡ serving_of s
+    by (OfOperation op is) = step_services s k e (ap service_of is)
+    by (OfManager none plain) = step_services s k e plain
+    by (OfService x is) = subst (λ z. serving_of (step s k z).0 ≡ serving_of s) (sym is)
+        (told_serving (tells (Service x) (act s k (Service x)).0) (act s k (Service x)).0 (act s k (Service x)).1
+        ∙ acted_still x (refusal s k (Service x)) (sym (ap keeps_services is) ∙ keeps))
+
+-- where no pass has the services such an event is refused, or doesn't concern them
+pub nobody_serves : (s : Moment) (k : ℕ) (e : Event) → keeps_services e ≡ true → serving_of s ≡ None → IsQuiet (entry_of s k e)
+nobody_serves s k e keeps nobody = by (concern_of e)
+  where
+    served : (o : Option ℕ) → serving_of s ≡ o → o ≡ Some k → ⊥
+    served o is some = none_some k (sym nobody ∙ (is ∙ some))
+
+    never : (x : ServiceEvent) → moves_nothing x ≡ true → refusal s k (Service x) ≡ None → ⊥
+    never (Checkout purpose) is none = true≢false (sym is)
+    never (CheckIn outcome) is none = true≢false (sym is)
+    never (Handed project index kind) is none =
+        served _ refl (serving_named s.manager.passes (is_building s.desk.serving) k (first_none _ (unrooted s.manager.passes.rules k ∷ (project_causes s.resources.tree project ++ command_causes s.resources.tree s.desk.builders project index)) none))
+    never (Commit edits) is none =
+        served _ refl (serving_named s.manager.passes (is_building s.desk.serving) k (first_none _ (no_build (current s) ∷ unrooted s.manager.passes.rules k ∷ edit_cause s.resources edits (current s) ∷ []) none))
+    never (Clean project index) is none =
+        served _ refl (serving_named s.manager.passes (is_building s.desk.serving) k (first_none _ (unrooted s.manager.passes.rules k ∷ (project_causes s.resources.tree project ++ command_causes s.resources.tree s.desk.builders project index)) none))
+    never (Saving states) is none = served _ refl (serving_named s.manager.passes (is_saving s.desk.serving) k (first_none _ [] none))
+
+    refused : (x : ServiceEvent) (r : Option Refusal) → refusal s k (Service x) ≡ r → moves_nothing x ≡ true → was_done (act s k (Service x)).1 ≡ false
+    refused x None is moves = absurd (never x moves is)
+    refused x (Some r) is moves = ap (λ o. was_done (acted o s k (Service x)).1) is
+
+    by : Concern e → IsQuiet (entry_of s k e)
+    by (OfOperation op is) = inl (ap service_of is)
+    by (OfManager none plain) = inl plain
+    by (OfService x is) = inr (ap (λ z. was_done (step s k z).1.answer) is
+        ∙ (ap was_done (told_answer (tells (Service x) (act s k (Service x)).0) (act s k (Service x)).0 (act s k (Service x)).1)
+        ∙ refused x (refusal s k (Service x)) refl (sym (ap keeps_services is) ∙ keeps)))

@@ -3,6 +3,8 @@ use Rattle.std.specs.Prelude.{◌≡◌, ℕ, Bool, true, false, if◌then◌els
 use Rattle.std.specs.Option.{option_to_list}
 use Rattle.build_due.specs.declared.site.Site.{Site}
 use Rattle.core_event.specs.declared.entry.Entry.{Entry}
+use Rattle.core_event.specs.declared.event.Event.{Event}
+use Rattle.core_event.specs.declared.event.Event.TheVariants.{Service}
 use Rattle.core_event.specs.declared.reply.Answer.{Answer}
 use Rattle.core_event.specs.declared.reply.Answer.TheVariants.{Refused}
 use Rattle.core_event.specs.declared.service.ServiceEvent.{ServiceEvent}
@@ -15,6 +17,19 @@ use Rattle.ws_core.specs.Histories.{after, replay}
 -- the pass that has the services after the history, if one has them
 abbrev pub who_serves : Moment → List Entry → Option ℕ
 who_serves s h = (replay s h).manager.passes.services
+
+-- the services neither go out by the event nor come home
+abbrev pub moves_nothing : ServiceEvent → Bool
+moves_nothing (Checkout purpose) = false
+moves_nothing (CheckIn outcome) = false
+moves_nothing (Handed project index kind) = true
+moves_nothing (Commit edits) = true
+moves_nothing (Clean project index) = true
+moves_nothing (Saving states) = true
+
+abbrev pub keeps_services : Event → Bool
+keeps_services (Service x) = moves_nothing x
+keeps_services event = true
 
 -- the event isn't refused
 abbrev pub was_done : Answer → Bool

@@ -1,0 +1,4 @@
+pub mod Opened
+pub mod Fits
+pub mod Halls
+pub mod Asked

@@ -1,0 +1,62 @@
+//! What the lock keeps.
+ghost use Rattle.std.specs.Prelude.{◌≡◌, ◌∷◌, [], true, None as nothing, IfOk, IsOk, OnOk, OnErr, is_some};
+ghost use Rattle.core_event.specs.Events.{service_of};
+ghost use Rattle.job_manager.specs.Ends.{EndsLast};
+ghost use Rattle.job_manager.specs.Managers.{first_manager};
+ghost use Rattle.ws_core.specs.Histories.{entry_of, has_entered, replay, written};
+ghost use Rattle.ws_core.specs.Steps.{step};
+
+use crate::vow::Vow;
+use crate::{Opening, Services};
+use builder_api::Builder;
+use core_event::{Event, Reply};
+use elem_tree::LayerTree;
+use res_path::NoMemory;
+use save_round::Participant;
+use std::alloc::Global;
+use std::marker::{Model, PhantomData};
+use ws_core::Core;
+use ws_outside::Disk;
+
+/// The core of a workspace, with its services while no pass has them. A contract sees these, and with which services the
+/// workspace was opened.
+///
+/// The services are home exactly where no pass has them, and then they fit what was done.
+#[derive(Drop)]
+pub struct Locked<D: Disk, B: Builder, P: Participant, V: Vow> {
+    pub(crate) core: Core<LayerTree>,
+    pub(crate) services: Option<Services<D, B, P>>,
+    pub(crate) opening: Opening<D, B, P>,
+    pub(crate) vow: PhantomData<V>,
+}
+
+impl<D: Disk, B: Builder, P: Participant, V: Vow> Model for Locked<D, B, P, V> {
+    ghost use Rattle.std.specs.Prelude.{◌≡◌, Option, Some, None};
+    ghost use Rattle.std.specs.Option.{option_map};
+    ghost use Rattle.std.specs.Coded.{codes};
+    ghost use Rattle.core_event.specs.contracts.entry.Entry as of_entry;
+    ghost use Rattle.ws_durable.specs.contracts.durable.Durable as durable;
+    ghost use Rattle.ws_elem.specs.contracts.element.Element as element;
+    ghost use Rattle.proj_desc.specs.contracts.command.Command as command;
+    ghost use Rattle.job_manager.specs.contracts.manager.JobManager as job_manager;
+    ghost use Rattle.service_desk.specs.contracts.desk.Desk as desk;
+    ghost use Rattle.ws_core.specs.Inside.Codes.{moment_code};
+    ghost use Rattle.ws_shared.specs.Fits.{Fits};
+    ghost use Rattle.ws_shared.specs.Halls.{Hall, IsHall, Trio};
+
+    ghost Value = { Hall D B P };
+
+    ghost coded = { Prim.hlevel (codes, of_entry.the_row.coded, durable.the_row.coded, moment_code element.the_row.coded command.the_row.coded job_manager.the_row.coded desk.the_row.coded) };
+
+    ghost view = { λ l. record {
+        core = l.core;
+        services = option_map (λ s. record { keeper = s.keeper; builders = s.builders; participants = s.participants }) l.services;
+        opening = l.opening;
+    } };
+
+    ghost invariant = { λ l. IsHall B.tells P.tells (Fits D.moment D.left_since D.may_leave D.faults V.fits) (record {
+        core = l.core;
+        services = option_map (λ s. record { keeper = s.keeper; builders = s.builders; participants = s.participants }) l.services;
+        opening = l.opening;
+    }) };
+}
