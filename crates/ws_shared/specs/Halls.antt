@@ -5,6 +5,7 @@ use Rattle.builder_api.specs.Told.{Told as BuilderTold}
 use Rattle.save_round.specs.Told.{Told as PartTold}
 use Rattle.job_manager.specs.Managers.{first_manager}
 use Rattle.core_event.specs.declared.entry.Entry.{Entry}
+use Rattle.ws_core.specs.States.{Moment}
 use Rattle.ws_core.specs.Sessions.{Session}
 use Rattle.save_history.specs.Kept.{Keeper}
 use Rattle.save_history.specs.Rounds.{rounds_of}
@@ -40,3 +41,7 @@ pub record IsHall {D B P : Type 0} (b : B → BuilderTold) (p : P → PartTold) 
   pub home : is_some l.core.state.manager.passes.services ≡ is_none l.services
   pub rests : ForSome l.services (λ s. (rounds_of l.core.history).under ≡ None)
   pub fit : ForSome l.services (λ s. fits (opened_by b p l.opening) l.opening.keeper.value l.core.history (told_by b p s))
+
+-- the state that was opened
+abbrev pub opened_in : {D B P : Type 0} → Hall D B P → Moment
+opened_in l = l.opening.core.value.opened

@@ -2,3 +2,4 @@ pub mod Opened
 pub mod Fits
 pub mod Halls
 pub mod Asked
+pub mod Calls

@@ -1,10 +1,6 @@
 //! What the lock keeps.
-ghost use Rattle.std.specs.Prelude.{◌≡◌, ◌∷◌, [], true, None as nothing, IfOk, IsOk, OnOk, OnErr, is_some};
-ghost use Rattle.core_event.specs.Events.{service_of};
-ghost use Rattle.job_manager.specs.Ends.{EndsLast};
-ghost use Rattle.job_manager.specs.Managers.{first_manager};
-ghost use Rattle.ws_core.specs.Histories.{entry_of, has_entered, replay, written};
-ghost use Rattle.ws_core.specs.Steps.{step};
+ghost use Rattle.std.specs.Prelude.{◌≡◌, ◌++◌, List, true};
+ghost use Rattle.core_event.specs.declared.entry.Entry.{Entry};
 
 use crate::vow::Vow;
 use crate::{Opening, Services};
@@ -49,14 +45,32 @@ impl<D: Disk, B: Builder, P: Participant, V: Vow> Model for Locked<D, B, P, V> {
     ghost coded = { Prim.hlevel (codes, of_entry.the_row.coded, durable.the_row.coded, moment_code element.the_row.coded command.the_row.coded job_manager.the_row.coded desk.the_row.coded) };
 
     ghost view = { λ l. record {
-        core = l.core;
-        services = option_map (λ s. record { keeper = s.keeper; builders = s.builders; participants = s.participants }) l.services;
-        opening = l.opening;
+      core = l.core;
+      services = option_map (λ s. record { keeper = s.keeper; builders = s.builders; participants = s.participants }) l.services;
+      opening = l.opening;
     } };
 
     ghost invariant = { λ l. IsHall B.tells P.tells (Fits D.moment D.left_since D.may_leave D.faults V.fits) (record {
-        core = l.core;
-        services = option_map (λ s. record { keeper = s.keeper; builders = s.builders; participants = s.participants }) l.services;
-        opening = l.opening;
+      core = l.core;
+      services = option_map (λ s. record { keeper = s.keeper; builders = s.builders; participants = s.participants }) l.services;
+      opening = l.opening;
     }) };
+}
+
+impl<D: Disk, B: Builder, P: Participant, V: Vow> Locked<D, B, P, V> {
+    ghost use Rattle.pass_history.specs.Served.{keeps_services};
+    ghost use Rattle.pass_history.specs.There.{is_there};
+    ghost use Rattle.ws_shared.specs.Asked.{WasAsked};
+    ghost use Rattle.ws_shared.specs.Halls.{opened_in};
+
+    /// Does an event by which the services stay where they are, as `Core::step` does.
+    pub(crate) fn ask(&mut self, alloc: Global, pass: u64, event: Event) -> Result<Reply, NoMemory>
+        requires there { is_there (opened_in self.old) self.old.core.history pass ≡ true }
+        requires keeps { keeps_services event ≡ true }
+        ensures opening { self.new.opening ≡ self.old.opening }
+        ensures asked { (added : List Entry) × (self.new.core.history ≡ self.old.core.history ++ added) × WasAsked event (opened_in self.old) pass self.old.core.history added result }
+    {
+        let _ = self.core.state();
+        self.core.step(alloc, pass, event)
+    }
 }

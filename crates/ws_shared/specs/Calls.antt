@@ -1,0 +1,30 @@
+-- What contracts see of a workspace and its passes.
+use Rattle.std.specs.Prelude.{ℕ, List, Result}
+use Rattle.std.specs.declared.alloc.AllocError.{AllocError}
+use Rattle.core_event.specs.declared.entry.Entry.{Entry}
+use Rattle.core_event.specs.declared.event.Event.{Event}
+use Rattle.core_event.specs.declared.reply.Reply.{Reply}
+use Rattle.ws_core.specs.States.{Moment}
+use Rattle.ws_core.specs.Histories.{Legal}
+use Rattle.pass_turns.specs.Turns as rooms
+use Rattle.pass_turns.specs.Turns.{Knows, TookTurn}
+use Rattle.ws_shared.specs.Asked.{WasAsked}
+use Rattle.ws_shared.specs.Halls.{Hall}
+use Rattle.ws_shared.specs.declared.services.Opening.{Opening}
+
+-- the pass that made an entry
+abbrev pub pass_of : Entry → ℕ
+pass_of x = x.pass
+
+-- the state that was opened
+abbrev pub state_in : {D B P : Type 0} → Opening D B P → Moment
+state_in o = o.core.value.opened
+
+-- the entries may follow it
+abbrev pub legal_from : {D B P : Type 0} → Opening D B P → List Entry → Type 0
+legal_from o h = Legal (state_in o) h
+
+-- the pass did the event in a turn of its own: it found a history that begins with what it had seen, and its entry is the last
+-- of what it has seen then
+abbrev pub Asked : {D B P : Type 0} → Opening D B P → Event → Result Reply AllocError → Knows Entry → Knows Entry → Type 0
+Asked o e answer k k' = TookTurn pass_of legal_from (λ p. WasAsked e (state_in p)) o answer k k'

@@ -1,0 +1,42 @@
+//! An event of a pass, in one turn.
+ghost use Rattle.std.specs.Prelude.{◌≡◌, Some};
+
+use crate::Locked;
+use crate::vow::Vow;
+use builder_api::Builder;
+use core_event::{Event, Reply};
+use pass_turns::Deed;
+use res_path::NoMemory;
+use save_round::Participant;
+use std::alloc::Global;
+use ws_outside::Disk;
+
+/// An event to be done in the pass's next turn, whatever it is answered.
+#[derive(Drop)]
+pub(crate) struct Ask {
+    pub event: Option<Event>,
+}
+
+impl<D: Disk, B: Builder, P: Participant, V: Vow> Deed<Locked<D, B, P, V>> for Ask {
+    ghost use Rattle.std.specs.Prelude.{◌≡◌, Some, true};
+    ghost use Rattle.core_event.specs.declared.event.Event.{Event};
+    ghost use Rattle.ws_shared.specs.Asked.{is_plain, WasAsked};
+
+    type Answer = Result<Reply, NoMemory>;
+
+    ghost may = { λ a o n found. (e : Event) × (a.event ≡ Some e) × (is_plain e ≡ true) };
+
+    ghost did = { λ a b o n found added answer. (e : Event) → a.event ≡ Some e → WasAsked e o.core.value.opened n found added answer };
+
+    fn make(
+        &mut self,
+        alloc: Global,
+        machine: &mut Locked<D, B, P, V>,
+        pass: u64,
+    ) -> Result<Reply, NoMemory> {
+        match self.event.take() {
+            Some(event) => machine.ask(alloc, pass, event),
+            None => unreachable!(),
+        }
+    }
+}
