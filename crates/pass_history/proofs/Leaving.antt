@@ -61,3 +61,14 @@ first_there s is = ap (λ (m : JobManager). has_pass m.passes 0) is ∙ ap is_so
   where
     none : FinMap nat_cmp Pass
     none = empty
+
+-- the pass that was let in is there
+pub enter_there : (s : Moment) (k : ℕ) → has_entered s.manager.passes.next (step s k Enter).0 ≡ true
+enter_there s k = ap (λ (m : JobManager). has_pass m.passes s.manager.passes.next) (step_manager s k Enter refl)
+    ∙ ap is_some (get-insert nat_cmp_total t n idle n ∙ ap (λ b. cond b (Some idle) (get t n)) (itself nat_cmp_total n))
+  where
+    t : FinMap nat_cmp Pass
+    t = s.manager.passes.there
+
+    n : ℕ
+    n = s.manager.passes.next

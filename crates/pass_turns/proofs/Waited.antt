@@ -36,3 +36,21 @@ module _ {E B A : Type 0} (by : E → ℕ) (legal : B → List E → Type 0) (di
     legal_seen = turn.legal_seen;
     faithful = turn.faithful;
   }
+
+-- a turn that did more than is said of it did what is said
+pub turn_wider : {E B A : Type 0} (by : E → ℕ) (legal : B → List E → Type 0) (did does : B → ℕ → List E → List E → A → Type 0) (b : B) (answer : A) (k j : Knows E)
+    → ((n : ℕ) (found added : List E) → did b n found added answer → does b n found added answer) → TookTurn by legal did b answer k j → TookTurn by legal does b answer k j
+turn_wider by legal did does b answer k j so turn = record {
+  found = turn.found;
+  added = turn.added;
+  begins = turn.begins;
+  own_found = turn.own_found;
+  legal_found = turn.legal_found;
+  did_it = so k.number turn.found turn.added turn.did_it;
+  number = turn.number;
+  seen = turn.seen;
+  mine = turn.mine;
+  lost = turn.lost;
+  legal_seen = turn.legal_seen;
+  faithful = turn.faithful;
+}

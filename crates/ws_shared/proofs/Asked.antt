@@ -26,25 +26,25 @@ pub asked : (x y : Session) (s : Moment) (k : ℕ) (e : Event) (r : Result Reply
     → IfOk r (λ reply. reply ≡ (step x.state k e).1) → OnOk r (y.history ≡ written x.history (entry_of x.state k e)) → OnErr r (y ≡ x) → (EndsLast x.state.manager.passes.rules k e → IsOk r)
     → (added : List Entry) × (y.history ≡ x.history ++ added) × WasAsked e s k x.history added r
 asked x y s k e (Ok reply) at told history err never = (
-    noted (entry_of (replay s x.history) k e),
-    history ∙ (noted_on (only_tried (entry_of x.state k e)) x.history (entry_of x.state k e) ∙ ap (λ z. x.history ++ noted (entry_of z k e)) at),
-    record {
-      reply = told ∙ ap (λ z. (step z k e).1) at;
-      entry = refl;
-      nothing = tt;
-      never = λ last. never (subst (λ z. EndsLast z.manager.passes.rules k e) (sym at) last);
-    },
-  )
+  noted (entry_of (replay s x.history) k e),
+  history ∙ (noted_on (only_tried (entry_of x.state k e)) x.history (entry_of x.state k e) ∙ ap (λ z. x.history ++ noted (entry_of z k e)) at),
+  record {
+    reply = told ∙ ap (λ z. (step z k e).1) at;
+    entry = refl;
+    nothing = tt;
+    never = λ last. never (subst (λ z. EndsLast z.manager.passes.rules k e) (sym at) last);
+  },
+)
 asked x y s k e (Err error) at told history err never = (
-    [],
-    ap (λ (z : Session). z.history) err ∙ sym (append-nil x.history),
-    record {
-      reply = tt;
-      entry = tt;
-      nothing = refl;
-      never = λ last. never (subst (λ z. EndsLast z.manager.passes.rules k e) (sym at) last);
-    },
-  )
+  [],
+  ap (λ (z : Session). z.history) err ∙ sym (append-nil x.history),
+  record {
+    reply = tt;
+    entry = tt;
+    nothing = refl;
+    never = λ last. never (subst (λ z. EndsLast z.manager.passes.rules k e) (sym at) last);
+  },
+)
 
 -- ---- what a plain event adds
 

@@ -52,12 +52,12 @@ went_on x y k e (Ok reply) keeps opened state history err =
       quiet = λ nobody. subst (AllByRecursion IsQuiet) (sym w.2) (quiet_noted (only_tried (entry_of x.state k e)) (entry_of x.state k e) (nobody_serves x.state k e keeps nobody));
     }
 went_on x y k e (Err error) keeps opened state history err = record {
-    opened = opened;
-    services = ap (λ (z : Session). z.state.manager.passes.services) err;
-    entries = [];
-    history = ap (λ (z : Session). z.history) err ∙ sym (append-nil x.history);
-    quiet = λ nobody. tt;
-  }
+  opened = opened;
+  services = ap (λ (z : Session). z.state.manager.passes.services) err;
+  entries = [];
+  history = ap (λ (z : Session). z.history) err ∙ sym (append-nil x.history);
+  quiet = λ nobody. tt;
+}
 
 some_home : {T : Type 0} (o : Option ℕ) (s : Option T) (t : T) → is_some o ≡ is_none s → s ≡ Some t → o ≡ None
 some_home None s t home is = refl

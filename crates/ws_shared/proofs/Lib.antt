@@ -1,3 +1,4 @@
 pub mod Fitting
 pub mod Halls
 pub mod Asked
+pub mod Numbers

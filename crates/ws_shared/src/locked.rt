@@ -58,10 +58,20 @@ impl<D: Disk, B: Builder, P: Participant, V: Vow> Model for Locked<D, B, P, V> {
 }
 
 impl<D: Disk, B: Builder, P: Participant, V: Vow> Locked<D, B, P, V> {
+    ghost use Rattle.job_manager.specs.Managers.{first_manager};
+    ghost use Rattle.ws_core.specs.Histories.{Legal};
     ghost use Rattle.pass_history.specs.Served.{keeps_services};
     ghost use Rattle.pass_history.specs.There.{is_there};
     ghost use Rattle.ws_shared.specs.Asked.{WasAsked};
     ghost use Rattle.ws_shared.specs.Halls.{opened_in};
+
+    /// The workspace was opened with no job, and its history may follow. Nothing is done.
+    pub(crate) fn stands(&self)
+        ensures first { (opened_in self.now).manager ≡ first_manager }
+        ensures legal { Legal (opened_in self.now) self.now.core.history }
+    {
+        let _ = self.core.history();
+    }
 
     /// Does an event by which the services stay where they are, as `Core::step` does.
     pub(crate) fn ask(&mut self, alloc: Global, pass: u64, event: Event) -> Result<Reply, NoMemory>

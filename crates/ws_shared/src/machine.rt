@@ -1,4 +1,6 @@
 //! What the lock keeps, as a machine that passes share.
+ghost use Rattle.std.specs.Prelude.{◌≡◌, ◌≢◌, IfErr, OnOk};
+
 use crate::vow::Vow;
 use crate::{Locked, Opening};
 use builder_api::Builder;
@@ -58,6 +60,7 @@ impl<D: Disk, B: Builder, P: Participant, V: Vow> Machine for Locked<D, B, P, V>
     }
 
     fn enter(&mut self, alloc: Global, pass: u64) -> Result<u64, NoMemory> {
+        self.stands();
         let reply = self.ask(alloc, pass, Event::Enter)?;
         match reply.answer {
             Answer::Id(number) => Ok(number),
@@ -76,7 +79,10 @@ impl<D: Disk, B: Builder, P: Participant, V: Vow> Machine for Locked<D, B, P, V>
 }
 
 /// Whether the reply tells that the pass has left, or that it is busy.
-fn has_left(reply: &Reply) -> Result<(), LeaveError> {
+fn has_left(reply: &Reply) -> Result<(), LeaveError>
+    ensures ok { OnOk result (reply.now.answer ≡ Answer.Done) }
+    ensures err { IfErr result (λ e. (e ≡ LeaveError.Busy) × (reply.now.answer ≢ Answer.Done)) }
+{
     match reply.answer {
         Answer::Done => Ok(()),
         _ => Err(LeaveError::Busy),

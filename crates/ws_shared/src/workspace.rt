@@ -41,7 +41,24 @@ impl<D: Disk, B: Builder, P: Participant, V: Vow> Workspace<D, B, P, V> {
         ensures asked { Asked (base_of (λ l. l.opening) self.now.room) event result (knows pass.old) (knows pass.new) }
     {
         let mut deed = Ask { event: Some(event) };
-        self.room.turn(rt, alloc, pass, &mut deed)
+        let answer = self.room.turn(rt, alloc, pass, &mut deed);
+        drop(deed);
+        answer
+    }
+
+    /// The pass is to have the rule until it ends it, and doesn't wait: refused where another pass's rule is in the way.
+    pub fn try_begin_rule<R: Wait>(
+        &self,
+        rt: &R,
+        alloc: Global,
+        pass: &mut Pass<D, B, P, V>,
+        rule: WsRule,
+    ) -> Result<Reply, NoMemory>
+        requires { IsOf self.now.room pass.old }
+        ensures of { IsOf self.now.room pass.new }
+        ensures asked { Asked (base_of (λ l. l.opening) self.now.room) (Event.TryBegin rule) result (knows pass.old) (knows pass.new) }
+    {
+        self.ask(rt, alloc, pass, Event::TryBegin(rule))
     }
 
     /// The pass gives back the rule that it began last. It never wants memory where it is that one.
@@ -52,10 +69,67 @@ impl<D: Disk, B: Builder, P: Participant, V: Vow> Workspace<D, B, P, V> {
         pass: &mut Pass<D, B, P, V>,
         rule: WsRule,
     ) -> Result<Reply, NoMemory>
-        requires of { IsOf self.now.room pass.old }
+        requires { IsOf self.now.room pass.old }
         ensures of { IsOf self.now.room pass.new }
         ensures asked { Asked (base_of (λ l. l.opening) self.now.room) (Event.End rule) result (knows pass.old) (knows pass.new) }
     {
         self.ask(rt, alloc, pass, Event::End(rule))
+    }
+
+    /// All rules of the pass are the other's from now on.
+    pub fn transfer<R: Wait>(
+        &self,
+        rt: &R,
+        alloc: Global,
+        pass: &mut Pass<D, B, P, V>,
+        to: u64,
+    ) -> Result<Reply, NoMemory>
+        requires { IsOf self.now.room pass.old }
+        ensures of { IsOf self.now.room pass.new }
+        ensures asked { Asked (base_of (λ l. l.opening) self.now.room) (Event.Transfer to) result (knows pass.old) (knows pass.new) }
+    {
+        self.ask(rt, alloc, pass, Event::Transfer(to))
+    }
+
+    /// A batch begins: until it ends nothing is told but at checkpoints.
+    pub fn batch<R: Wait>(
+        &self,
+        rt: &R,
+        alloc: Global,
+        pass: &mut Pass<D, B, P, V>,
+    ) -> Result<Reply, NoMemory>
+        requires { IsOf self.now.room pass.old }
+        ensures of { IsOf self.now.room pass.new }
+        ensures asked { Asked (base_of (λ l. l.opening) self.now.room) Event.Batch result (knows pass.old) (knows pass.new) }
+    {
+        self.ask(rt, alloc, pass, Event::Batch)
+    }
+
+    /// The pass's newest batch ends.
+    pub fn end_batch<R: Wait>(
+        &self,
+        rt: &R,
+        alloc: Global,
+        pass: &mut Pass<D, B, P, V>,
+    ) -> Result<Reply, NoMemory>
+        requires { IsOf self.now.room pass.old }
+        ensures of { IsOf self.now.room pass.new }
+        ensures asked { Asked (base_of (λ l. l.opening) self.now.room) Event.EndBatch result (knows pass.old) (knows pass.new) }
+    {
+        self.ask(rt, alloc, pass, Event::EndBatch)
+    }
+
+    /// What changed is to be told.
+    pub fn checkpoint<R: Wait>(
+        &self,
+        rt: &R,
+        alloc: Global,
+        pass: &mut Pass<D, B, P, V>,
+    ) -> Result<Reply, NoMemory>
+        requires { IsOf self.now.room pass.old }
+        ensures of { IsOf self.now.room pass.new }
+        ensures asked { Asked (base_of (λ l. l.opening) self.now.room) Event.Checkpoint result (knows pass.old) (knows pass.new) }
+    {
+        self.ask(rt, alloc, pass, Event::Checkpoint)
     }
 }
