@@ -1,5 +1,5 @@
 -- What a pass's call of one event does.
-use Rattle.std.specs.Prelude.{◌≡◌, ℕ, Bool, true, false, List, [], ◌∷◌, if◌then◌else◌, Result, IfOk, IsOk, OnErr}
+use Rattle.std.specs.Prelude.{◌≡◌, ℕ, Bool, true, false, List, [], ◌∷◌, if◌then◌else◌, Option, Result, IfNone, IfOk, IfSome, IsOk, OnErr}
 use Rattle.std.specs.declared.alloc.AllocError.{AllocError}
 use Rattle.core_event.specs.declared.entry.Entry.{Entry}
 use Rattle.core_event.specs.declared.event.Event.{Event}
@@ -29,3 +29,16 @@ pub record WasAsked (e : Event) (s : Moment) (n : ℕ) (found added : List Entry
   pub entry : IfOk answer (λ r. added ≡ noted (entry_of (replay s found) n e))
   pub nothing : OnErr answer (added ≡ [])
   pub never : EndsLast (replay s found).manager.passes.rules n e → IsOk answer
+
+-- The same of an event that waited until it was more than an attempt
+pub record HasStood (e : Event) (s : Moment) (n : ℕ) (found added : List Entry) (answer : Result Reply AllocError) : Type 0 where
+  pub reply : IfOk answer (λ r. r ≡ (step (replay s found) n e).1)
+  pub entry : IfOk answer (λ r. added ≡ entry_of (replay s found) n e ∷ [])
+  pub nothing : OnErr answer (added ≡ [])
+
+-- an event was tried: it stood, or it only found that it must wait, and nothing was done
+pub record WasTried (e : Event) (s : Moment) (n : ℕ) (found added : List Entry) (answer : Result (Option Reply) AllocError) : Type 0 where
+  pub reply : IfOk answer (λ o. IfSome o (λ r. r ≡ (step (replay s found) n e).1))
+  pub entry : IfOk answer (λ o. IfSome o (λ r. added ≡ entry_of (replay s found) n e ∷ []))
+  pub waits : IfOk answer (λ o. IfNone o (added ≡ []))
+  pub nothing : OnErr answer (added ≡ [])

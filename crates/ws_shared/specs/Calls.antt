@@ -8,7 +8,7 @@ use Rattle.ws_core.specs.States.{Moment}
 use Rattle.ws_core.specs.Histories.{Legal}
 use Rattle.pass_turns.specs.Turns as rooms
 use Rattle.pass_turns.specs.Turns.{Knows, TookTurn}
-use Rattle.ws_shared.specs.Asked.{WasAsked}
+use Rattle.ws_shared.specs.Asked.{HasStood, WasAsked}
 use Rattle.ws_shared.specs.Halls.{Hall}
 use Rattle.ws_shared.specs.declared.services.Opening.{Opening}
 
@@ -28,3 +28,7 @@ legal_from o h = Legal (state_in o) h
 -- of what it has seen then
 abbrev pub Asked : {D B P : Type 0} → Opening D B P → Event → Result Reply AllocError → Knows Entry → Knows Entry → Type 0
 Asked o e answer k k' = TookTurn pass_of legal_from (λ p. WasAsked e (state_in p)) o answer k k'
+
+-- the same of an event that waited until it was more than an attempt
+abbrev pub Stood : {D B P : Type 0} → Opening D B P → Event → Result Reply AllocError → Knows Entry → Knows Entry → Type 0
+Stood o e answer k k' = TookTurn pass_of legal_from (λ p. HasStood e (state_in p)) o answer k k'

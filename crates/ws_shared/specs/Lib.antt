@@ -3,3 +3,4 @@ pub mod Fits
 pub mod Halls
 pub mod Asked
 pub mod Calls
+pub mod Jobs

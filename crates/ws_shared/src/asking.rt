@@ -5,7 +5,7 @@ use crate::Locked;
 use crate::vow::Vow;
 use builder_api::Builder;
 use core_event::{Event, Reply};
-use pass_turns::Deed;
+use pass_turns::{Attempt, Deed};
 use res_path::NoMemory;
 use save_round::Participant;
 use std::alloc::Global;
@@ -37,6 +37,39 @@ impl<D: Disk, B: Builder, P: Participant, V: Vow> Deed<Locked<D, B, P, V>> for A
         match self.event.take() {
             Some(event) => machine.ask(alloc, pass, event),
             None => unreachable!(),
+        }
+    }
+}
+
+/// An event to be done in one of the pass's turns: in a turn in which it only finds that it must wait nothing is done.
+#[derive(Drop)]
+pub(crate) struct Wish {
+    pub event: Event,
+}
+
+impl<D: Disk, B: Builder, P: Participant, V: Vow> Attempt<Locked<D, B, P, V>> for Wish {
+    ghost use Rattle.std.specs.Prelude.{◌≡◌, true};
+    ghost use Rattle.ws_shared.specs.Asked.{HasStood, is_plain};
+
+    type Answer = Result<Reply, NoMemory>;
+
+    ghost may = { λ a o n found. is_plain a.event ≡ true };
+
+    ghost did = { λ a o n found added answer. HasStood a.event o.core.value.opened n found added answer };
+
+    fn attempt(
+        &mut self,
+        alloc: Global,
+        machine: &mut Locked<D, B, P, V>,
+        pass: u64,
+    ) -> Option<Result<Reply, NoMemory>> {
+        if !machine.may_go(pass, &self.event) {
+            return None;
+        }
+        match machine.try_event(alloc, pass, &self.event) {
+            Ok(Some(reply)) => Some(Ok(reply)),
+            Ok(None) => None,
+            Err(error) => Some(Err(error)),
         }
     }
 }

@@ -5,18 +5,21 @@
 //! - `locked`: what the lock keeps: the core, and the services while they are home.
 //! - `machine`: that value as a machine that passes share.
 //! - `asking`: an event of a pass, in one turn.
+//! - `job`: a `JobEvent`, what a pass may ask of a job.
 //! - `workspace`: the `Workspace` with its calls.
 #![tactic(auto)]
 
 mod asking;
+mod job;
 mod locked;
 mod machine;
 mod services;
 mod vow;
 mod workspace;
 
+pub use job::JobEvent;
 pub use locked::Locked;
-pub use pass_turns::LeaveError;
+pub use pass_turns::LeaveError as JoinError;
 pub use res_path::NoMemory;
 pub use services::{Opening, Services};
 pub use vow::{Free, Vow};

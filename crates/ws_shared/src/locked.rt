@@ -5,7 +5,7 @@ ghost use Rattle.core_event.specs.declared.entry.Entry.{Entry};
 use crate::vow::Vow;
 use crate::{Opening, Services};
 use builder_api::Builder;
-use core_event::{Event, Reply};
+use core_event::{Event, Reply, WsRule};
 use elem_tree::LayerTree;
 use res_path::NoMemory;
 use save_round::Participant;
@@ -62,7 +62,7 @@ impl<D: Disk, B: Builder, P: Participant, V: Vow> Locked<D, B, P, V> {
     ghost use Rattle.ws_core.specs.Histories.{Legal};
     ghost use Rattle.pass_history.specs.Served.{keeps_services};
     ghost use Rattle.pass_history.specs.There.{is_there};
-    ghost use Rattle.ws_shared.specs.Asked.{WasAsked};
+    ghost use Rattle.ws_shared.specs.Asked.{WasAsked, WasTried};
     ghost use Rattle.ws_shared.specs.Halls.{opened_in};
 
     /// The workspace was opened with no job, and its history may follow. Nothing is done.
@@ -83,4 +83,36 @@ impl<D: Disk, B: Builder, P: Participant, V: Vow> Locked<D, B, P, V> {
         let _ = self.core.state();
         self.core.step(alloc, pass, event)
     }
+
+    /// Whether it is worth to try the event: false only where it would find that it must wait. It takes no memory.
+    pub(crate) fn may_go(&self, pass: u64, event: &Event) -> bool {
+        match event {
+            Event::Begin(rule) => may_begin(&self.core, pass, rule),
+            _ => true,
+        }
+    }
+
+    /// Tries the event, which is copied, as `ask` does it; none where it only found that it must wait.
+    pub(crate) fn try_event(
+        &mut self,
+        alloc: Global,
+        pass: u64,
+        event: &Event,
+    ) -> Result<Option<Reply>, NoMemory>
+        requires there { is_there (opened_in self.old) self.old.core.history pass ≡ true }
+        requires keeps { keeps_services event.now ≡ true }
+        ensures opening { self.new.opening ≡ self.old.opening }
+        ensures tried { (added : List Entry) × (self.new.core.history ≡ self.old.core.history ++ added) × WasTried event.now (opened_in self.old) pass self.old.core.history added result }
+    {
+        let reply = self.ask(alloc, pass, event.copy()?)?;
+        if reply.answer.is_attempt(event) {
+            return Ok(None);
+        }
+        Ok(Some(reply))
+    }
+}
+
+/// Whether no rule of another pass may be in the way of this one.
+fn may_begin(core: &Core<LayerTree>, pass: u64, rule: &WsRule) -> bool {
+    core.outer(pass).is_some() || core.state().manager().passes.rules().is_free(rule)
 }

@@ -1,13 +1,18 @@
 //! A workspace that many threads share.
-ghost use Rattle.std.specs.Prelude.{◌≡◌, true};
-ghost use Rattle.pass_turns.specs.Turns.{base_of, knows, IsOf};
+ghost use Rattle.std.specs.Prelude.{◌≡◌, true, IfErr, IfOk, OnErr, OnOk};
+ghost use Rattle.ws_turn.specs.Lists.{StartsWith, longer};
+ghost use Rattle.pass_turns.specs.Turns.{base_of, knows, IsFaithful, IsOf, LetIn, LetNobodyIn, StaysThere, TookIn};
+ghost use Rattle.pass_history.specs.There.{gives, HasLeft, LetsIn, WasBusy};
+ghost use Rattle.ws_shared.specs.Jobs.{job_event};
 ghost use Rattle.ws_shared.specs.Asked.{is_plain};
 
-use crate::asking::Ask;
+use crate::asking::{Ask, Wish};
+use crate::job::JobEvent;
 use crate::vow::Vow;
-use crate::{Locked, NoMemory};
+use crate::{JoinError, Locked, NoMemory};
 use builder_api::Builder;
 use core_event::{Event, Reply, WsRule};
+use op_kind::Op;
 use pass_turns::Room;
 use save_round::Participant;
 use std::alloc::Global;
@@ -25,7 +30,7 @@ pub struct Workspace<D: Disk, B: Builder, P: Participant, V: Vow> {
 }
 
 impl<D: Disk, B: Builder, P: Participant, V: Vow> Workspace<D, B, P, V> {
-    ghost use Rattle.ws_shared.specs.Calls.{Asked};
+    ghost use Rattle.ws_shared.specs.Calls.{Asked, Stood, legal_from, pass_of};
 
     /// Does an event of the pass that enters or leaves nobody and leaves the services where they are, in the pass's next turn.
     fn ask<R: Wait>(
@@ -131,5 +136,118 @@ impl<D: Disk, B: Builder, P: Participant, V: Vow> Workspace<D, B, P, V> {
         ensures asked { Asked (base_of (λ l. l.opening) self.now.room) Event.Checkpoint result (knows pass.old) (knows pass.new) }
     {
         self.ask(rt, alloc, pass, Event::Checkpoint)
+    }
+
+    /// Does an event of the pass that enters or leaves nobody and leaves the services where they are, in the first of the
+    /// pass's turns in which no rule of another pass is in its way. Until then it leaves no entry.
+    fn wait_for<R: Wait>(
+        &self,
+        rt: &R,
+        alloc: Global,
+        pass: &mut Pass<D, B, P, V>,
+        event: Event,
+    ) -> Result<Reply, NoMemory>
+        requires of { IsOf self.now.room pass.old }
+        requires plain { is_plain event ≡ true }
+        ensures of { IsOf self.now.room pass.new }
+        ensures stood { Stood (base_of (λ l. l.opening) self.now.room) event result (knows pass.old) (knows pass.new) }
+    {
+        let mut wish = Wish { event };
+        let answer = self.room.wait(rt, alloc, pass, &mut wish);
+        drop(wish);
+        answer
+    }
+
+    /// Does an operation, once no rule of another pass is in its way.
+    pub fn act<R: Wait>(
+        &self,
+        rt: &R,
+        alloc: Global,
+        pass: &mut Pass<D, B, P, V>,
+        op: Op,
+    ) -> Result<Reply, NoMemory>
+        requires { IsOf self.now.room pass.old }
+        ensures of { IsOf self.now.room pass.new }
+        ensures stood { Stood (base_of (λ l. l.opening) self.now.room) (Event.Operation op) result (knows pass.old) (knows pass.new) }
+    {
+        self.wait_for(rt, alloc, pass, Event::Operation(op))
+    }
+
+    /// The pass is to have the rule until it ends it, once no rule of another pass is in its way.
+    pub fn begin_rule<R: Wait>(
+        &self,
+        rt: &R,
+        alloc: Global,
+        pass: &mut Pass<D, B, P, V>,
+        rule: WsRule,
+    ) -> Result<Reply, NoMemory>
+        requires { IsOf self.now.room pass.old }
+        ensures of { IsOf self.now.room pass.new }
+        ensures stood { Stood (base_of (λ l. l.opening) self.now.room) (Event.Begin rule) result (knows pass.old) (knows pass.new) }
+    {
+        self.wait_for(rt, alloc, pass, Event::Begin(rule))
+    }
+
+    /// Does what the pass asks of a job. Where no job is there to take, nothing is written.
+    pub fn job<R: Wait>(
+        &self,
+        rt: &R,
+        alloc: Global,
+        pass: &mut Pass<D, B, P, V>,
+        event: JobEvent,
+    ) -> Result<Reply, NoMemory>
+        requires { IsOf self.now.room pass.old }
+        ensures of { IsOf self.now.room pass.new }
+        ensures asked { Asked (base_of (λ l. l.opening) self.now.room) (job_event event) result (knows pass.old) (knows pass.new) }
+    {
+        let event = event.into_event();
+        self.ask(rt, alloc, pass, event)
+    }
+
+    /// Lets a new pass in, whose number no pass has had, and which has seen what the pass has seen then. Where memory wants
+    /// none is let in, but the entry that gives the number may stand.
+    pub fn split<R: Wait>(
+        &self,
+        rt: &R,
+        alloc: Global,
+        pass: &mut Pass<D, B, P, V>,
+    ) -> Result<Pass<D, B, P, V>, NoMemory>
+        requires { IsOf self.now.room pass.old }
+        ensures of { IsOf self.now.room pass.new × IfOk result (IsOf self.now.room) }
+        ensures ok { IfOk result (λ new. LetIn pass_of gives LetsIn legal_from (base_of (λ l. l.opening) self.now.room) (knows pass.old) (knows pass.new) (knows new)) }
+        ensures err { OnErr result (LetNobodyIn pass_of gives legal_from (base_of (λ l. l.opening) self.now.room) (knows pass.old) (knows pass.new)) }
+    {
+        self.room.split(rt, alloc, pass)
+    }
+
+    /// Takes in another pass, which leaves: the pass has then seen what each of the two had seen. Where the other is busy, or
+    /// memory wants, it is handed back, and the pass stays as it was.
+    pub fn join<R: Wait>(
+        &self,
+        rt: &R,
+        alloc: Global,
+        pass: &mut Pass<D, B, P, V>,
+        other: Pass<D, B, P, V>,
+    ) -> Result<(), (JoinError, Pass<D, B, P, V>)>
+        requires { IsOf self.now.room pass.old × IsOf self.now.room other }
+        ensures of { IsOf self.now.room pass.new × IfErr result (λ e. IsOf self.now.room e.1) }
+        ensures ok { OnOk result (TookIn pass_of HasLeft legal_from (base_of (λ l. l.opening) self.now.room) (knows pass.old) (knows other) (knows pass.new)) }
+        ensures same { OnErr result (knows pass.new ≡ knows pass.old) }
+        ensures err { IfErr result (λ e. StaysThere pass_of gives WasBusy legal_from (base_of (λ l. l.opening) self.now.room) e.0 (knows other) (knows e.1)) }
+    {
+        self.room.join(rt, alloc, pass, other)
+    }
+
+    /// The pass has then seen what each of the two had seen; the other stays as it is. It waits for nobody, and takes no
+    /// memory.
+    pub fn meet(&self, pass: &mut Pass<D, B, P, V>, other: &mut Pass<D, B, P, V>)
+        requires { IsOf self.now.room pass.old × IsOf self.now.room other.old }
+        ensures of { IsOf self.now.room pass.new × IsOf self.now.room other.new }
+        ensures pass { knows pass.new ≡ record (knows pass.old) { seen = longer (knows pass.old).seen (knows other.old).seen } }
+        ensures begins { StartsWith (knows pass.new).seen (knows pass.old).seen × StartsWith (knows pass.new).seen (knows other.old).seen }
+        ensures faithful { IsFaithful pass_of (knows pass.new) }
+        ensures other { knows other.new ≡ knows other.old }
+    {
+        self.room.meet(pass, other);
     }
 }
