@@ -89,3 +89,6 @@ still_there e s n h added (Ok reply) is there was =
     let x = entry_of (replay s h) n e in
     subst (λ l. is_there s (h ++ l) n ≡ true) (sym was.entry) (noted_there (only_tried x) s h x n there (λ leave. absurd (plain_stays e is leave)))
 still_there e s n h added (Err error) is there was = subst (λ l. is_there s (h ++ l) n ≡ true) (sym was.nothing) (ap (λ l. is_there s l n) (append-nil h) ∙ there)
+
+pub stood_there : (e : Event) (s : Moment) (n : ℕ) (h added : List Entry) → is_plain e ≡ true → is_there s h n ≡ true → added ≡ entry_of (replay s h) n e ∷ [] → is_there s (h ++ added) n ≡ true
+stood_there e s n h added is there one = subst (λ l. is_there s (h ++ l) n ≡ true) (sym one) (stays_after s h (entry_of (replay s h) n e) n there (λ leave. absurd (plain_stays e is leave)))
