@@ -2,3 +2,5 @@ pub mod Fitting
 pub mod Halls
 pub mod Asked
 pub mod Numbers
+pub mod Began
+pub mod Moving

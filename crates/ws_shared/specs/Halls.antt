@@ -12,12 +12,16 @@ use Rattle.save_history.specs.Rounds.{rounds_of}
 use Rattle.ws_shared.specs.Opened.{Opened}
 use Rattle.ws_shared.specs.Fits.{Told}
 use Rattle.ws_shared.specs.declared.services.Opening.{Opening}
+use Rattle.ws_shared.specs.declared.services.Services.{Services}
 
 -- the services
 pub record Trio (D B P : Type 0) : Type 0 where
   pub keeper : Keeper D
   pub builders : List B
   pub participants : List P
+
+abbrev pub trio_of : {D B P : Type 0} → Services D B P → Trio D B P
+trio_of s = record { keeper = s.keeper; builders = s.builders; participants = s.participants }
 
 -- the core, the services while they are home, and with what the workspace was opened
 pub record Hall (D B P : Type 0) : Type 0 where

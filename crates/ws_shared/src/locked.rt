@@ -1,5 +1,6 @@
 //! What the lock keeps.
-ghost use Rattle.std.specs.Prelude.{◌≡◌, ◌++◌, List, true};
+ghost use Rattle.std.specs.Prelude.{◌≡◌, ◌++◌, List, [], Some, map, true};
+ghost use Rattle.std.specs.Option.{option_map};
 ghost use Rattle.core_event.specs.declared.entry.Entry.{Entry};
 
 use crate::vow::Vow;
@@ -11,6 +12,7 @@ use res_path::NoMemory;
 use save_round::Participant;
 use std::alloc::Global;
 use std::marker::{Model, PhantomData};
+use std::snapshot::Snapshot;
 use ws_core::Core;
 use ws_outside::Disk;
 
@@ -38,7 +40,7 @@ impl<D: Disk, B: Builder, P: Participant, V: Vow> Model for Locked<D, B, P, V> {
     ghost use Rattle.service_desk.specs.contracts.desk.Desk as desk;
     ghost use Rattle.ws_core.specs.Inside.Codes.{moment_code};
     ghost use Rattle.ws_shared.specs.Fits.{Fits};
-    ghost use Rattle.ws_shared.specs.Halls.{Hall, IsHall, Trio};
+    ghost use Rattle.ws_shared.specs.Halls.{Hall, IsHall, trio_of};
 
     ghost Value = { Hall D B P };
 
@@ -46,24 +48,68 @@ impl<D: Disk, B: Builder, P: Participant, V: Vow> Model for Locked<D, B, P, V> {
 
     ghost view = { λ l. record {
       core = l.core;
-      services = option_map (λ s. record { keeper = s.keeper; builders = s.builders; participants = s.participants }) l.services;
+      services = option_map (λ s. trio_of s) l.services;
       opening = l.opening;
     } };
 
     ghost invariant = { λ l. IsHall B.tells P.tells (Fits D.moment D.left_since D.may_leave D.faults V.fits) (record {
       core = l.core;
-      services = option_map (λ s. record { keeper = s.keeper; builders = s.builders; participants = s.participants }) l.services;
+      services = option_map (λ s. trio_of s) l.services;
       opening = l.opening;
     }) };
 }
 
 impl<D: Disk, B: Builder, P: Participant, V: Vow> Locked<D, B, P, V> {
     ghost use Rattle.job_manager.specs.Managers.{first_manager};
-    ghost use Rattle.ws_core.specs.Histories.{Legal};
+    ghost use Rattle.save_history.specs.Kept.{IsKept};
+    ghost use Rattle.ws_core.specs.Histories.{Legal, replay};
+    ghost use Rattle.ws_shared.specs.Fits.{Fits};
     ghost use Rattle.pass_history.specs.Served.{keeps_services};
     ghost use Rattle.pass_history.specs.There.{is_there};
     ghost use Rattle.ws_shared.specs.Asked.{WasAsked, WasTried};
-    ghost use Rattle.ws_shared.specs.Halls.{opened_in};
+    ghost use Rattle.ws_shared.specs.Halls.{IsHall, opened_in, trio_of};
+
+    /// A workspace that was just opened, with its services at home. It takes no memory.
+    pub(crate) fn of(core: Core<LayerTree>, services: Services<D, B, P>) -> Locked<D, B, P, V>
+        requires nothing_done { core.history ≡ [] }
+        requires first { core.opened.manager ≡ first_manager }
+        requires kept { IsKept D.moment D.left_since D.may_leave D.faults core services.keeper }
+        requires vowed { V.fits (record { state = core.opened; builders = map (λ b. B.tells b) services.builders; participants = map (λ p. P.tells p) services.participants }) (map (λ b. B.tells b) services.builders) [] }
+        ensures core { result.core ≡ core }
+        ensures services { result.services ≡ Some (trio_of services) }
+        ensures opening { (result.opening.core.value ≡ core) × (result.opening.keeper.value ≡ services.keeper) × (result.opening.builders.value ≡ services.builders) × (result.opening.participants.value ≡ services.participants) }
+    {
+        let _ = core.state();
+        let opening = Opening {
+            core: Snapshot::of(&core),
+            keeper: Snapshot::of(&services.keeper),
+            builders: Snapshot::of(&services.builders),
+            participants: Snapshot::of(&services.participants),
+        };
+        Locked {
+            core,
+            services: Some(services),
+            opening,
+            vow: PhantomData,
+        }
+    }
+
+    /// The core, and the services where they are home. It takes no memory.
+    pub(crate) fn into_parts(self) -> (Core<LayerTree>, Option<Services<D, B, P>>)
+        ensures core { result.0 ≡ self.core }
+        ensures services { option_map trio_of result.1 ≡ self.services }
+        ensures hall { IsHall B.tells P.tells (Fits D.moment D.left_since D.may_leave D.faults V.fits) self }
+        ensures replayed { self.core.state ≡ replay (opened_in self) self.core.history }
+    {
+        let _ = self.core.state();
+        let Locked {
+            core,
+            services,
+            opening: _,
+            vow: _,
+        } = self;
+        (core, services)
+    }
 
     /// The workspace was opened with no job, and its history may follow. Nothing is done.
     pub(crate) fn stands(&self)
