@@ -33,7 +33,7 @@ use Rattle.pass_turns.proofs.There.{others}
 use Rattle.pass_history.specs.Served.{Served, keeps_services, moves_nothing, served, services_of, served_by, site_named, was_done, who_serves}
 use Rattle.pass_history.proofs.Given.{heads}
 
-abbrev serving_of : Moment → Option ℕ
+abbrev pub serving_of : Moment → Option ℕ
 serving_of s = s.manager.passes.services
 
 same_some : (a b : ℕ) → Some a ≡ Some b → a ≡ b
@@ -42,12 +42,12 @@ same_some a b e = let e : Some a ≡ Some b = e in cc
 none_some : (a : ℕ) → None ≡ Some a → ⊥
 none_some a e = let e : None ≡ Some a = e in cc
 
-told_serving : (b : Bool) (s : Moment) (a : Answer) → serving_of (told b s a).0 ≡ serving_of s
+pub told_serving : (b : Bool) (s : Moment) (a : Answer) → serving_of (told b s a).0 ≡ serving_of s
 told_serving true s a = refl
 told_serving false s a = refl
 
 -- a cause that applies is the first one or stands behind it
-first_none : (c : Option Refusal) (cs : List (Option Refusal)) → first_cause (c ∷ cs) ≡ None → c ≡ None
+pub first_none : (c : Option Refusal) (cs : List (Option Refusal)) → first_cause (c ∷ cs) ≡ None → c ≡ None
 first_none None cs e = refl
 first_none (Some r) cs e = let e : Some r ≡ None = e in cc
 

@@ -57,7 +57,7 @@ module _ {D B P : Type 0} (moment : D → ℕ) (left_since : D → ℕ → Conte
         rests = λ s is. ap (λ h. (rounds_of h).under) none;
         fit = λ s is. subst (λ z. Fits moment left_since may_leave faults vow (opened_by b p op) op.keeper.value x.history (told_by b p z)) (same_some is)
             (subst (λ k. Fits moment left_since may_leave faults vow (opened_by b p op) k x.history (told_by b p t)) (sym keeper)
-              (subst (λ o. Fits moment left_since may_leave faults vow o t.keeper x.history (told_by b p t)) (opened_is x t op core builders parts) fit));
+            (subst (λ o. Fits moment left_since may_leave faults vow o t.keeper x.history (told_by b p t)) (opened_is x t op core builders parts) fit));
       }
     where
       same_some : {T : Type 0} {u v : T} → Some u ≡ Some v → u ≡ v

@@ -31,11 +31,11 @@ pub record WentOn (x y : Session) : Type 0 where
   pub history : y.history ≡ x.history ++ entries
   pub quiet : x.state.manager.passes.services ≡ None → AllByRecursion IsQuiet entries
 
-written_on : (b : Bool) (h : List Entry) (x : Entry) → (l : List Entry) × ((if b then h else h ++ x ∷ []) ≡ h ++ l) × (l ≡ (if b then [] else x ∷ []))
+pub written_on : (b : Bool) (h : List Entry) (x : Entry) → (l : List Entry) × ((if b then h else h ++ x ∷ []) ≡ h ++ l) × (l ≡ (if b then [] else x ∷ []))
 written_on true h x = ([], sym (append-nil h), refl)
 written_on false h x = (x ∷ [], refl, refl)
 
-quiet_noted : (b : Bool) (x : Entry) → IsQuiet x → AllByRecursion IsQuiet (if b then [] else x ∷ [])
+pub quiet_noted : (b : Bool) (x : Entry) → IsQuiet x → AllByRecursion IsQuiet (if b then [] else x ∷ [])
 quiet_noted true x q = tt
 quiet_noted false x q = (q, tt)
 

@@ -3,4 +3,4 @@ pub mod Halls
 pub mod Asked
 pub mod Numbers
 pub mod Began
-pub mod Moving
+pub mod Going

@@ -4,3 +4,4 @@ pub mod Halls
 pub mod Asked
 pub mod Calls
 pub mod Jobs
+pub mod Moved

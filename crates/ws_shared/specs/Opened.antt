@@ -1,5 +1,5 @@
 -- With what a workspace was opened, as a vow speaks of it.
-use Rattle.std.specs.Prelude.{Bool, true, false, List}
+use Rattle.std.specs.Prelude.{◌≡◌, Bool, true, false, List, [], ◌∷◌, ◌++◌}
 use Rattle.builder_api.specs.Told.{Told as BuilderTold}
 use Rattle.save_round.specs.Told.{Told as PartTold}
 use Rattle.core_event.specs.declared.event.Event.{Event}
@@ -8,6 +8,7 @@ use Rattle.core_event.specs.declared.service.Outcomes.TheVariants as outcomes
 use Rattle.core_event.specs.declared.service.ServiceEvent.{ServiceEvent}
 use Rattle.core_event.specs.declared.service.ServiceEvent.TheVariants.{Checkout, CheckIn, Handed, Commit, Clean, Saving}
 use Rattle.ws_core.specs.States.{Moment}
+use Rattle.pass_history.specs.Served.{Served}
 
 -- the opened state, and what its builders and participants told then
 pub record Opened : Type 0 where
@@ -28,3 +29,7 @@ asks_of_save (Saving states) = true
 abbrev pub is_of_save : Event → Bool
 is_of_save (Service x) = asks_of_save x
 is_of_save event = false
+
+-- the law of a vow: a save keeps it
+abbrev pub Vows : (Opened → List BuilderTold → List Served → Type 0) → Type 0
+Vows fits = (o : Opened) (builders : List BuilderTold) (asked : List Served) (x : Served) → is_of_save x.entry.event ≡ true → fits o builders asked → fits o builders (asked ++ x ∷ [])
