@@ -70,11 +70,11 @@ plain_gives (Service x) a is = refl
 plain_stays : (e : Event) → is_plain e ≡ true → e ≡ Leave → ⊥
 plain_stays e is leave = true≢false (sym is ∙ ap is_plain leave)
 
-noted_one : (b : Bool) (x : Entry) (n : ℕ) → x.pass ≡ n → gives x ≡ None → AddsUpToOne (λ (y : Entry). y.pass) gives n (if b then [] else x ∷ [])
+pub noted_one : (b : Bool) (x : Entry) (n : ℕ) → x.pass ≡ n → gives x ≡ None → AddsUpToOne (λ (y : Entry). y.pass) gives n (if b then [] else x ∷ [])
 noted_one true x n by none = inl refl
 noted_one false x n by none = inr (x, refl, by, none)
 
-noted_there : (b : Bool) (s : Moment) (h : List Entry) (x : Entry) (n : ℕ) → is_there s h n ≡ true → (x.event ≡ Leave → x.pass ≢ n) → is_there s (h ++ (if b then [] else x ∷ [])) n ≡ true
+pub noted_there : (b : Bool) (s : Moment) (h : List Entry) (x : Entry) (n : ℕ) → is_there s h n ≡ true → (x.event ≡ Leave → x.pass ≢ n) → is_there s (h ++ (if b then [] else x ∷ [])) n ≡ true
 noted_there true s h x n there other = ap (λ l. is_there s l n) (append-nil h) ∙ there
 noted_there false s h x n there other = stays_after s h x n there other
 

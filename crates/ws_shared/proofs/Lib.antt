@@ -4,3 +4,5 @@ pub mod Asked
 pub mod Numbers
 pub mod Began
 pub mod Going
+pub mod Lent
+pub mod Coming

@@ -78,7 +78,7 @@ impl<D: Disk, B: Builder, P: Participant, V: Vow> Deed<Locked<D, B, P, V>> for G
         pass: u64,
     ) -> Result<Reply, (CheckInError, Services<D, B, P>)> {
         match self.given.take() {
-            Some(Given { services, outcome }) => machine.check_in(alloc, pass, services, outcome),
+            Some(given) => machine.check_in(alloc, pass, given.services, given.outcome),
             None => unreachable!(),
         }
     }

@@ -28,4 +28,4 @@ pub use pass_turns::LeaveError as JoinError;
 pub use res_path::NoMemory;
 pub use services::{Opening, Services};
 pub use vow::{Free, Vow};
-pub use workspace::{Pass, Workspace};
+pub use workspace::{Closed, Pass, Workspace};

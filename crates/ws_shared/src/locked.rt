@@ -1,5 +1,5 @@
 //! What the lock keeps.
-ghost use Rattle.std.specs.Prelude.{◌≡◌, ◌++◌, List, [], Some, map, true};
+ghost use Rattle.std.specs.Prelude.{◌≡◌, ◌++◌, List, [], Some, is_none, map, true};
 ghost use Rattle.std.specs.Option.{option_map};
 ghost use Rattle.core_event.specs.declared.entry.Entry.{Entry};
 
@@ -64,10 +64,10 @@ impl<D: Disk, B: Builder, P: Participant, V: Vow> Locked<D, B, P, V> {
     ghost use Rattle.save_history.specs.Kept.{IsKept};
     ghost use Rattle.ws_core.specs.Histories.{Legal, replay};
     ghost use Rattle.ws_shared.specs.Fits.{Fits};
-    ghost use Rattle.pass_history.specs.Served.{keeps_services};
+    ghost use Rattle.pass_history.specs.Served.{keeps_services, who_serves};
     ghost use Rattle.pass_history.specs.There.{is_there};
     ghost use Rattle.ws_shared.specs.Asked.{WasAsked, WasTried};
-    ghost use Rattle.ws_shared.specs.Halls.{IsHall, opened_in, trio_of};
+    ghost use Rattle.ws_shared.specs.Halls.{IsHall, opened_by, opened_in, told_by, trio_of};
 
     /// A workspace that was just opened, with its services at home. It takes no memory.
     pub(crate) fn of(core: Core<LayerTree>, services: Services<D, B, P>) -> Locked<D, B, P, V>
@@ -109,6 +109,19 @@ impl<D: Disk, B: Builder, P: Participant, V: Vow> Locked<D, B, P, V> {
             vow: _,
         } = self;
         (core, services)
+    }
+
+    /// The core and the services, where they are home. It takes no memory.
+    pub(crate) fn into_home(self) -> (Core<LayerTree>, Services<D, B, P>)
+        requires home { is_none (who_serves (opened_in self) self.core.history) ≡ true }
+        ensures core { result.0 ≡ self.core }
+        ensures services { Some (trio_of result.1) ≡ self.services }
+        ensures fits { Fits D.moment D.left_since D.may_leave D.faults V.fits (opened_by B.tells P.tells self.opening) self.opening.keeper.value self.core.history (told_by B.tells P.tells (trio_of result.1)) }
+    {
+        match self.into_parts() {
+            (core, Some(services)) => (core, services),
+            (_, None) => unreachable!(),
+        }
     }
 
     /// The workspace was opened with no job, and its history may follow. Nothing is done.

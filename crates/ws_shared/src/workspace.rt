@@ -1,27 +1,42 @@
 //! A workspace that many threads share.
-ghost use Rattle.std.specs.Prelude.{◌≡◌, true, IfErr, IfOk, OnErr, OnOk};
+ghost use Rattle.std.specs.Prelude.{◌≡◌, [], false, is_none, List, map, true, IfErr, IfOk, OnErr, OnOk};
+ghost use Rattle.std.specs.List.{AllByRecursion};
+ghost use Rattle.core_event.specs.declared.entry.Entry.{Entry};
+ghost use Rattle.job_manager.specs.Managers.{first_manager};
+ghost use Rattle.save_history.specs.Kept.{IsKept};
+ghost use Rattle.pass_history.specs.Served.{who_serves};
 ghost use Rattle.ws_turn.specs.Lists.{StartsWith, longer};
-ghost use Rattle.pass_turns.specs.Turns.{base_of, knows, IsFaithful, IsOf, LetIn, LetNobodyIn, StaysThere, TookIn};
+ghost use Rattle.pass_turns.specs.Turns.{base_of, CameTo, EndsWith, knows, Pairs, IsFaithful, IsOf, LetIn, LetNobodyIn, StaysThere, TookIn, TookTurn};
 ghost use Rattle.pass_history.specs.There.{gives, HasLeft, LetsIn, WasBusy};
 ghost use Rattle.ws_shared.specs.Jobs.{job_event};
 ghost use Rattle.ws_shared.specs.Asked.{is_plain};
 
 use crate::asking::{Ask, Wish};
+use crate::handing::{Give, Given, Take};
 use crate::job::JobEvent;
 use crate::vow::Vow;
-use crate::{JoinError, Locked, NoMemory};
+use crate::{CheckInError, JoinError, Locked, NoMemory, Services};
 use builder_api::Builder;
-use core_event::{Event, Reply, WsRule};
+use core_event::{Event, Outcomes, Purpose, Reply, WsRule};
+use elem_tree::LayerTree;
 use op_kind::Op;
 use pass_turns::Room;
 use save_round::Participant;
 use std::alloc::Global;
 use std::sync::Wait;
+use ws_core::Core;
 use ws_outside::Disk;
 
 /// A thread's token at a workspace. Contracts see its number, the entries that it has seen, those of its own number, and the
 /// numbers that it gave in vain.
 pub type Pass<D, B, P, V> = pass_turns::Pass<Locked<D, B, P, V>>;
+
+/// What is left of a workspace that was closed.
+#[derive(Drop)]
+pub struct Closed<D: Disk, B: Builder, P: Participant> {
+    pub core: Core<LayerTree>,
+    pub services: Services<D, B, P>,
+}
 
 /// An open workspace that many threads share, each with a pass.
 #[derive(Drop)]
@@ -30,7 +45,65 @@ pub struct Workspace<D: Disk, B: Builder, P: Participant, V: Vow> {
 }
 
 impl<D: Disk, B: Builder, P: Participant, V: Vow> Workspace<D, B, P, V> {
-    ghost use Rattle.ws_shared.specs.Calls.{Asked, Stood, legal_from, pass_of};
+    ghost use Rattle.ws_shared.specs.Calls.{Asked, Stood, legal_from, pass_of, state_in};
+    ghost use Rattle.ws_shared.specs.Fits.{Fits};
+    ghost use Rattle.ws_shared.specs.Halls.{opened_by, told_by, trio_of};
+    ghost use Rattle.ws_shared.specs.Moved.{ComesHome, WasBrought, WasLent};
+
+    /// A workspace that was just opened, in which nothing was done, with its services, and its first pass, which has the number
+    /// 0. Where memory wants all is handed back.
+    pub fn of(
+        alloc: Global,
+        core: Core<LayerTree>,
+        services: Services<D, B, P>,
+    ) -> Result<
+        (Workspace<D, B, P, V>, Pass<D, B, P, V>),
+        (NoMemory, Core<LayerTree>, Services<D, B, P>),
+    >
+        requires nothing_done { core.history ≡ [] }
+        requires first { core.opened.manager ≡ first_manager }
+        requires kept { IsKept D.moment D.left_since D.may_leave D.faults core services.keeper }
+        requires vowed { V.fits (record { state = core.opened; builders = map (λ b. B.tells b) services.builders; participants = map (λ p. P.tells p) services.participants }) (map (λ b. B.tells b) services.builders) [] }
+        ensures of { IfOk result (λ r. IsOf r.0.room r.1) }
+        ensures opening { IfOk result (λ r. let o = base_of (λ l. l.opening) r.0.room in (o.core.value ≡ core) × (o.keeper.value ≡ services.keeper) × (o.builders.value ≡ services.builders) × (o.participants.value ≡ services.participants)) }
+        ensures pass { IfOk result (λ r. knows r.1 ≡ record { number = 0; seen = []; mine = []; lost = [] }) }
+        ensures err { IfErr result (λ e. e.1 ≡ core) }
+    {
+        match Room::new(alloc, Locked::of(core, services)) {
+            Ok((room, pass)) => Ok((Workspace { room }, pass)),
+            Err((error, locked)) => {
+                let (core, services) = locked.into_home();
+                Err((error, core, services))
+            }
+        }
+    }
+
+    /// Ends the workspace, where no pass has the services: gives its core, whose history begins with what the pass and each of
+    /// the others had seen, and the services, which fit it. Where a pass has the services nothing ends. The others, and the
+    /// pass, have seen that history then.
+    pub fn close<R: Wait>(
+        self,
+        rt: &R,
+        pass: Pass<D, B, P, V>,
+        others: &mut Vec<Pass<D, B, P, V>>,
+    ) -> Result<Closed<D, B, P>, (Workspace<D, B, P, V>, Pass<D, B, P, V>)>
+        requires of { IsOf self.room pass }
+        requires others { AllByRecursion (λ p. IsOf self.room p) others.old.items }
+        ensures ok { IfOk result (λ w. EndsWith pass_of legal_from (base_of (λ l. l.opening) self.room) w.core.history (knows pass)) }
+        ensures told { IfOk result (λ w. Pairs (λ p q. CameTo pass_of w.core.history (knows p) (knows q)) others.old.items others.new.items) }
+        ensures fits { IfOk result (λ w. let o = base_of (λ l. l.opening) self.room in Fits D.moment D.left_since D.may_leave D.faults V.fits (opened_by B.tells P.tells o) o.keeper.value w.core.history (told_by B.tells P.tells (trio_of w.services))) }
+        ensures refused { IfErr result (λ e. (h : List Entry) × legal_from (base_of (λ l. l.opening) self.room) h × (is_none (who_serves (state_in (base_of (λ l. l.opening) self.room)) h) ≡ false) × CameTo pass_of h (knows pass) (knows e.1)
+            × Pairs (λ p q. IsOf self.room q × CameTo pass_of h (knows p) (knows q)) others.old.items others.new.items) }
+        ensures same { IfErr result (λ e. (e.0 ≡ self) × IsOf e.0.room e.1) }
+    {
+        match self.room.close(rt, pass, others) {
+            Ok(locked) => {
+                let (core, services) = locked.into_home();
+                Ok(Closed { core, services })
+            }
+            Err((room, pass)) => Err((Workspace { room }, pass)),
+        }
+    }
 
     /// Does an event of the pass that enters or leaves nobody and leaves the services where they are, in the pass's next turn.
     fn ask<R: Wait>(
@@ -249,5 +322,50 @@ impl<D: Disk, B: Builder, P: Participant, V: Vow> Workspace<D, B, P, V> {
         ensures other { knows other.new ≡ knows other.old }
     {
         self.room.meet(pass, other);
+    }
+
+    /// The pass is to have the services for this, and doesn't wait: refused where another pass has them. What it gets fits all
+    /// that it has seen then.
+    pub fn try_checkout<R: Wait>(
+        &self,
+        rt: &R,
+        alloc: Global,
+        pass: &mut Pass<D, B, P, V>,
+        why: Purpose,
+    ) -> Result<(Reply, Option<Services<D, B, P>>), NoMemory>
+        requires { IsOf self.now.room pass.old }
+        ensures of { IsOf self.now.room pass.new }
+        ensures lent { TookTurn pass_of legal_from (λ o n. WasLent (λ h s. Fits D.moment D.left_since D.may_leave D.faults V.fits (opened_by B.tells P.tells o) o.keeper.value h (told_by B.tells P.tells (trio_of s))) (state_in o) n why)
+            (base_of (λ l. l.opening) self.now.room) result (knows pass.old) (knows pass.new) }
+    {
+        let mut deed = Take { purpose: Some(why) };
+        let answer = self.room.turn(rt, alloc, pass, &mut deed);
+        drop(deed);
+        answer
+    }
+
+    /// The pass gives the services back, and tells how it went. They are to fit what it has seen with the entry by which it
+    /// gives them back. Where it hasn't them, or not for this, they are handed back, and so they are where memory wants,
+    /// which it doesn't where the pass may give them back so.
+    pub fn check_in<R: Wait>(
+        &self,
+        rt: &R,
+        alloc: Global,
+        pass: &mut Pass<D, B, P, V>,
+        services: Services<D, B, P>,
+        outcome: Outcomes,
+    ) -> Result<Reply, (CheckInError, Services<D, B, P>)>
+        requires of { IsOf self.now.room pass.old }
+        requires fits { let o = base_of (λ l. l.opening) self.now.room in ComesHome (λ h. Fits D.moment D.left_since D.may_leave D.faults V.fits (opened_by B.tells P.tells o) o.keeper.value h (told_by B.tells P.tells (trio_of services))) (knows pass.old).number outcome (knows pass.old).seen }
+        ensures of { IsOf self.now.room pass.new }
+        ensures brought { TookTurn pass_of legal_from (λ o n. WasBrought (state_in o) n outcome services) (base_of (λ l. l.opening) self.now.room) result (knows pass.old) (knows pass.new) }
+    {
+        let _ = pass.at();
+        let mut deed = Give {
+            given: Some(Given { services, outcome }),
+        };
+        let answer = self.room.turn(rt, alloc, pass, &mut deed);
+        drop(deed);
+        answer
     }
 }
