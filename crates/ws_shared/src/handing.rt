@@ -4,7 +4,7 @@ use crate::vow::Vow;
 use crate::{Locked, Services};
 use builder_api::Builder;
 use core_event::{Outcomes, Purpose, Reply};
-use pass_turns::Deed;
+use pass_turns::{Attempt, Deed};
 use res_path::NoMemory;
 use save_round::Participant;
 use std::alloc::Global;
@@ -39,6 +39,39 @@ impl<D: Disk, B: Builder, P: Participant, V: Vow> Deed<Locked<D, B, P, V>> for T
         match self.purpose.take() {
             Some(purpose) => machine.check_out(alloc, pass, purpose),
             None => unreachable!(),
+        }
+    }
+}
+
+/// The services are to go out to the pass for this, once no other pass has them.
+#[derive(Drop)]
+pub(crate) struct Await {
+    pub purpose: Purpose,
+}
+
+impl<D: Disk, B: Builder, P: Participant, V: Vow> Attempt<Locked<D, B, P, V>> for Await {
+    ghost use Rattle.ws_shared.specs.Fits.{Fits};
+    ghost use Rattle.ws_shared.specs.Halls.{opened_by, told_by, trio_of};
+    ghost use Rattle.ws_shared.specs.Moved.{WasLent};
+
+    type Answer = Result<(Reply, Option<Services<D, B, P>>), NoMemory>;
+
+    ghost may = { λ a o n found. Unit {0} };
+
+    ghost did = { λ a o n found added answer. WasLent (λ h s. Fits D.moment D.left_since D.may_leave D.faults V.fits (opened_by B.tells P.tells o) o.keeper.value h (told_by B.tells P.tells (trio_of s))) o.core.value.opened n a.purpose found added answer };
+
+    fn attempt(
+        &mut self,
+        alloc: Global,
+        machine: &mut Locked<D, B, P, V>,
+        pass: u64,
+    ) -> Option<Result<(Reply, Option<Services<D, B, P>>), NoMemory>> {
+        if machine.must_wait(pass, &self.purpose) {
+            return None;
+        }
+        match self.purpose.copy() {
+            Ok(purpose) => Some(machine.check_out(alloc, pass, purpose)),
+            Err(error) => Some(Err(error)),
         }
     }
 }

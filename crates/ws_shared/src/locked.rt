@@ -118,9 +118,10 @@ impl<D: Disk, B: Builder, P: Participant, V: Vow> Locked<D, B, P, V> {
         ensures services { Some (trio_of result.1) ≡ self.services }
         ensures fits { Fits D.moment D.left_since D.may_leave D.faults V.fits (opened_by B.tells P.tells self.opening) self.opening.keeper.value self.core.history (told_by B.tells P.tells (trio_of result.1)) }
     {
-        match self.into_parts() {
-            (core, Some(services)) => (core, services),
-            (_, None) => unreachable!(),
+        let (core, services) = self.into_parts();
+        match services {
+            Some(services) => (core, services),
+            None => unreachable!(),
         }
     }
 

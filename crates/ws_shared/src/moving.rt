@@ -11,9 +11,12 @@ use crate::vow::Vow;
 use crate::{Locked, Services};
 use builder_api::Builder;
 use core_event::{Answer, Event, Outcomes, Purpose, Refusal, Reply, ServiceEvent};
-use res_path::NoMemory;
+use elem_tree::LayerTree;
+use op_rule::contains_at;
+use res_path::{NoMemory, Path};
 use save_round::Participant;
 use std::alloc::Global;
+use ws_core::Core;
 use ws_outside::Disk;
 
 /// Why services aren't taken back.
@@ -68,6 +71,12 @@ impl<D: Disk, B: Builder, P: Participant, V: Vow> Locked<D, B, P, V> {
     ghost use Rattle.ws_shared.specs.Halls.{opened_by, opened_in, told_by, trio_of};
     ghost use Rattle.ws_shared.specs.Moved.{ComesHome, WasGiven, WasHandedBack, WasTaken};
 
+    /// Whether a pass that asks for the services for this has to wait: another pass has them, and nothing else is in the way
+    /// but what may be in the project's. It takes no memory.
+    pub(crate) fn must_wait(&self, pass: u64, purpose: &Purpose) -> bool {
+        self.services.is_none() && may_take(&self.core, pass, purpose)
+    }
+
     /// The services go out to the pass for this, where they are home and it may have them.
     pub(crate) fn check_out(
         &mut self,
@@ -119,5 +128,16 @@ impl<D: Disk, B: Builder, P: Participant, V: Vow> Locked<D, B, P, V> {
             return Ok(reply);
         }
         Err((error_of(&reply), services))
+    }
+}
+
+/// Whether the pass has the rule that it needs to have the services for this.
+fn may_take(core: &Core<LayerTree>, pass: u64, purpose: &Purpose) -> bool {
+    match purpose {
+        Purpose::Build(_, _) => match core.outer(pass) {
+            Some(rule) => contains_at(rule, &Path::root()),
+            None => false,
+        },
+        Purpose::Save(_) => true,
     }
 }

@@ -12,15 +12,16 @@ ghost use Rattle.ws_shared.specs.Jobs.{job_event};
 ghost use Rattle.ws_shared.specs.Asked.{is_plain};
 
 use crate::asking::{Ask, Wish};
-use crate::handing::{Give, Given, Take};
+use crate::handing::{Await, Give, Given, Take};
 use crate::job::JobEvent;
 use crate::vow::Vow;
 use crate::{CheckInError, JoinError, Locked, NoMemory, Services};
-use builder_api::Builder;
-use core_event::{Event, Outcomes, Purpose, Reply, WsRule};
+use builder_api::{BuildKind, Builder, Edits};
+use core_event::{Event, Outcomes, Purpose, Reply, ServiceEvent, WsRule};
 use elem_tree::LayerTree;
 use op_kind::Op;
 use pass_turns::Room;
+use res_path::Name;
 use save_round::Participant;
 use std::alloc::Global;
 use std::sync::Wait;
@@ -367,5 +368,84 @@ impl<D: Disk, B: Builder, P: Participant, V: Vow> Workspace<D, B, P, V> {
         let answer = self.room.turn(rt, alloc, pass, &mut deed);
         drop(deed);
         answer
+    }
+
+    /// The pass is to have the services for this, once no other pass has them. Until then it leaves no entry. What it gets fits
+    /// all that it has seen then. A pass that has them itself waits for ever.
+    pub fn checkout<R: Wait>(
+        &self,
+        rt: &R,
+        alloc: Global,
+        pass: &mut Pass<D, B, P, V>,
+        why: Purpose,
+    ) -> Result<(Reply, Option<Services<D, B, P>>), NoMemory>
+        requires { IsOf self.now.room pass.old }
+        ensures of { IsOf self.now.room pass.new }
+        ensures lent { TookTurn pass_of legal_from (λ o n. WasLent (λ h s. Fits D.moment D.left_since D.may_leave D.faults V.fits (opened_by B.tells P.tells o) o.keeper.value h (told_by B.tells P.tells (trio_of s))) (state_in o) n why)
+            (base_of (λ l. l.opening) self.now.room) result (knows pass.old) (knows pass.new) }
+    {
+        let mut wish = Await { purpose: why };
+        let answer = self.room.wait(rt, alloc, pass, &mut wish);
+        drop(wish);
+        answer
+    }
+
+    /// What is due is handed for the command of this number, from 0, of the project: it stands in the reply's answer. The
+    /// command is under way from now on.
+    pub fn build_begin<R: Wait>(
+        &self,
+        rt: &R,
+        alloc: Global,
+        pass: &mut Pass<D, B, P, V>,
+        project: Name,
+        index: u16,
+        kind: BuildKind,
+    ) -> Result<Reply, NoMemory>
+        requires { IsOf self.now.room pass.old }
+        ensures of { IsOf self.now.room pass.new }
+        ensures asked { Asked (base_of (λ l. l.opening) self.now.room) (Event.Service (ServiceEvent.Handed project index kind)) result (knows pass.old) (knows pass.new) }
+    {
+        self.ask(
+            rt,
+            alloc,
+            pass,
+            Event::Service(ServiceEvent::Handed(project, index, kind)),
+        )
+    }
+
+    /// The edits are made below the output of the command under way, and its problems are told.
+    pub fn build_commit<R: Wait>(
+        &self,
+        rt: &R,
+        alloc: Global,
+        pass: &mut Pass<D, B, P, V>,
+        edits: Edits,
+    ) -> Result<Reply, NoMemory>
+        requires { IsOf self.now.room pass.old }
+        ensures of { IsOf self.now.room pass.new }
+        ensures asked { Asked (base_of (λ l. l.opening) self.now.room) (Event.Service (ServiceEvent.Commit edits)) result (knows pass.old) (knows pass.new) }
+    {
+        self.ask(rt, alloc, pass, Event::Service(ServiceEvent::Commit(edits)))
+    }
+
+    /// What the command of this number, from 0, of the project has made goes, and what is remembered of it.
+    pub fn build_clean<R: Wait>(
+        &self,
+        rt: &R,
+        alloc: Global,
+        pass: &mut Pass<D, B, P, V>,
+        project: Name,
+        index: u16,
+    ) -> Result<Reply, NoMemory>
+        requires { IsOf self.now.room pass.old }
+        ensures of { IsOf self.now.room pass.new }
+        ensures asked { Asked (base_of (λ l. l.opening) self.now.room) (Event.Service (ServiceEvent.Clean project index)) result (knows pass.old) (knows pass.new) }
+    {
+        self.ask(
+            rt,
+            alloc,
+            pass,
+            Event::Service(ServiceEvent::Clean(project, index)),
+        )
     }
 }
