@@ -7,6 +7,8 @@ use Rattle.core_event.specs.declared.event.Event.TheVariants.{Enter, Leave, Serv
 use Rattle.core_event.specs.declared.reply.Reply.{Reply}
 use Rattle.pass_history.specs.Served.{moves_nothing}
 use Rattle.job_manager.specs.Ends.{EndsLast}
+use Rattle.job_queue.specs.Queues.{live}
+use Rattle.ws_core.specs.declared.session.JobCount.{JobCount}
 use Rattle.ws_core.specs.States.{Moment}
 use Rattle.ws_core.specs.Steps.{step}
 use Rattle.ws_core.specs.Histories.{entry_of, only_tried, replay}
@@ -42,3 +44,9 @@ pub record WasTried (e : Event) (s : Moment) (n : ℕ) (found added : List Entry
   pub entry : IfOk answer (λ o. IfSome o (λ r. added ≡ entry_of (replay s found) n e ∷ []))
   pub waits : IfOk answer (λ o. IfNone o (added ≡ []))
   pub nothing : OnErr answer (added ≡ [])
+
+-- the jobs were counted as they were at the end of the history that was found, to which nothing was added
+pub record HasCounted (s : Moment) (n : ℕ) (found added : List Entry) (count : JobCount) : Type 0 where
+  pub live_is : count.live ≡ live (replay s found).manager.jobs
+  pub finished_is : count.finished ≡ (replay s found).manager.jobs.finished
+  pub nothing : added ≡ []

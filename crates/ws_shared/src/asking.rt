@@ -9,6 +9,7 @@ use pass_turns::{Attempt, Deed};
 use res_path::NoMemory;
 use save_round::Participant;
 use std::alloc::Global;
+use ws_core::JobCount;
 use ws_outside::Disk;
 
 /// An event to be done in the pass's next turn, whatever it is answered.
@@ -71,5 +72,24 @@ impl<D: Disk, B: Builder, P: Participant, V: Vow> Attempt<Locked<D, B, P, V>> fo
             Ok(None) => None,
             Err(error) => Some(Err(error)),
         }
+    }
+}
+
+/// The jobs are to be counted.
+#[derive(Drop)]
+pub(crate) struct Count;
+
+impl<D: Disk, B: Builder, P: Participant, V: Vow> Deed<Locked<D, B, P, V>> for Count {
+    ghost use Rattle.ws_shared.specs.Asked.{HasCounted};
+
+    type Answer = JobCount;
+
+    ghost may = { λ a o n found. Unit {0} };
+
+    ghost did = { λ a b o n found added answer. HasCounted o.core.value.opened n found added answer };
+
+    fn make(&mut self, alloc: Global, machine: &mut Locked<D, B, P, V>, pass: u64) -> JobCount {
+        let _ = (alloc, pass);
+        machine.jobs()
     }
 }

@@ -13,7 +13,7 @@ use save_round::Participant;
 use std::alloc::Global;
 use std::marker::{Model, PhantomData};
 use std::snapshot::Snapshot;
-use ws_core::Core;
+use ws_core::{Core, JobCount};
 use ws_outside::Disk;
 
 /// The core of a workspace, with its services while no pass has them. A contract sees these, and with which services the
@@ -66,7 +66,7 @@ impl<D: Disk, B: Builder, P: Participant, V: Vow> Locked<D, B, P, V> {
     ghost use Rattle.ws_shared.specs.Fits.{Fits};
     ghost use Rattle.pass_history.specs.Served.{keeps_services, who_serves};
     ghost use Rattle.pass_history.specs.There.{is_there};
-    ghost use Rattle.ws_shared.specs.Asked.{WasAsked, WasTried};
+    ghost use Rattle.ws_shared.specs.Asked.{HasCounted, WasAsked, WasTried};
     ghost use Rattle.ws_shared.specs.Halls.{IsHall, opened_by, opened_in, told_by, trio_of};
 
     /// A workspace that was just opened, with its services at home. It takes no memory.
@@ -131,6 +131,14 @@ impl<D: Disk, B: Builder, P: Participant, V: Vow> Locked<D, B, P, V> {
         ensures legal { Legal (opened_in self.now) self.now.core.history }
     {
         let _ = self.core.history();
+    }
+
+    /// How many jobs wait or are run, and how many were finished.
+    pub(crate) fn jobs(&self) -> JobCount
+        ensures { HasCounted (opened_in self.now) 0 self.now.core.history [] result }
+    {
+        let _ = self.core.state();
+        self.core.jobs()
     }
 
     /// Does an event by which the services stay where they are, as `Core::step` does.

@@ -9,9 +9,9 @@ ghost use Rattle.ws_turn.specs.Lists.{StartsWith, longer};
 ghost use Rattle.pass_turns.specs.Turns.{base_of, CameTo, EndsWith, knows, Pairs, IsFaithful, IsOf, LetIn, LetNobodyIn, StaysThere, TookIn, TookTurn};
 ghost use Rattle.pass_history.specs.There.{gives, HasLeft, LetsIn, WasBusy};
 ghost use Rattle.ws_shared.specs.Jobs.{job_event};
-ghost use Rattle.ws_shared.specs.Asked.{is_plain};
+ghost use Rattle.ws_shared.specs.Asked.{HasCounted, is_plain};
 
-use crate::asking::{Ask, Wish};
+use crate::asking::{Ask, Count, Wish};
 use crate::handing::{Await, Give, Given, Take};
 use crate::job::JobEvent;
 use crate::vow::Vow;
@@ -25,7 +25,7 @@ use res_path::Name;
 use save_round::Participant;
 use std::alloc::Global;
 use std::sync::Wait;
-use ws_core::Core;
+use ws_core::{Core, JobCount};
 use ws_outside::Disk;
 
 /// A thread's token at a workspace. Contracts see its number, the entries that it has seen, those of its own number, and the
@@ -447,5 +447,16 @@ impl<D: Disk, B: Builder, P: Participant, V: Vow> Workspace<D, B, P, V> {
             pass,
             Event::Service(ServiceEvent::Clean(project, index)),
         )
+    }
+
+    /// How many jobs wait or are run, and how many were finished, at the end of a history that begins with what the pass had
+    /// seen, and which it has seen then.
+    pub fn jobs<R: Wait>(&self, rt: &R, alloc: Global, pass: &mut Pass<D, B, P, V>) -> JobCount
+        requires { IsOf self.now.room pass.old }
+        ensures of { IsOf self.now.room pass.new }
+        ensures counted { TookTurn pass_of legal_from (λ o. HasCounted (state_in o)) (base_of (λ l. l.opening) self.now.room) result (knows pass.old) (knows pass.new) }
+    {
+        let mut deed = Count;
+        self.room.turn(rt, alloc, pass, &mut deed)
     }
 }
