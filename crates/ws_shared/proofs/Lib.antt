@@ -6,3 +6,4 @@ pub mod Began
 pub mod Going
 pub mod Lent
 pub mod Coming
+pub mod Gathered

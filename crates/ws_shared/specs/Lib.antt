@@ -5,3 +5,4 @@ pub mod Asked
 pub mod Calls
 pub mod Jobs
 pub mod Moved
+pub mod Told

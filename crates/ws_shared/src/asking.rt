@@ -5,6 +5,7 @@ use crate::Locked;
 use crate::vow::Vow;
 use builder_api::Builder;
 use core_event::{Event, Reply};
+use delta_kind::Delta;
 use pass_turns::{Attempt, Deed};
 use res_path::NoMemory;
 use save_round::Participant;
@@ -91,5 +92,32 @@ impl<D: Disk, B: Builder, P: Participant, V: Vow> Deed<Locked<D, B, P, V>> for C
     fn make(&mut self, alloc: Global, machine: &mut Locked<D, B, P, V>, pass: u64) -> JobCount {
         let _ = (alloc, pass);
         machine.jobs()
+    }
+}
+
+/// What the history tells is asked, but for so many of its first notices.
+#[derive(Drop)]
+pub(crate) struct Tell {
+    pub from: usize,
+}
+
+impl<D: Disk, B: Builder, P: Participant, V: Vow> Deed<Locked<D, B, P, V>> for Tell {
+    ghost use Rattle.std.specs.Prelude.{◌≡◌, [], drop, IfOk};
+    ghost use Rattle.ws_core.specs.Histories.{notices};
+
+    type Answer = Result<Vec<Delta>, NoMemory>;
+
+    ghost may = { λ a o n found. Unit {0} };
+
+    ghost did = { λ a b o n found added answer. (added ≡ []) × IfOk answer (λ told. told.items ≡ drop a.from (notices o.core.value.opened found)) };
+
+    fn make(
+        &mut self,
+        alloc: Global,
+        machine: &mut Locked<D, B, P, V>,
+        pass: u64,
+    ) -> Result<Vec<Delta>, NoMemory> {
+        let _ = pass;
+        machine.notices(alloc, self.from)
     }
 }

@@ -8,6 +8,7 @@
 //! - `asking`: an event of a pass, in one turn.
 //! - `handing`: the services, in one turn of a pass.
 //! - `job`: a `JobEvent`, what a pass may ask of a job.
+//! - `telling`: what a history tells.
 //! - `workspace`: the `Workspace` with its calls.
 #![tactic(auto)]
 
@@ -18,6 +19,7 @@ mod locked;
 mod machine;
 mod moving;
 mod services;
+mod telling;
 mod vow;
 mod workspace;
 

@@ -1,12 +1,14 @@
 //! What the lock keeps.
-ghost use Rattle.std.specs.Prelude.{◌≡◌, ◌++◌, List, [], Some, is_none, map, true};
+ghost use Rattle.std.specs.Prelude.{◌≡◌, ◌++◌, List, [], Some, drop, is_none, map, true, IfOk};
 ghost use Rattle.std.specs.Option.{option_map};
 ghost use Rattle.core_event.specs.declared.entry.Entry.{Entry};
 
+use crate::telling::told_from;
 use crate::vow::Vow;
 use crate::{Opening, Services};
 use builder_api::Builder;
 use core_event::{Event, Reply, WsRule};
+use delta_kind::Delta;
 use elem_tree::LayerTree;
 use res_path::NoMemory;
 use save_round::Participant;
@@ -62,7 +64,7 @@ impl<D: Disk, B: Builder, P: Participant, V: Vow> Model for Locked<D, B, P, V> {
 impl<D: Disk, B: Builder, P: Participant, V: Vow> Locked<D, B, P, V> {
     ghost use Rattle.job_manager.specs.Managers.{first_manager};
     ghost use Rattle.save_history.specs.Kept.{IsKept};
-    ghost use Rattle.ws_core.specs.Histories.{Legal, replay};
+    ghost use Rattle.ws_core.specs.Histories.{Legal, notices, replay};
     ghost use Rattle.ws_shared.specs.Fits.{Fits};
     ghost use Rattle.pass_history.specs.Served.{keeps_services, who_serves};
     ghost use Rattle.pass_history.specs.There.{is_there};
@@ -131,6 +133,13 @@ impl<D: Disk, B: Builder, P: Participant, V: Vow> Locked<D, B, P, V> {
         ensures legal { Legal (opened_in self.now) self.now.core.history }
     {
         let _ = self.core.history();
+    }
+
+    /// What the history tells, but for so many of its first notices.
+    pub(crate) fn notices(&self, alloc: Global, from: usize) -> Result<Vec<Delta>, NoMemory>
+        ensures { IfOk result (λ told. told.items ≡ drop from (notices (opened_in self.now) self.now.core.history)) }
+    {
+        told_from(alloc, self.core.history(), from)
     }
 
     /// How many jobs wait or are run, and how many were finished.

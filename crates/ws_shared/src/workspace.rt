@@ -1,8 +1,9 @@
 //! A workspace that many threads share.
-ghost use Rattle.std.specs.Prelude.{◌≡◌, [], false, is_none, List, map, true, IfErr, IfOk, OnErr, OnOk};
+ghost use Rattle.std.specs.Prelude.{◌≡◌, [], drop, false, is_none, List, map, true, IfErr, IfOk, OnErr, OnOk};
 ghost use Rattle.std.specs.List.{AllByRecursion};
 ghost use Rattle.core_event.specs.declared.entry.Entry.{Entry};
 ghost use Rattle.job_manager.specs.Managers.{first_manager};
+ghost use Rattle.ws_core.specs.Histories.{notices};
 ghost use Rattle.save_history.specs.Kept.{IsKept};
 ghost use Rattle.pass_history.specs.Served.{who_serves};
 ghost use Rattle.ws_turn.specs.Lists.{StartsWith, longer};
@@ -11,13 +12,14 @@ ghost use Rattle.pass_history.specs.There.{gives, HasLeft, LetsIn, WasBusy};
 ghost use Rattle.ws_shared.specs.Jobs.{job_event};
 ghost use Rattle.ws_shared.specs.Asked.{HasCounted, is_plain};
 
-use crate::asking::{Ask, Count, Wish};
+use crate::asking::{Ask, Count, Tell, Wish};
 use crate::handing::{Await, Give, Given, Take};
 use crate::job::JobEvent;
 use crate::vow::Vow;
 use crate::{CheckInError, JoinError, Locked, NoMemory, Services};
 use builder_api::{BuildKind, Builder, Edits};
 use core_event::{Event, Outcomes, Purpose, Reply, ServiceEvent, WsRule};
+use delta_kind::Delta;
 use elem_tree::LayerTree;
 use op_kind::Op;
 use pass_turns::Room;
@@ -457,6 +459,23 @@ impl<D: Disk, B: Builder, P: Participant, V: Vow> Workspace<D, B, P, V> {
         ensures counted { TookTurn pass_of legal_from (λ o. HasCounted (state_in o)) (base_of (λ l. l.opening) self.now.room) result (knows pass.old) (knows pass.new) }
     {
         let mut deed = Count;
+        self.room.turn(rt, alloc, pass, &mut deed)
+    }
+
+    /// What was told in a history that begins with what the pass had seen, and which it has seen then, but for so many of the
+    /// first notices.
+    pub fn notices<R: Wait>(
+        &self,
+        rt: &R,
+        alloc: Global,
+        pass: &mut Pass<D, B, P, V>,
+        from: usize,
+    ) -> Result<Vec<Delta>, NoMemory>
+        requires { IsOf self.now.room pass.old }
+        ensures of { IsOf self.now.room pass.new }
+        ensures told { TookTurn pass_of legal_from (λ o n found added answer. (added ≡ []) × IfOk answer (λ told. told.items ≡ drop from (notices (state_in o) found))) (base_of (λ l. l.opening) self.now.room) result (knows pass.old) (knows pass.new) }
+    {
+        let mut deed = Tell { from };
         self.room.turn(rt, alloc, pass, &mut deed)
     }
 }
