@@ -1,17 +1,13 @@
 -- What a pass that asks to leave is answered, and that one that is refused stays.
-use Rattle.std.proofs.Common.{◌≡◌, ◌⊎◌, inl, inr, ℕ, Bool, true, false, List, [], ◌∷◌, ◌++◌, refl, sym, ap, ◌∙◌, subst, cond, if◌then◌else◌}
-use Rattle.std.specs.Prelude.{Option, Some, None, is_some}
+use Rattle.std.proofs.Common.{◌≡◌, ◌⊎◌, inl, inr, ℕ, Bool, true, false, [], refl, sym, ap, ◌∙◌, cond}
+use Rattle.std.specs.Prelude.{Some, None, is_some}
 use Rattle.proj_desc.specs.FirstCause.{when}
-use Rattle.core_event.specs.declared.entry.Entry.{Entry}
 use Rattle.core_event.specs.declared.event.Event.TheVariants.{Enter, Leave}
-use Rattle.core_event.specs.declared.reply.Answer.{Answer}
-use Rattle.core_event.specs.declared.reply.Answer.TheVariants.{Done, Id, Refused}
-use Rattle.core_event.specs.declared.reply.Refusal.{Refusal}
+use Rattle.core_event.specs.declared.reply.Answer.TheVariants.{Done, Refused}
 use Rattle.core_event.specs.declared.reply.Refusal.TheVariants.{PassBusy}
 use Rattle.job_manager.specs.declared.manager.JobManager.{JobManager}
 use Rattle.job_manager.specs.Managers.{first_manager}
 use Rattle.job_manager.specs.Effects.{decided, outcome}
-use Rattle.job_manager.specs.Refusals.{refusal}
 use Rattle.std.specs.FinMap.{FinMap, empty, get, get-insert}
 use Rattle.std.specs.Ordering.{nat_cmp}
 use Rattle.std.proofs.lemmas.Cmp.{nat_cmp_total}
@@ -20,7 +16,7 @@ use Rattle.pass_table.specs.declared.pass.Pass.{Pass}
 use Rattle.pass_table.specs.Passes.{has_pass, idle, is_busy}
 use Rattle.ws_core.specs.States.{Moment}
 use Rattle.ws_core.specs.Steps.{step}
-use Rattle.ws_core.specs.Histories.{entry_of, has_entered, only_tried, replay}
+use Rattle.ws_core.specs.Histories.{entry_of, has_entered, only_tried}
 use Rattle.ws_core.proofs.Roomy.{step_manager}
 use Rattle.run_order.proofs.Managed.{step_answer}
 use Rattle.pass_history.specs.There.{is_there}

@@ -1,7 +1,7 @@
 -- While a pass has the services no other does anything that concerns them.
 use Rattle.std.proofs.Common.{◌≡◌, ◌≢◌, ℕ, Bool, true, false, List, [], ◌∷◌, ◌++◌, map, refl, sym, ap, ◌∙◌, subst, append_assoc, inl, inr, ◌⊎◌, true≢false, if◌then◌else◌}
 use Rattle.std.specs.Prelude.{Option, Some, None}
-use Rattle.std.specs.Option.{option_or, option_to_list}
+use Rattle.std.specs.Option.{option_to_list}
 use Rattle.std.specs.List.{AllByRecursion}
 use Rattle.proj_desc.specs.FirstCause.{first_cause}
 use Rattle.build_due.specs.declared.site.Site.{Site}
@@ -16,21 +16,20 @@ use Rattle.core_event.specs.declared.service.Purpose.TheVariants.{Build, Save}
 use Rattle.core_event.specs.declared.service.ServiceEvent.{ServiceEvent}
 use Rattle.core_event.specs.declared.service.ServiceEvent.TheVariants.{Checkout, CheckIn, Handed, Commit, Clean, Saving}
 use Rattle.core_event.specs.Events.{service_of}
-use Rattle.service_desk.specs.Desks.{is_building, is_saving, may_end}
-use Rattle.service_desk.specs.Refusals.{not_serving, unrooted, project_causes, command_causes}
+use Rattle.service_desk.specs.Desks.{is_building, is_saving}
+use Rattle.service_desk.specs.Refusals.{unrooted, project_causes, command_causes}
 use Rattle.service_desk.specs.Sites.{site_in}
 use Rattle.ws_core.specs.States.{Moment}
 use Rattle.ws_core.specs.Effects.{clean_for, commit_for, hand, serve}
 use Rattle.ws_core.specs.Refusals.{current, edit_cause, no_build, refusal}
 use Rattle.ws_core.specs.Steps.{acted, act, told, tells, step}
 use Rattle.ws_core.specs.Histories.{after, entry_of, replay, replies}
-use Rattle.ws_core.proofs.Grown.{replay_append}
 use Rattle.ws_core.proofs.ServingPass.{serving_named}
 use Rattle.ws_core.proofs.Stepped.{Concern, OfOperation, OfService, OfManager, concern_of}
 use Rattle.run_order.proofs.Managed.{step_services, told_answer}
 use Rattle.ws_turn.specs.Lists.{of}
 use Rattle.pass_turns.proofs.There.{others}
-use Rattle.pass_history.specs.Served.{Served, keeps_services, moves_nothing, served, services_of, served_by, site_named, was_done, who_serves}
+use Rattle.pass_history.specs.Served.{keeps_services, moves_nothing, served, services_of, served_by, was_done, who_serves}
 use Rattle.pass_history.proofs.Given.{heads}
 
 abbrev pub serving_of : Moment → Option ℕ

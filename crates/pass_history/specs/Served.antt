@@ -1,5 +1,5 @@
 -- Who has the services, and what a history asks of them.
-use Rattle.std.specs.Prelude.{◌≡◌, ℕ, Bool, true, false, if◌then◌else◌, List, [], ◌∷◌, ◌++◌, Option, Some, None}
+use Rattle.std.specs.Prelude.{ℕ, Bool, true, false, if◌then◌else◌, List, [], ◌∷◌, ◌++◌, Option, Some, None}
 use Rattle.std.specs.Option.{option_to_list}
 use Rattle.build_due.specs.declared.site.Site.{Site}
 use Rattle.core_event.specs.declared.entry.Entry.{Entry}

@@ -1,5 +1,5 @@
 -- What is left where a pass is let in or taken in.
-use Rattle.std.proofs.Common.{Bool, ◌≡◌, ◌≢◌, ℕ, true, false, List, [], ◌∷◌, ◌++◌, nat_eq, eqb, refl, sym, ap, ◌∙◌, subst, inl, append-nil, eq-eqb, ne_eqb, if◌then◌else◌}
+use Rattle.std.proofs.Common.{◌≡◌, ◌≢◌, ℕ, false, List, [], ◌∷◌, ◌++◌, eqb, refl, sym, ap, ◌∙◌, subst, inl, append-nil, eq-eqb, ne_eqb, if◌then◌else◌}
 use Rattle.std.specs.Prelude.{Option, None}
 use Rattle.ws_turn.specs.Lists.{StartsWith, longer, of, has, put_before}
 use Rattle.ws_turn.specs.Passes.{Known, IsFaithful}

@@ -1,7 +1,6 @@
 -- Lists of which those before a place are changed.
-use Rattle.std.proofs.Common.{◌≡◌, ◌<◌, ◌≤◌, ◌+◌, ℕ, zero, suc, List, [], ◌∷◌, length, refl, sym, ap, ◌∙◌, subst, arith, get_or, slice_set}
+use Rattle.std.proofs.Common.{◌≡◌, ◌<◌, ◌≤◌, ◌+◌, ℕ, zero, suc, List, [], ◌∷◌, length, refl, sym, ap, subst, arith, get_or, slice_set}
 use Rattle.std.specs.List.{AllByRecursion}
-use Rattle.ws_turn.specs.Lists.{longer, StartsWith}
 use Rattle.pass_turns.specs.Turns.{Pairs}
 
 module _ {A : Type 0} (R : A → A → Type 0) where

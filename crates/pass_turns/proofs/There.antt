@@ -1,5 +1,5 @@
 -- A pass that is there stays while others go on.
-use Rattle.std.proofs.Common.{Bool, ◌≡◌, ◌≢◌, ℕ, true, false, List, [], ◌∷◌, ◌++◌, length, nat_eq, refl, sym, ap, ◌∙◌, subst, arith, inl, inr, true≢false, eq-eqb, append-nil, append_assoc, length-append, if◌then◌else◌}
+use Rattle.std.proofs.Common.{Bool, ◌≡◌, ◌≢◌, ℕ, true, List, [], ◌∷◌, ◌++◌, length, nat_eq, refl, sym, ap, ◌∙◌, subst, arith, true≢false, eq-eqb, append-nil, append_assoc, length-append, if◌then◌else◌}
 use Rattle.ws_turn.specs.Lists.{StartsWith, of}
 use Rattle.ws_turn.proofs.Lists.{of_append, by_bool}
 

@@ -1,5 +1,5 @@
 -- What is left where a token that holds the machine tells a pass what was done.
-use Rattle.std.proofs.Common.{Bool, ◌≡◌, ◌<◌, ◌≤◌, ℕ, true, false, List, [], ◌∷◌, ◌++◌, length, nat_lt, refl, sym, ap, ◌∙◌, subst, arith, append-nil, length-append, if◌then◌else◌}
+use Rattle.std.proofs.Common.{◌≡◌, ◌≤◌, ℕ, false, List, [], ◌∷◌, ◌++◌, length, nat_lt, refl, sym, ap, ◌∙◌, subst, arith, append-nil, length-append, if◌then◌else◌}
 use Rattle.ws_turn.specs.Lists.{StartsWith, longer, of, HasNoneOf}
 use Rattle.ws_turn.specs.Passes.{Known, IsFaithful}
 use Rattle.ws_turn.proofs.Lists.{by_bool}

@@ -1,9 +1,8 @@
 -- What a turn leaves.
-use Rattle.std.proofs.Common.{Bool, ◌≡◌, ◌≢◌, ℕ, true, false, List, [], ◌∷◌, ◌++◌, refl, sym, ap, ◌∙◌, subst, inl, inr, append-nil, eq-eqb, if◌then◌else◌}
-use Rattle.std.specs.Prelude.{◌⊎◌, Option, Some, None}
-use Rattle.ws_turn.specs.Lists.{StartsWith, of, numbers, put_before}
+use Rattle.std.proofs.Common.{◌≡◌, ℕ, List, [], ◌∷◌, ◌++◌, refl, sym, ap, ◌∙◌, subst, inl, inr, append-nil, eq-eqb, if◌then◌else◌}
+use Rattle.std.specs.Prelude.{Option, Some}
+use Rattle.ws_turn.specs.Lists.{of, numbers, put_before}
 use Rattle.ws_turn.specs.Passes.{Known, IsNext}
-use Rattle.ws_turn.specs.Passes as tokens
 use Rattle.ws_turn.proofs.Lists.{none_some, some_same}
 use Rattle.pass_turns.specs.Adds.{AddsUpToOne}
 

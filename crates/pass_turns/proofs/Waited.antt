@@ -1,6 +1,6 @@
 -- A pass that looked on, turn after turn, and then took its turn.
 use Rattle.std.proofs.Common.{◌≡◌, ℕ, List, [], ◌++◌, refl, sym, ap, ◌∙◌, subst, append-nil, append_assoc}
-use Rattle.std.specs.Prelude.{Option, Some, None}
+use Rattle.std.specs.Prelude.{Some, None}
 use Rattle.ws_turn.specs.Lists.{StartsWith, of}
 use Rattle.pass_turns.specs.Adds.{Tried}
 use Rattle.pass_turns.specs.Turns.{IsFaithful, Knows, LookedOn, TookTurn}

@@ -1,5 +1,5 @@
 -- What contracts see of passes and of their turns.
-use Rattle.std.specs.Prelude.{Bool, ◌≡◌, ◌≢◌, ◌⊎◌, ℕ, List, [], ◌∷◌, ◌++◌, true, false, Option, Some, None}
+use Rattle.std.specs.Prelude.{◌≡◌, ◌≢◌, ◌⊎◌, ℕ, List, [], ◌∷◌, ◌++◌, false, Option, Some}
 use Rattle.ws_turn.specs.Lists.{StartsWith, of, given, numbers, HasNoneOf}
 use Rattle.ws_turn.specs.Passes as tokens
 use Rattle.ws_turn.specs.declared.logged.Logged.{Ghosts as Logged}

@@ -1,4 +1,4 @@
-use Rattle.std.proofs.Common.{◌≡◌, true, sym, subst}
+use Rattle.std.proofs.Common.{◌≡◌, subst}
 use Rattle.ws_turn.specs.Lists.{of}
 use Rattle.pass_turns.proofs.There.{there_found}
 use Rattle.pass_turns.proofs.begin.begin_turn.Goals as goal

@@ -1,4 +1,4 @@
-use Rattle.std.proofs.Common.{◌≡◌, [], ◌∷◌, ◌++◌, true, false, sym, ap, ◌∙◌, subst}
+use Rattle.std.proofs.Common.{◌≡◌, [], ◌∷◌, ◌++◌, true, sym, ap, ◌∙◌, subst}
 use Rattle.ws_turn.specs.Lists.{StartsWith}
 use Rattle.ws_turn.specs.Passes.{known}
 use Rattle.pass_turns.proofs.There.{there_found}

@@ -1,5 +1,4 @@
 use Rattle.std.proofs.Common.{◌≡◌, true, sym, ap, ◌∙◌, subst}
-use Rattle.ws_turn.specs.Lists.{of}
 use Rattle.ws_turn.specs.Passes.{known}
 use Rattle.pass_turns.proofs.There.{there_found}
 use Rattle.pass_turns.proofs.Turned.{same_in}

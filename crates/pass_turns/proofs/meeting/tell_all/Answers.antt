@@ -1,7 +1,7 @@
-use Rattle.std.proofs.Common.{◌≡◌, refl, sym, ap, ◌∙◌, subst, arith, get_or}
-use Rattle.ws_turn.specs.Passes.{known, IsOf}
-use Rattle.pass_turns.specs.Turns.{knows, CameTo, Pairs}
-use Rattle.pass_turns.proofs.Pairs.{PairsTo, pairs_none, pairs_next, pairs_length, pairs_all, holds_at}
+use Rattle.std.proofs.Common.{refl, sym, ap, ◌∙◌, subst, arith}
+use Rattle.ws_turn.specs.Passes.{IsOf}
+use Rattle.pass_turns.specs.Turns.{knows, CameTo}
+use Rattle.pass_turns.proofs.Pairs.{pairs_none, pairs_next, pairs_length, pairs_all, holds_at}
 use Rattle.pass_turns.proofs.meeting.tell_all.Goals as goal
 
 pub loop-at-init : goal.loop-at-init

@@ -1,7 +1,6 @@
-use Rattle.std.proofs.Common.{◌≡◌, false, refl, sym, ap, ◌∙◌, subst}
-use Rattle.ws_turn.specs.Lists.{StartsWith, HasNoneOf}
-use Rattle.ws_turn.specs.Passes.{known}
-use Rattle.pass_turns.specs.Turns.{knows, shown, CameTo, IsOf}
+use Rattle.std.proofs.Common.{◌≡◌, false, sym, ap, ◌∙◌, subst}
+use Rattle.ws_turn.specs.Lists.{HasNoneOf}
+use Rattle.pass_turns.specs.Turns.{knows, shown, CameTo}
 use Rattle.pass_turns.proofs.Pairs.{pairs_wider}
 use Rattle.pass_turns.proofs.room.Room.close.Goals as goal
 

@@ -1,5 +1,4 @@
-use Rattle.std.proofs.Common.{◌≡◌, sym, subst}
-use Rattle.std.specs.Prelude.{Some}
+use Rattle.std.proofs.Common.{subst}
 use Rattle.pass_turns.specs.Turns.{knows, TookTurn}
 use Rattle.pass_turns.proofs.Waited.{waited}
 use Rattle.pass_turns.proofs.room.Room.wait.Goals as goal
