@@ -1,6 +1,6 @@
 -- What an event that was asked leaves.
-use Rattle.std.proofs.Common.{◌≡◌, ◌≢◌, ◌⊎◌, inl, inr, ◌≤◌, ℕ, Bool, true, false, List, [], ◌∷◌, ◌++◌, refl, sym, ap, ◌∙◌, subst, arith, append-nil, true≢false, if◌then◌else◌}
-use Rattle.std.specs.Prelude.{Option, Some, None, Result, Ok, Err, IfOk, IfErr, IsOk, OnOk, OnErr}
+use Rattle.std.proofs.Common.{◌≡◌, ◌≢◌, inl, inr, ℕ, Bool, true, false, List, [], ◌∷◌, ◌++◌, refl, sym, ap, ◌∙◌, subst, append-nil, true≢false, if◌then◌else◌}
+use Rattle.std.specs.Prelude.{None, Result, Ok, Err, IfOk, IsOk, OnOk, OnErr}
 use Rattle.std.specs.declared.alloc.AllocError.{AllocError}
 use Rattle.core_event.specs.declared.entry.Entry.{Entry}
 use Rattle.core_event.specs.declared.event.Event.{Event}

@@ -1,20 +1,19 @@
 -- A workspace that was just opened.
-use Rattle.std.proofs.Common.{◌≡◌, ℕ, Bool, true, false, List, [], refl, sym, ap, ◌∙◌, subst}
-use Rattle.std.specs.Prelude.{Option, Some, None, is_none, is_some, map}
+use Rattle.std.proofs.Common.{◌≡◌, ℕ, List, [], refl, sym, ap, ◌∙◌, subst}
+use Rattle.std.specs.Prelude.{Some, is_some, map}
 use Rattle.ws_outside.specs.declared.contents.Contents.{Contents}
 use Rattle.builder_api.specs.Told.{Told as BuilderTold}
 use Rattle.save_round.specs.Told.{Told as PartTold}
-use Rattle.core_event.specs.declared.entry.Entry.{Entry}
 use Rattle.job_manager.specs.declared.manager.JobManager.{JobManager}
 use Rattle.job_manager.specs.Managers.{first_manager}
 use Rattle.ws_core.specs.States.{Moment}
 use Rattle.ws_core.specs.Histories.{replay}
 use Rattle.ws_core.specs.Sessions.{Session}
-use Rattle.save_history.specs.Kept.{Keeper, IsKept}
+use Rattle.save_history.specs.Kept.{IsKept}
 use Rattle.save_history.specs.Rounds.{HadSaves, rounds_of}
 use Rattle.pass_history.specs.Served.{Served, services_of}
 use Rattle.ws_shared.specs.Fits.{Fits, Told, session}
-use Rattle.ws_shared.specs.Halls.{Hall, IsHall, Trio, opened_by, told_by}
+use Rattle.ws_shared.specs.Halls.{IsHall, Trio, opened_by, told_by}
 use Rattle.ws_shared.specs.Opened.{Opened}
 use Rattle.ws_shared.specs.declared.services.Opening.{Opening}
 

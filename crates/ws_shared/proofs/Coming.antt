@@ -1,6 +1,6 @@
 -- Services that fit what a pass has seen and its CheckIn fit what was done since then and the CheckIn.
-use Rattle.std.proofs.Common.{◌≡◌, ◌≢◌, ℕ, Bool, true, false, List, [], ◌∷◌, ◌++◌, map, refl, sym, ap, ◌∙◌, subst, if◌then◌else◌}
-use Rattle.std.specs.Prelude.{Option, Some, None}
+use Rattle.std.proofs.Common.{◌≡◌, ℕ, List, [], ◌∷◌, ◌++◌, map, refl, sym, ap, ◌∙◌, subst}
+use Rattle.std.specs.Prelude.{Some, None}
 use Rattle.std.specs.List.{AllByRecursion}
 use Rattle.ws_outside.specs.declared.contents.Contents.{Contents}
 use Rattle.builder_api.specs.Told.{Told as BuilderTold}
@@ -16,11 +16,10 @@ use Rattle.ws_durable.specs.Saved.{Saved}
 use Rattle.ws_core.specs.States.{Moment}
 use Rattle.ws_core.specs.Durables.{durable_of}
 use Rattle.ws_core.specs.Histories.{Legal, after, replay, replies}
-use Rattle.ws_core.specs.Steps.{step}
 use Rattle.ws_core.proofs.Grown.{replay_append}
 use Rattle.save_history.specs.Kept.{Keeper}
 use Rattle.save_history.specs.Points.{Points, points_from, with_step}
-use Rattle.save_history.specs.Rounds.{no_rounds, rounds_after, rounds_of}
+use Rattle.save_history.specs.Rounds.{no_rounds, rounds_after}
 use Rattle.save_history.specs.Steps.{Ends, step_of, steps_of}
 use Rattle.save_history.proofs.Walks.{points_append, steps_append}
 use Rattle.ws_turn.specs.Lists.{StartsWith, of}

@@ -1,5 +1,5 @@
 -- Services that fit a history fit it on.
-use Rattle.std.proofs.Common.{◌≡◌, ℕ, Bool, true, false, List, [], ◌∷◌, ◌++◌, refl, sym, ap, ◌∙◌, subst, inl, inr, ◌⊎◌, append-nil, if◌then◌else◌}
+use Rattle.std.proofs.Common.{◌≡◌, ℕ, Bool, true, false, List, [], ◌∷◌, ◌++◌, refl, sym, ap, ◌∙◌, subst, inl, inr, append-nil, if◌then◌else◌}
 use Rattle.std.specs.Prelude.{Option, Some, None}
 use Rattle.std.specs.Option.{option_to_list}
 use Rattle.std.specs.List.{AllByRecursion}
@@ -8,7 +8,6 @@ use Rattle.builder_api.specs.Told.{Told as BuilderTold}
 use Rattle.core_event.specs.declared.entry.Entry.{Entry}
 use Rattle.core_event.specs.declared.reply.Answer.{Answer}
 use Rattle.core_event.specs.declared.reply.Answer.TheVariants as answers
-use Rattle.ws_durable.specs.Saved.{Saved}
 use Rattle.ws_core.specs.States.{Moment}
 use Rattle.core_event.specs.declared.event.Event.TheVariants.{Service}
 use Rattle.core_event.specs.declared.service.Purpose.{Purpose}
@@ -18,10 +17,9 @@ use Rattle.core_event.specs.declared.service.ServiceEvent.TheVariants.{Checkout}
 use Rattle.core_event.specs.Events.{service_of}
 use Rattle.ws_core.specs.Histories.{after, only_tried, replay, written}
 use Rattle.ws_core.specs.Durables.{durable_of}
-use Rattle.ws_core.specs.Sessions.{Session}
-use Rattle.save_history.specs.Kept.{Keeper, IsKept, IsSafe, HasRisenBy, disk_of, first_disk, points_at}
+use Rattle.save_history.specs.Kept.{Keeper, IsSafe, HasRisenBy, disk_of, first_disk}
 use Rattle.save_history.specs.Points.{Points, points_from, with_step}
-use Rattle.save_history.specs.Rounds.{Rounds, HadSaves, no_rounds, rounds_after, rounds_of}
+use Rattle.save_history.specs.Rounds.{HadSaves, no_rounds, rounds_after, rounds_of}
 use Rattle.save_history.specs.Steps.{SaveStep, Begins, failures, step_asked, step_in, step_of, steps_of}
 use Rattle.save_history.specs.Steps as steps
 use Rattle.save_history.proofs.Walks.{no_step, plain_step, points_append, replay_append, steps_append}

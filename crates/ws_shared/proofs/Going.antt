@@ -1,6 +1,6 @@
 -- The services go out and come home.
-use Rattle.std.proofs.Common.{◌≡◌, ◌≢◌, ℕ, Bool, true, false, not, ◌&&◌, List, [], ◌∷◌, ◌++◌, refl, sym, ap, ◌∙◌, subst, inl, inr, ◌⊎◌, append-nil, append_assoc, true≢false, if◌then◌else◌}
-use Rattle.std.specs.Prelude.{IfSome, Option, Some, None, is_none, is_some}
+use Rattle.std.proofs.Common.{◌≡◌, ℕ, Bool, true, false, not, ◌&&◌, List, [], ◌∷◌, ◌++◌, refl, sym, ap, ◌∙◌, subst, inr, true≢false, if◌then◌else◌}
+use Rattle.std.specs.Prelude.{IfSome, Option, Some, None, is_some}
 use Rattle.std.specs.Option.{ForSome, option_map}
 use Rattle.std.specs.List.{AllByRecursion}
 use Rattle.proj_desc.specs.FirstCause.{first_cause, when}
@@ -13,7 +13,6 @@ use Rattle.core_event.specs.declared.reply.Answer.TheVariants as answers
 use Rattle.core_event.specs.declared.reply.Refusal.{Refusal}
 use Rattle.core_event.specs.declared.reply.Reply.{Reply}
 use Rattle.core_event.specs.declared.service.Outcomes.{Outcomes}
-use Rattle.core_event.specs.declared.service.Outcomes.TheVariants as outcomes
 use Rattle.core_event.specs.declared.service.Purpose.{Purpose}
 use Rattle.core_event.specs.declared.service.Purpose.TheVariants.{Build, Save}
 use Rattle.core_event.specs.declared.service.ServiceEvent.{ServiceEvent}
@@ -25,7 +24,7 @@ use Rattle.ws_core.specs.States.{Moment}
 use Rattle.ws_core.specs.Effects.{serve}
 use Rattle.ws_core.specs.Refusals.{refusal}
 use Rattle.ws_core.specs.Steps.{acted, act, tells, step}
-use Rattle.ws_core.specs.Histories.{entry_of, only_tried, replay, written}
+use Rattle.ws_core.specs.Histories.{entry_of, only_tried, written}
 use Rattle.ws_core.specs.Sessions.{Session}
 use Rattle.save_round.specs.Told.{Told as PartTold}
 use Rattle.core_event.specs.Replies.{is_attempt}
@@ -37,7 +36,7 @@ use Rattle.ws_shared.specs.Halls.{Hall, Trio, opened_by, told_by, trio_of}
 use Rattle.ws_shared.specs.declared.services.Services.{Services}
 use Rattle.ws_shared.specs.Opened.{Opened}
 use Rattle.ws_shared.proofs.Halls.{Keeps, WentOn, hall_on, quiet_noted, written_on}
-use Rattle.ws_core.proofs.ServingPass.{serving_fits, serving_named}
+use Rattle.ws_core.proofs.ServingPass.{serving_named}
 use Rattle.run_order.proofs.Managed.{told_answer}
 use Rattle.pass_history.specs.Served.{Served, was_done}
 use Rattle.pass_history.proofs.Serving.{IsQuiet, first_none, serving_of, told_serving}

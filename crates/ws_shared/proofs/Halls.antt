@@ -1,7 +1,6 @@
 -- What the lock keeps goes on.
 use Rattle.std.proofs.Common.{◌≡◌, ℕ, Bool, true, false, List, [], ◌∷◌, ◌++◌, refl, sym, ap, ◌∙◌, subst, append-nil, if◌then◌else◌}
-use Rattle.std.specs.Prelude.{Option, Some, None, Result, Ok, Err, OnOk, OnErr, is_none, is_some, map}
-use Rattle.std.specs.Option.{ForSome}
+use Rattle.std.specs.Prelude.{Option, Some, None, Result, Ok, Err, OnOk, OnErr, is_none, is_some}
 use Rattle.std.specs.List.{AllByRecursion}
 use Rattle.std.specs.declared.alloc.AllocError.{AllocError}
 use Rattle.ws_outside.specs.declared.contents.Contents.{Contents}
@@ -10,7 +9,6 @@ use Rattle.save_round.specs.Told.{Told as PartTold}
 use Rattle.core_event.specs.declared.entry.Entry.{Entry}
 use Rattle.core_event.specs.declared.event.Event.{Event}
 use Rattle.core_event.specs.declared.reply.Reply.{Reply}
-use Rattle.job_manager.specs.Managers.{first_manager}
 use Rattle.ws_core.specs.States.{Moment}
 use Rattle.ws_core.specs.Steps.{step}
 use Rattle.ws_core.specs.Histories.{entry_of, only_tried, written}
@@ -18,8 +16,8 @@ use Rattle.ws_core.specs.Sessions.{Session}
 use Rattle.save_history.specs.Rounds.{no_rounds, rounds_after, rounds_of}
 use Rattle.pass_history.specs.Served.{Served, keeps_services}
 use Rattle.pass_history.proofs.Serving.{IsQuiet, moved_nothing, nobody_serves}
-use Rattle.ws_shared.specs.Fits.{Fits, Told}
-use Rattle.ws_shared.specs.Halls.{Hall, IsHall, Trio, told_by, opened_by}
+use Rattle.ws_shared.specs.Fits.{Fits}
+use Rattle.ws_shared.specs.Halls.{Hall, IsHall, told_by, opened_by}
 use Rattle.ws_shared.specs.Opened.{Opened}
 use Rattle.ws_shared.proofs.Fitting.{fits_on, steps_stay}
 

@@ -1,7 +1,6 @@
 -- What entering and leaving leave.
-use Rattle.std.proofs.Common.{◌≡◌, ◌≢◌, ◌⊎◌, inl, inr, ◌≤◌, ◌+◌, ℕ, Bool, true, false, List, [], ◌∷◌, ◌++◌, refl, sym, ap, ◌∙◌, subst, arith, true≢false, if◌then◌else◌}
-use Rattle.std.specs.Prelude.{Option, Some, None, Result, Ok, Err, IfOk, IfErr, OnOk, OnErr}
-use Rattle.std.specs.declared.alloc.AllocError.{AllocError}
+use Rattle.std.proofs.Common.{◌≡◌, ◌≢◌, inl, inr, ℕ, Bool, true, false, List, [], ◌∷◌, ◌++◌, refl, sym, ap, ◌∙◌, subst, arith, true≢false, if◌then◌else◌}
+use Rattle.std.specs.Prelude.{None, Result, Ok, Err, IfErr, OnOk, OnErr}
 use Rattle.core_event.specs.declared.entry.Entry.{Entry}
 use Rattle.core_event.specs.declared.event.Event.TheVariants.{Enter, Leave}
 use Rattle.core_event.specs.declared.reply.Answer.{Answer}
@@ -17,12 +16,12 @@ use Rattle.ws_core.proofs.Grown.{replay_append}
 use Rattle.pass_turns.specs.Adds.{AddsUpToOne, WasRefused}
 use Rattle.pass_turns.specs.declared.machine.LeaveError.{LeaveError}
 use Rattle.pass_turns.specs.declared.machine.LeaveError.TheVariants as errors
-use Rattle.pass_history.specs.There.{HasLeft, LetsIn, WasBusy, gives, is_there, number_in}
+use Rattle.pass_history.specs.There.{HasLeft, WasBusy, gives, is_there}
 use Rattle.pass_history.proofs.Given.{enter_answer, next_new, replay_next}
 use Rattle.pass_history.proofs.Leaving.{busy_stays, enter_stands, enter_there, leave_answer, leave_stands}
 use Rattle.pass_history.proofs.Staying.{stays_after}
 use Rattle.ws_turn.specs.Lists.{given}
-use Rattle.ws_shared.specs.Asked.{WasAsked, noted}
+use Rattle.ws_shared.specs.Asked.{WasAsked}
 
 same_id : (a b : ℕ) → Id a ≡ Id b → a ≡ b
 same_id a b e = let e : Id a ≡ Id b = e in cc

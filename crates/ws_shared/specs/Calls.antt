@@ -6,10 +6,8 @@ use Rattle.core_event.specs.declared.event.Event.{Event}
 use Rattle.core_event.specs.declared.reply.Reply.{Reply}
 use Rattle.ws_core.specs.States.{Moment}
 use Rattle.ws_core.specs.Histories.{Legal}
-use Rattle.pass_turns.specs.Turns as rooms
 use Rattle.pass_turns.specs.Turns.{Knows, TookTurn}
 use Rattle.ws_shared.specs.Asked.{HasStood, WasAsked}
-use Rattle.ws_shared.specs.Halls.{Hall}
 use Rattle.ws_shared.specs.declared.services.Opening.{Opening}
 
 -- the pass that made an entry

@@ -1,5 +1,5 @@
 -- When the services fit a history.
-use Rattle.std.specs.Prelude.{◌≡◌, ℕ, List, map}
+use Rattle.std.specs.Prelude.{◌≡◌, ℕ, List}
 use Rattle.ws_outside.specs.declared.contents.Contents.{Contents}
 use Rattle.builder_api.specs.Told.{Told as BuilderTold}
 use Rattle.save_round.specs.Told.{Told as PartTold}

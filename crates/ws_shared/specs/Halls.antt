@@ -1,5 +1,5 @@
 -- What the lock keeps.
-use Rattle.std.specs.Prelude.{◌≡◌, ℕ, List, map, Option, Some, None, is_none, is_some}
+use Rattle.std.specs.Prelude.{◌≡◌, List, map, Option, None, is_none, is_some}
 use Rattle.std.specs.Option.{ForSome}
 use Rattle.builder_api.specs.Told.{Told as BuilderTold}
 use Rattle.save_round.specs.Told.{Told as PartTold}

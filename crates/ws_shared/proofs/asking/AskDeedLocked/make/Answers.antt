@@ -1,5 +1,4 @@
-use Rattle.std.proofs.Common.{◌≡◌, ◌++◌, List, true, sym, ap, ◌∙◌, subst}
-use Rattle.std.specs.Prelude.{Some}
+use Rattle.std.proofs.Common.{◌≡◌, true, sym, ap, ◌∙◌, subst}
 use Rattle.pass_history.specs.There.{is_there}
 use Rattle.ws_turn.proofs.Lists.{some_same}
 use Rattle.ws_shared.specs.Asked.{WasAsked, is_plain}

@@ -1,4 +1,4 @@
-use Rattle.std.proofs.Common.{◌≡◌, true, sym, ap, ◌∙◌, subst}
+use Rattle.std.proofs.Common.{◌≡◌, true, sym, ap, subst}
 use Rattle.pass_history.specs.There.{is_there}
 use Rattle.ws_shared.proofs.Asked.{stood_there}
 use Rattle.ws_shared.proofs.asking.WishAttemptLocked.attempt.Goals as goal

@@ -1,4 +1,4 @@
-use Rattle.std.proofs.Common.{◌≡◌, ◌++◌, List, true, sym, ap, ◌∙◌, subst}
+use Rattle.std.proofs.Common.{◌≡◌, List, true, sym, ap, ◌∙◌, subst}
 use Rattle.core_event.specs.declared.entry.Entry.{Entry}
 use Rattle.pass_history.specs.There.{is_there}
 use Rattle.ws_turn.proofs.Lists.{some_same}

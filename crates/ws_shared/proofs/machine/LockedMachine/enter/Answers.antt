@@ -1,7 +1,5 @@
-use Rattle.std.proofs.Common.{◌≡◌, true, sym, ap, ◌∙◌, subst}
+use Rattle.std.proofs.Common.{◌≡◌, true, sym, ap, subst}
 use Rattle.pass_history.specs.There.{is_there}
-use Rattle.ws_shared.specs.Asked.{WasAsked}
-use Rattle.core_event.specs.declared.event.Event.TheVariants.{Enter}
 use Rattle.ws_shared.proofs.Numbers.{enter_both, enter_new}
 use Rattle.ws_shared.proofs.machine.LockedMachine.enter.Goals as goal
 

@@ -1,4 +1,4 @@
-use Rattle.std.proofs.Common.{◌≡◌, true, sym, ap, ◌∙◌, subst}
+use Rattle.std.proofs.Common.{◌≡◌, true, sym, ap, subst}
 use Rattle.std.specs.Prelude.{OnErr}
 use Rattle.pass_history.specs.There.{is_there}
 use Rattle.ws_shared.proofs.Numbers.{left_err, left_ok, left_still}

@@ -1,5 +1,5 @@
 use Rattle.std.proofs.Common.{refl}
-use Rattle.pass_turns.specs.Turns.{base_of, knows}
+use Rattle.pass_turns.specs.Turns.{knows}
 use Rattle.pass_turns.proofs.Waited.{turn_wider}
 use Rattle.ws_shared.specs.Asked.{WasAsked}
 use Rattle.ws_shared.specs.Calls.{legal_from, pass_of, state_in}
