@@ -7,7 +7,7 @@ ghost use Rattle.ws_core.specs.Histories.{notices};
 ghost use Rattle.save_history.specs.Kept.{IsKept};
 ghost use Rattle.pass_history.specs.Served.{who_serves};
 ghost use Rattle.ws_turn.specs.Lists.{StartsWith, longer};
-ghost use Rattle.pass_turns.specs.Turns.{base_of, CameTo, EndsWith, knows, Pairs, IsFaithful, IsOf, LetIn, LetNobodyIn, StaysThere, TookIn, TookTurn};
+ghost use Rattle.pass_turns.specs.Turns.{CameTo, EndsWith, knows, Pairs, IsFaithful, LetIn, LetNobodyIn, StaysThere, TookIn, TookTurn};
 ghost use Rattle.pass_history.specs.There.{gives, HasLeft, LetsIn, WasBusy};
 ghost use Rattle.ws_shared.specs.Jobs.{job_event};
 ghost use Rattle.ws_shared.specs.Asked.{HasCounted, is_plain};
@@ -48,7 +48,7 @@ pub struct Workspace<D: Disk, B: Builder, P: Participant, V: Vow> {
 }
 
 impl<D: Disk, B: Builder, P: Participant, V: Vow> Workspace<D, B, P, V> {
-    ghost use Rattle.ws_shared.specs.Calls.{Asked, Stood, legal_from, pass_of, state_in};
+    ghost use Rattle.ws_shared.specs.Calls.{Asked, IsOf, Stood, legal_from, opening_of, pass_of, state_in};
     ghost use Rattle.ws_shared.specs.Fits.{Fits};
     ghost use Rattle.ws_shared.specs.Halls.{opened_by, told_by, trio_of};
     ghost use Rattle.ws_shared.specs.Moved.{ComesHome, WasBrought, WasLent};
@@ -67,8 +67,8 @@ impl<D: Disk, B: Builder, P: Participant, V: Vow> Workspace<D, B, P, V> {
         requires first { core.opened.manager ≡ first_manager }
         requires kept { IsKept D.moment D.left_since D.may_leave D.faults core services.keeper }
         requires vowed { V.fits (record { state = core.opened; builders = map (λ b. B.tells b) services.builders; participants = map (λ p. P.tells p) services.participants }) (map (λ b. B.tells b) services.builders) [] }
-        ensures of { IfOk result (λ r. IsOf r.0.room r.1) }
-        ensures opening { IfOk result (λ r. let o = base_of (λ l. l.opening) r.0.room in (o.core.value ≡ core) × (o.keeper.value ≡ services.keeper) × (o.builders.value ≡ services.builders) × (o.participants.value ≡ services.participants)) }
+        ensures of { IfOk result (λ r. IsOf r.0 r.1) }
+        ensures opening { IfOk result (λ r. let o = opening_of r.0 in (o.core.value ≡ core) × (o.keeper.value ≡ services.keeper) × (o.builders.value ≡ services.builders) × (o.participants.value ≡ services.participants)) }
         ensures pass { IfOk result (λ r. knows r.1 ≡ record { number = 0; seen = []; mine = []; lost = [] }) }
         ensures err { IfErr result (λ e. e.1 ≡ core) }
     {
@@ -90,14 +90,14 @@ impl<D: Disk, B: Builder, P: Participant, V: Vow> Workspace<D, B, P, V> {
         pass: Pass<D, B, P, V>,
         others: &mut Vec<Pass<D, B, P, V>>,
     ) -> Result<Closed<D, B, P>, (Workspace<D, B, P, V>, Pass<D, B, P, V>)>
-        requires of { IsOf self.room pass }
-        requires others { AllByRecursion (λ p. IsOf self.room p) others.old.items }
-        ensures ok { IfOk result (λ w. EndsWith pass_of legal_from (base_of (λ l. l.opening) self.room) w.core.history (knows pass)) }
+        requires of { IsOf self pass }
+        requires others { AllByRecursion (λ p. IsOf self p) others.old.items }
+        ensures ok { IfOk result (λ w. EndsWith pass_of legal_from (opening_of self) w.core.history (knows pass)) }
         ensures told { IfOk result (λ w. Pairs (λ p q. CameTo pass_of w.core.history (knows p) (knows q)) others.old.items others.new.items) }
-        ensures fits { IfOk result (λ w. let o = base_of (λ l. l.opening) self.room in Fits D.moment D.left_since D.may_leave D.faults V.fits (opened_by B.tells P.tells o) o.keeper.value w.core.history (told_by B.tells P.tells (trio_of w.services))) }
-        ensures refused { IfErr result (λ e. (h : List Entry) × legal_from (base_of (λ l. l.opening) self.room) h × (is_none (who_serves (state_in (base_of (λ l. l.opening) self.room)) h) ≡ false) × CameTo pass_of h (knows pass) (knows e.1)
-            × Pairs (λ p q. IsOf self.room q × CameTo pass_of h (knows p) (knows q)) others.old.items others.new.items) }
-        ensures same { IfErr result (λ e. (e.0 ≡ self) × IsOf e.0.room e.1) }
+        ensures fits { IfOk result (λ w. let o = opening_of self in Fits D.moment D.left_since D.may_leave D.faults V.fits (opened_by B.tells P.tells o) o.keeper.value w.core.history (told_by B.tells P.tells (trio_of w.services))) }
+        ensures refused { IfErr result (λ e. (h : List Entry) × legal_from (opening_of self) h × (is_none (who_serves (state_in (opening_of self)) h) ≡ false) × CameTo pass_of h (knows pass) (knows e.1)
+            × Pairs (λ p q. IsOf self q × CameTo pass_of h (knows p) (knows q)) others.old.items others.new.items) }
+        ensures same { IfErr result (λ e. (e.0 ≡ self) × IsOf e.0 e.1) }
     {
         match self.room.close(rt, pass, others) {
             Ok(locked) => {
@@ -116,10 +116,10 @@ impl<D: Disk, B: Builder, P: Participant, V: Vow> Workspace<D, B, P, V> {
         pass: &mut Pass<D, B, P, V>,
         event: Event,
     ) -> Result<Reply, NoMemory>
-        requires of { IsOf self.now.room pass.old }
+        requires of { IsOf self.now pass.old }
         requires plain { is_plain event ≡ true }
-        ensures of { IsOf self.now.room pass.new }
-        ensures asked { Asked (base_of (λ l. l.opening) self.now.room) event result (knows pass.old) (knows pass.new) }
+        ensures of { IsOf self.now pass.new }
+        ensures asked { Asked (opening_of self.now) event result (knows pass.old) (knows pass.new) }
     {
         let mut deed = Ask { event: Some(event) };
         let answer = self.room.turn(rt, alloc, pass, &mut deed);
@@ -135,9 +135,9 @@ impl<D: Disk, B: Builder, P: Participant, V: Vow> Workspace<D, B, P, V> {
         pass: &mut Pass<D, B, P, V>,
         rule: WsRule,
     ) -> Result<Reply, NoMemory>
-        requires { IsOf self.now.room pass.old }
-        ensures of { IsOf self.now.room pass.new }
-        ensures asked { Asked (base_of (λ l. l.opening) self.now.room) (Event.TryBegin rule) result (knows pass.old) (knows pass.new) }
+        requires { IsOf self.now pass.old }
+        ensures of { IsOf self.now pass.new }
+        ensures asked { Asked (opening_of self.now) (Event.TryBegin rule) result (knows pass.old) (knows pass.new) }
     {
         self.ask(rt, alloc, pass, Event::TryBegin(rule))
     }
@@ -150,9 +150,9 @@ impl<D: Disk, B: Builder, P: Participant, V: Vow> Workspace<D, B, P, V> {
         pass: &mut Pass<D, B, P, V>,
         rule: WsRule,
     ) -> Result<Reply, NoMemory>
-        requires { IsOf self.now.room pass.old }
-        ensures of { IsOf self.now.room pass.new }
-        ensures asked { Asked (base_of (λ l. l.opening) self.now.room) (Event.End rule) result (knows pass.old) (knows pass.new) }
+        requires { IsOf self.now pass.old }
+        ensures of { IsOf self.now pass.new }
+        ensures asked { Asked (opening_of self.now) (Event.End rule) result (knows pass.old) (knows pass.new) }
     {
         self.ask(rt, alloc, pass, Event::End(rule))
     }
@@ -165,9 +165,9 @@ impl<D: Disk, B: Builder, P: Participant, V: Vow> Workspace<D, B, P, V> {
         pass: &mut Pass<D, B, P, V>,
         to: u64,
     ) -> Result<Reply, NoMemory>
-        requires { IsOf self.now.room pass.old }
-        ensures of { IsOf self.now.room pass.new }
-        ensures asked { Asked (base_of (λ l. l.opening) self.now.room) (Event.Transfer to) result (knows pass.old) (knows pass.new) }
+        requires { IsOf self.now pass.old }
+        ensures of { IsOf self.now pass.new }
+        ensures asked { Asked (opening_of self.now) (Event.Transfer to) result (knows pass.old) (knows pass.new) }
     {
         self.ask(rt, alloc, pass, Event::Transfer(to))
     }
@@ -179,9 +179,9 @@ impl<D: Disk, B: Builder, P: Participant, V: Vow> Workspace<D, B, P, V> {
         alloc: Global,
         pass: &mut Pass<D, B, P, V>,
     ) -> Result<Reply, NoMemory>
-        requires { IsOf self.now.room pass.old }
-        ensures of { IsOf self.now.room pass.new }
-        ensures asked { Asked (base_of (λ l. l.opening) self.now.room) Event.Batch result (knows pass.old) (knows pass.new) }
+        requires { IsOf self.now pass.old }
+        ensures of { IsOf self.now pass.new }
+        ensures asked { Asked (opening_of self.now) Event.Batch result (knows pass.old) (knows pass.new) }
     {
         self.ask(rt, alloc, pass, Event::Batch)
     }
@@ -193,9 +193,9 @@ impl<D: Disk, B: Builder, P: Participant, V: Vow> Workspace<D, B, P, V> {
         alloc: Global,
         pass: &mut Pass<D, B, P, V>,
     ) -> Result<Reply, NoMemory>
-        requires { IsOf self.now.room pass.old }
-        ensures of { IsOf self.now.room pass.new }
-        ensures asked { Asked (base_of (λ l. l.opening) self.now.room) Event.EndBatch result (knows pass.old) (knows pass.new) }
+        requires { IsOf self.now pass.old }
+        ensures of { IsOf self.now pass.new }
+        ensures asked { Asked (opening_of self.now) Event.EndBatch result (knows pass.old) (knows pass.new) }
     {
         self.ask(rt, alloc, pass, Event::EndBatch)
     }
@@ -207,9 +207,9 @@ impl<D: Disk, B: Builder, P: Participant, V: Vow> Workspace<D, B, P, V> {
         alloc: Global,
         pass: &mut Pass<D, B, P, V>,
     ) -> Result<Reply, NoMemory>
-        requires { IsOf self.now.room pass.old }
-        ensures of { IsOf self.now.room pass.new }
-        ensures asked { Asked (base_of (λ l. l.opening) self.now.room) Event.Checkpoint result (knows pass.old) (knows pass.new) }
+        requires { IsOf self.now pass.old }
+        ensures of { IsOf self.now pass.new }
+        ensures asked { Asked (opening_of self.now) Event.Checkpoint result (knows pass.old) (knows pass.new) }
     {
         self.ask(rt, alloc, pass, Event::Checkpoint)
     }
@@ -223,10 +223,10 @@ impl<D: Disk, B: Builder, P: Participant, V: Vow> Workspace<D, B, P, V> {
         pass: &mut Pass<D, B, P, V>,
         event: Event,
     ) -> Result<Reply, NoMemory>
-        requires of { IsOf self.now.room pass.old }
+        requires of { IsOf self.now pass.old }
         requires plain { is_plain event ≡ true }
-        ensures of { IsOf self.now.room pass.new }
-        ensures stood { Stood (base_of (λ l. l.opening) self.now.room) event result (knows pass.old) (knows pass.new) }
+        ensures of { IsOf self.now pass.new }
+        ensures stood { Stood (opening_of self.now) event result (knows pass.old) (knows pass.new) }
     {
         let mut wish = Wish { event };
         let answer = self.room.wait(rt, alloc, pass, &mut wish);
@@ -242,9 +242,9 @@ impl<D: Disk, B: Builder, P: Participant, V: Vow> Workspace<D, B, P, V> {
         pass: &mut Pass<D, B, P, V>,
         op: Op,
     ) -> Result<Reply, NoMemory>
-        requires { IsOf self.now.room pass.old }
-        ensures of { IsOf self.now.room pass.new }
-        ensures stood { Stood (base_of (λ l. l.opening) self.now.room) (Event.Operation op) result (knows pass.old) (knows pass.new) }
+        requires { IsOf self.now pass.old }
+        ensures of { IsOf self.now pass.new }
+        ensures stood { Stood (opening_of self.now) (Event.Operation op) result (knows pass.old) (knows pass.new) }
     {
         self.wait_for(rt, alloc, pass, Event::Operation(op))
     }
@@ -257,9 +257,9 @@ impl<D: Disk, B: Builder, P: Participant, V: Vow> Workspace<D, B, P, V> {
         pass: &mut Pass<D, B, P, V>,
         rule: WsRule,
     ) -> Result<Reply, NoMemory>
-        requires { IsOf self.now.room pass.old }
-        ensures of { IsOf self.now.room pass.new }
-        ensures stood { Stood (base_of (λ l. l.opening) self.now.room) (Event.Begin rule) result (knows pass.old) (knows pass.new) }
+        requires { IsOf self.now pass.old }
+        ensures of { IsOf self.now pass.new }
+        ensures stood { Stood (opening_of self.now) (Event.Begin rule) result (knows pass.old) (knows pass.new) }
     {
         self.wait_for(rt, alloc, pass, Event::Begin(rule))
     }
@@ -272,9 +272,9 @@ impl<D: Disk, B: Builder, P: Participant, V: Vow> Workspace<D, B, P, V> {
         pass: &mut Pass<D, B, P, V>,
         event: JobEvent,
     ) -> Result<Reply, NoMemory>
-        requires { IsOf self.now.room pass.old }
-        ensures of { IsOf self.now.room pass.new }
-        ensures asked { Asked (base_of (λ l. l.opening) self.now.room) (job_event event) result (knows pass.old) (knows pass.new) }
+        requires { IsOf self.now pass.old }
+        ensures of { IsOf self.now pass.new }
+        ensures asked { Asked (opening_of self.now) (job_event event) result (knows pass.old) (knows pass.new) }
     {
         let event = event.into_event();
         self.ask(rt, alloc, pass, event)
@@ -288,10 +288,10 @@ impl<D: Disk, B: Builder, P: Participant, V: Vow> Workspace<D, B, P, V> {
         alloc: Global,
         pass: &mut Pass<D, B, P, V>,
     ) -> Result<Pass<D, B, P, V>, NoMemory>
-        requires { IsOf self.now.room pass.old }
-        ensures of { IsOf self.now.room pass.new × IfOk result (IsOf self.now.room) }
-        ensures ok { IfOk result (λ new. LetIn pass_of gives LetsIn legal_from (base_of (λ l. l.opening) self.now.room) (knows pass.old) (knows pass.new) (knows new)) }
-        ensures err { OnErr result (LetNobodyIn pass_of gives legal_from (base_of (λ l. l.opening) self.now.room) (knows pass.old) (knows pass.new)) }
+        requires { IsOf self.now pass.old }
+        ensures of { IsOf self.now pass.new × IfOk result (IsOf self.now) }
+        ensures ok { IfOk result (λ new. LetIn pass_of gives LetsIn legal_from (opening_of self.now) (knows pass.old) (knows pass.new) (knows new)) }
+        ensures err { OnErr result (LetNobodyIn pass_of gives legal_from (opening_of self.now) (knows pass.old) (knows pass.new)) }
     {
         self.room.split(rt, alloc, pass)
     }
@@ -305,11 +305,11 @@ impl<D: Disk, B: Builder, P: Participant, V: Vow> Workspace<D, B, P, V> {
         pass: &mut Pass<D, B, P, V>,
         other: Pass<D, B, P, V>,
     ) -> Result<(), (JoinError, Pass<D, B, P, V>)>
-        requires { IsOf self.now.room pass.old × IsOf self.now.room other }
-        ensures of { IsOf self.now.room pass.new × IfErr result (λ e. IsOf self.now.room e.1) }
-        ensures ok { OnOk result (TookIn pass_of HasLeft legal_from (base_of (λ l. l.opening) self.now.room) (knows pass.old) (knows other) (knows pass.new)) }
+        requires { IsOf self.now pass.old × IsOf self.now other }
+        ensures of { IsOf self.now pass.new × IfErr result (λ e. IsOf self.now e.1) }
+        ensures ok { OnOk result (TookIn pass_of HasLeft legal_from (opening_of self.now) (knows pass.old) (knows other) (knows pass.new)) }
         ensures same { OnErr result (knows pass.new ≡ knows pass.old) }
-        ensures err { IfErr result (λ e. StaysThere pass_of gives WasBusy legal_from (base_of (λ l. l.opening) self.now.room) e.0 (knows other) (knows e.1)) }
+        ensures err { IfErr result (λ e. StaysThere pass_of gives WasBusy legal_from (opening_of self.now) e.0 (knows other) (knows e.1)) }
     {
         self.room.join(rt, alloc, pass, other)
     }
@@ -317,8 +317,8 @@ impl<D: Disk, B: Builder, P: Participant, V: Vow> Workspace<D, B, P, V> {
     /// The pass has then seen what each of the two had seen; the other stays as it is. It waits for nobody, and takes no
     /// memory.
     pub fn meet(&self, pass: &mut Pass<D, B, P, V>, other: &mut Pass<D, B, P, V>)
-        requires { IsOf self.now.room pass.old × IsOf self.now.room other.old }
-        ensures of { IsOf self.now.room pass.new × IsOf self.now.room other.new }
+        requires { IsOf self.now pass.old × IsOf self.now other.old }
+        ensures of { IsOf self.now pass.new × IsOf self.now other.new }
         ensures pass { knows pass.new ≡ record (knows pass.old) { seen = longer (knows pass.old).seen (knows other.old).seen } }
         ensures begins { StartsWith (knows pass.new).seen (knows pass.old).seen × StartsWith (knows pass.new).seen (knows other.old).seen }
         ensures faithful { IsFaithful pass_of (knows pass.new) }
@@ -336,10 +336,10 @@ impl<D: Disk, B: Builder, P: Participant, V: Vow> Workspace<D, B, P, V> {
         pass: &mut Pass<D, B, P, V>,
         why: Purpose,
     ) -> Result<(Reply, Option<Services<D, B, P>>), NoMemory>
-        requires { IsOf self.now.room pass.old }
-        ensures of { IsOf self.now.room pass.new }
+        requires { IsOf self.now pass.old }
+        ensures of { IsOf self.now pass.new }
         ensures lent { TookTurn pass_of legal_from (λ o n. WasLent (λ h s. Fits D.moment D.left_since D.may_leave D.faults V.fits (opened_by B.tells P.tells o) o.keeper.value h (told_by B.tells P.tells (trio_of s))) (state_in o) n why)
-            (base_of (λ l. l.opening) self.now.room) result (knows pass.old) (knows pass.new) }
+            (opening_of self.now) result (knows pass.old) (knows pass.new) }
     {
         let mut deed = Take { purpose: Some(why) };
         let answer = self.room.turn(rt, alloc, pass, &mut deed);
@@ -358,10 +358,10 @@ impl<D: Disk, B: Builder, P: Participant, V: Vow> Workspace<D, B, P, V> {
         services: Services<D, B, P>,
         outcome: Outcomes,
     ) -> Result<Reply, (CheckInError, Services<D, B, P>)>
-        requires of { IsOf self.now.room pass.old }
-        requires fits { let o = base_of (λ l. l.opening) self.now.room in ComesHome (λ h. Fits D.moment D.left_since D.may_leave D.faults V.fits (opened_by B.tells P.tells o) o.keeper.value h (told_by B.tells P.tells (trio_of services))) (knows pass.old).number outcome (knows pass.old).seen }
-        ensures of { IsOf self.now.room pass.new }
-        ensures brought { TookTurn pass_of legal_from (λ o n. WasBrought (state_in o) n outcome services) (base_of (λ l. l.opening) self.now.room) result (knows pass.old) (knows pass.new) }
+        requires of { IsOf self.now pass.old }
+        requires fits { let o = opening_of self.now in ComesHome (λ h. Fits D.moment D.left_since D.may_leave D.faults V.fits (opened_by B.tells P.tells o) o.keeper.value h (told_by B.tells P.tells (trio_of services))) (knows pass.old).number outcome (knows pass.old).seen }
+        ensures of { IsOf self.now pass.new }
+        ensures brought { TookTurn pass_of legal_from (λ o n. WasBrought (state_in o) n outcome services) (opening_of self.now) result (knows pass.old) (knows pass.new) }
     {
         let _ = pass.at();
         let mut deed = Give {
@@ -381,10 +381,10 @@ impl<D: Disk, B: Builder, P: Participant, V: Vow> Workspace<D, B, P, V> {
         pass: &mut Pass<D, B, P, V>,
         why: Purpose,
     ) -> Result<(Reply, Option<Services<D, B, P>>), NoMemory>
-        requires { IsOf self.now.room pass.old }
-        ensures of { IsOf self.now.room pass.new }
+        requires { IsOf self.now pass.old }
+        ensures of { IsOf self.now pass.new }
         ensures lent { TookTurn pass_of legal_from (λ o n. WasLent (λ h s. Fits D.moment D.left_since D.may_leave D.faults V.fits (opened_by B.tells P.tells o) o.keeper.value h (told_by B.tells P.tells (trio_of s))) (state_in o) n why)
-            (base_of (λ l. l.opening) self.now.room) result (knows pass.old) (knows pass.new) }
+            (opening_of self.now) result (knows pass.old) (knows pass.new) }
     {
         let mut wish = Await { purpose: why };
         let answer = self.room.wait(rt, alloc, pass, &mut wish);
@@ -403,9 +403,9 @@ impl<D: Disk, B: Builder, P: Participant, V: Vow> Workspace<D, B, P, V> {
         index: u16,
         kind: BuildKind,
     ) -> Result<Reply, NoMemory>
-        requires { IsOf self.now.room pass.old }
-        ensures of { IsOf self.now.room pass.new }
-        ensures asked { Asked (base_of (λ l. l.opening) self.now.room) (Event.Service (ServiceEvent.Handed project index kind)) result (knows pass.old) (knows pass.new) }
+        requires { IsOf self.now pass.old }
+        ensures of { IsOf self.now pass.new }
+        ensures asked { Asked (opening_of self.now) (Event.Service (ServiceEvent.Handed project index kind)) result (knows pass.old) (knows pass.new) }
     {
         self.ask(
             rt,
@@ -423,9 +423,9 @@ impl<D: Disk, B: Builder, P: Participant, V: Vow> Workspace<D, B, P, V> {
         pass: &mut Pass<D, B, P, V>,
         edits: Edits,
     ) -> Result<Reply, NoMemory>
-        requires { IsOf self.now.room pass.old }
-        ensures of { IsOf self.now.room pass.new }
-        ensures asked { Asked (base_of (λ l. l.opening) self.now.room) (Event.Service (ServiceEvent.Commit edits)) result (knows pass.old) (knows pass.new) }
+        requires { IsOf self.now pass.old }
+        ensures of { IsOf self.now pass.new }
+        ensures asked { Asked (opening_of self.now) (Event.Service (ServiceEvent.Commit edits)) result (knows pass.old) (knows pass.new) }
     {
         self.ask(rt, alloc, pass, Event::Service(ServiceEvent::Commit(edits)))
     }
@@ -439,9 +439,9 @@ impl<D: Disk, B: Builder, P: Participant, V: Vow> Workspace<D, B, P, V> {
         project: Name,
         index: u16,
     ) -> Result<Reply, NoMemory>
-        requires { IsOf self.now.room pass.old }
-        ensures of { IsOf self.now.room pass.new }
-        ensures asked { Asked (base_of (λ l. l.opening) self.now.room) (Event.Service (ServiceEvent.Clean project index)) result (knows pass.old) (knows pass.new) }
+        requires { IsOf self.now pass.old }
+        ensures of { IsOf self.now pass.new }
+        ensures asked { Asked (opening_of self.now) (Event.Service (ServiceEvent.Clean project index)) result (knows pass.old) (knows pass.new) }
     {
         self.ask(
             rt,
@@ -454,9 +454,9 @@ impl<D: Disk, B: Builder, P: Participant, V: Vow> Workspace<D, B, P, V> {
     /// How many jobs wait or are run, and how many were finished, at the end of a history that begins with what the pass had
     /// seen, and which it has seen then.
     pub fn jobs<R: Wait>(&self, rt: &R, alloc: Global, pass: &mut Pass<D, B, P, V>) -> JobCount
-        requires { IsOf self.now.room pass.old }
-        ensures of { IsOf self.now.room pass.new }
-        ensures counted { TookTurn pass_of legal_from (λ o. HasCounted (state_in o)) (base_of (λ l. l.opening) self.now.room) result (knows pass.old) (knows pass.new) }
+        requires { IsOf self.now pass.old }
+        ensures of { IsOf self.now pass.new }
+        ensures counted { TookTurn pass_of legal_from (λ o. HasCounted (state_in o)) (opening_of self.now) result (knows pass.old) (knows pass.new) }
     {
         let mut deed = Count;
         self.room.turn(rt, alloc, pass, &mut deed)
@@ -471,9 +471,9 @@ impl<D: Disk, B: Builder, P: Participant, V: Vow> Workspace<D, B, P, V> {
         pass: &mut Pass<D, B, P, V>,
         from: usize,
     ) -> Result<Vec<Delta>, NoMemory>
-        requires { IsOf self.now.room pass.old }
-        ensures of { IsOf self.now.room pass.new }
-        ensures told { TookTurn pass_of legal_from (λ o n found added answer. (added ≡ []) × IfOk answer (λ told. told.items ≡ drop from (notices (state_in o) found))) (base_of (λ l. l.opening) self.now.room) result (knows pass.old) (knows pass.new) }
+        requires { IsOf self.now pass.old }
+        ensures of { IsOf self.now pass.new }
+        ensures told { TookTurn pass_of legal_from (λ o n found added answer. (added ≡ []) × IfOk answer (λ told. told.items ≡ drop from (notices (state_in o) found))) (opening_of self.now) result (knows pass.old) (knows pass.new) }
     {
         let mut deed = Tell { from };
         self.room.turn(rt, alloc, pass, &mut deed)
