@@ -23,6 +23,10 @@ module _ {S E B : Type 0} {T : Ghosts S E B} where
   abbrev pub known : Pass S E B T → Known E
   known p = record { number = p.number; seen = p.seat.me.0.seen; mine = p.seat.me.0.mine; lost = p.seat.me.0.lost; joined = p.seat.me.0.joined; holds = is_some p.seat.me.0.held }
 
+  -- the base that the pass knows, that of its lock
+  abbrev pub base_in : Pass S E B T → Option B
+  base_in p = p.seat.me.0.base
+
   -- the pass is one of this lock's
   abbrev pub IsOf : Shared S E B → Pass S E B T → Type 0
   IsOf s p = (p.seat.table_id ≡ s.table.shared.table_id) × (p.seat.me.0.base ≡ Some (base_of T.base s))

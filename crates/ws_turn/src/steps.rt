@@ -18,7 +18,7 @@ const COUNT: usize = 2;
 
 const VALUE: usize = 0;
 
-/// How often a thread looks for its turn before it sleeps.
+/// How often the thread whose turn is next looks before it sleeps.
 const SPINS: u32 = 64;
 
 /// A ticket, up to wrapping.
@@ -45,7 +45,14 @@ fn look_once<S: Logged>(desk: &Desk<S>, chair: &mut Chair<S>) -> u64
     desk.load::<Look>(chair, SERVING)
 }
 
-/// Waits for the turn, and takes the slot in hand.
+/// Whether it is worth to look again at once: the ticket is the next that is served, and hasn't been looked for too often.
+fn may_spin(spins: u32, found: u64, ticket: u64) -> bool
+    ensures { result ≡ true → spins < 64 }
+{
+    spins < SPINS && found.wrapping_add(1) == ticket
+}
+
+/// Waits for the turn, and takes the slot in hand. Who isn't next sleeps at once.
 pub(crate) fn await_turn<S: Logged, R: Wait>(
     rt: &R,
     desk: &Desk<S>,
@@ -64,7 +71,7 @@ pub(crate) fn await_turn<S: Logged, R: Wait>(
         if found == ticket {
             break;
         }
-        if spins < SPINS {
+        if may_spin(spins, found, ticket) {
             spins += 1;
             hint::spin_loop();
         } else {

@@ -1,0 +1,4 @@
+pub mod Staying
+pub mod Given
+pub mod Serving
+pub mod Leaving

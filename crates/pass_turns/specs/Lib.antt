@@ -1,0 +1,3 @@
+pub mod Adds
+pub mod Turns
+pub mod Tokens
