@@ -27,7 +27,7 @@ use Rattle.core_event.specs.declared.entry.Entry.{Entry}
 use Rattle.ws_top.specs.declared.opening.Opened.{Opened}
 use Rattle.ws_top.specs.declared.reading.Unread.{Unread}
 use Rattle.ws_top.specs.declared.reading.Unread.TheVariants as unread
-use Rattle.ws_top.specs.Areas.{opened_state, run_points, EndsDamaged, FindsDamage, IsHeld, KeepsAreas, LeavesAreasOf, LeavesPoints, StaysAsItWas, TellsDiskFault}
+use Rattle.ws_top.specs.Areas.{opened_state, EndsDamaged, FindsDamage, IsHeld, KeepsAreas, LeavesAreasOf, LeavesPoints, StaysAsItWas, TellsDiskFault}
 use Rattle.ws_top.specs.Inside.Opening.{HasFault, Opens, Refuses, TellsHeld, RunsFrom, LeavesAreas, OpensAreas}
 use Rattle.ws_top.specs.Inside.Parts.{SaysBadLine, unread_status}
 use Rattle.ws_top.specs.Inside.Running.{KeepsStore, LeavesStore, end_status}
@@ -172,6 +172,7 @@ module _ {D : Type 0} (moment : D → ℕ) (left_since : D → ℕ → Contents 
     unopened = record { nothing = λ _. nothing; line_at_5 = λ _ e. apart n s 5 is e five; damage_at_7 = λ e. apart n s 7 is e seven; line_at_8 = λ _ e. line (sym is ∙ e) };
     damaged = some_all (λ both. FindsDamage both n) (seen held) (λ both damage has. subst EndsDamaged (sym is) ends);
     leaves = leaves_same only_now held left kept opened h none same;
+    unfailed = λ _ _. ap faults same;
     idle = λ _. same;
   }
 
@@ -198,6 +199,7 @@ module _ {D : Type 0} (moment : D → ℕ) (left_since : D → ℕ → Contents 
     unopened = record { nothing = λ _. nothing; line_at_5 = λ _ e. apart n 8 5 is e (λ k. omega (arith, k)); damage_at_7 = λ e. absurd (not_7 kept n (inr is) e); line_at_8 = λ _ _. line };
     damaged = some_all (λ both. FindsDamage both n) (seen held) (λ both damage has. inr (inr (inr (inr (inr is)))));
     leaves = leaves_none held left kept opened h none stays;
+    unfailed = λ _ _. calm;
     idle = λ w. not_idle kept n (inr is) w;
   }
 
@@ -210,6 +212,7 @@ module _ {D : Type 0} (moment : D → ℕ) (left_since : D → ℕ → Contents 
     unopened = record { nothing = λ _. nothing; line_at_5 = λ _ _. w; damage_at_7 = λ e. apart n 5 7 five e (λ k. omega (arith, k)); line_at_8 = λ _ e. apart n 5 8 five e (λ k. omega (arith, k)) };
     damaged = some_all (λ both. FindsDamage both n) (seen held) (λ both damage has. inr (inr (inr (inr (inl five)))));
     leaves = leaves_none held left kept opened h none stays;
+    unfailed = λ _ other. absurd (other five);
     idle = λ w. refused_idle kept n (inl (five, none)) w;
   }
   areas_refused (Damaged damage) held left a b f g kept opened n h fault stays none nothing (inl (seven, w)) = record {
@@ -217,6 +220,7 @@ module _ {D : Type 0} (moment : D → ℕ) (left_since : D → ℕ → Contents 
     unopened = record { nothing = λ _. nothing; line_at_5 = λ _ e. apart n 7 5 seven e (λ k. omega (arith, k)); damage_at_7 = λ _. record { damage = damage; is = fault.damage; line = w }; line_at_8 = λ _ e. apart n 7 8 seven e (λ k. omega (arith, k)) };
     damaged = some_all (λ both. FindsDamage both n) (seen held) (λ both damage has. inl seven);
     leaves = leaves_none held left kept opened h none stays;
+    unfailed = λ _ _. fault.cause;
     idle = λ w. refused_idle kept n (inr seven) w;
   }
   areas_refused (Damaged damage) held left a b f g kept opened n h fault stays none nothing (inr (eight, w)) = areas_wanted held left a b f g kept opened n h fault.cause stays none nothing eight w
@@ -240,7 +244,7 @@ module _ {D : Type 0} (moment : D → ℕ) (left_since : D → ℕ → Contents 
   store_some store left (Some d) opened h some k = k
 
   module _ (held left : D) (d : Durable) (opened : Moment) (h : List Entry) (store : Saves D) (last : store.last ≡ d) (k : KeepsStore moment left_since may_leave faults store left opened h) where
-    same_points : points_at k.space k.keeper ≡ run_points (saved d) opened h
+    same_points : points_at k.space k.keeper ≡ points_of (saved d) opened h
     same_points = ap (λ b. points_of (saved b.last) k.space.opened k.space.history) k.began ∙ ap (λ e. points_of (saved e) k.space.opened k.space.history) last
         ∙ ap (λ o. points_of (saved d) o k.space.history) k.start ∙ ap (points_of (saved d) opened) k.history
 
@@ -248,17 +252,17 @@ module _ {D : Type 0} (moment : D → ℕ) (left_since : D → ℕ → Contents 
     same_first = ap (λ b. b.areas.disk) k.began
 
     -- since the store was opened each crash left a point
-    kept_moments : LeavesOnly moment left_since may_leave store.areas.disk left (HoldsOne (run_points (saved d) opened h).all)
-    kept_moments = subst (λ x. LeavesOnly moment left_since may_leave x left (HoldsOne (run_points (saved d) opened h).all)) same_first
-        (subst (λ x. LeavesOnly moment left_since may_leave (first_disk k.keeper) x (HoldsOne (run_points (saved d) opened h).all)) (sym k.disk)
+    kept_moments : LeavesOnly moment left_since may_leave store.areas.disk left (HoldsOne (points_of (saved d) opened h).all)
+    kept_moments = subst (λ x. LeavesOnly moment left_since may_leave x left (HoldsOne (points_of (saved d) opened h).all)) same_first
+        (subst (λ x. LeavesOnly moment left_since may_leave (first_disk k.keeper) x (HoldsOne (points_of (saved d) opened h).all)) (sym k.disk)
         (subst (λ p. LeavesOnly moment left_since may_leave (first_disk k.keeper) (disk_of k.keeper) (HoldsOne p.all)) same_points k.safe.safe.leaves.moments))
 
     -- now it leaves the one that was acknowledged last, or one that was begun after it
-    kept_now : Each (may_leave left) (HoldsOne ((run_points (saved d) opened h).acknowledged ∷ (run_points (saved d) opened h).begun))
+    kept_now : Each (may_leave left) (HoldsOne ((points_of (saved d) opened h).acknowledged ∷ (points_of (saved d) opened h).begun))
     kept_now c may = subst (λ p. HoldsOne (p.acknowledged ∷ p.begun) c) same_points
         (backed_holds may_leave (points_at k.space k.keeper) k.keeper.store k.safe.safe.backed c (subst (λ x. may_leave x c) k.disk may))
 
-    kept_points : moment held ≤ moment store.areas.disk → LeavesPoints moment left_since may_leave held left (run_points (saved d) opened h)
+    kept_points : moment held ≤ moment store.areas.disk → LeavesPoints moment left_since may_leave held left (points_of (saved d) opened h)
     kept_points later = record { since = moment store.areas.disk; later = later; passed = kept_moments.later; each = kept_moments.each; now = kept_now }
 
     kept_unsaved : steps_of h ≡ [] → left ≡ store.areas.disk
@@ -272,8 +276,8 @@ module _ {D : Type 0} (moment : D → ℕ) (left_since : D → ℕ → Contents 
     keeps_areas : Opens moment left_since may_leave seen faults held store.areas.disk (Ok d) → KeepsAreas moment left_since may_leave seen faults held left (saved d) opened h
     keeps_areas o = record {
       points = kept_points o.stays.any_moment.later;
-      any_moment = run_and_run moment left_since may_leave held store.areas.disk left (λ c. may_leave held c ⊎ HoldsOne (run_points (saved d) opened h).all c) (HoldsOne (run_points (saved d) opened h).all)
-          (only_wider moment left_since may_leave held store.areas.disk (λ c. may_leave held c ⊎ HoldsOne (run_points (saved d) opened h).all c) (may_leave held) o.stays.any_moment (λ c may. inl may))
+      any_moment = run_and_run moment left_since may_leave held store.areas.disk left (λ c. may_leave held c ⊎ HoldsOne (points_of (saved d) opened h).all c) (HoldsOne (points_of (saved d) opened h).all)
+          (only_wider moment left_since may_leave held store.areas.disk (λ c. may_leave held c ⊎ HoldsOne (points_of (saved d) opened h).all c) (may_leave held) o.stays.any_moment (λ c may. inl may))
           kept_moments (λ c holds. inr holds);
       unsaved = λ none. ap seen (kept_unsaved none) ∙ o.stays.contents;
       counted = subst (λ p. HasRisenBy (failures (steps_of h)) p (faults left)) o.calm kept_counted;
@@ -295,6 +299,7 @@ module _ {D : Type 0} (moment : D → ℕ) (left_since : D → ℕ → Contents 
       };
       damaged = some_map (λ both. (damage : Damage) → IsDamaged both damage → ⊥) (λ both. FindsDamage both n) (seen held) (λ both no damage has. absurd (no damage has)) o.spoilt;
       leaves = subst (λ k. LeavesAreasOf moment left_since may_leave seen faults held left k opened h) (sym is) (keeps_areas held left d opened h store last (subst (λ k. LeavesStore moment left_since may_leave faults store left k opened h) is k) o);
+      unfailed = λ none _. none_is_not kept d is none;
       idle = λ w. not_idle kept n c w;
     };
     state = record {
@@ -328,6 +333,7 @@ module _ {D : Type 0} (moment : D → ℕ) (left_since : D → ℕ → Contents 
     unopened = told_unopened (check_text found) kept (seen held) a b f g n h t;
     damaged = some_map (λ both. (damage : Damage) → IsDamaged both damage → ⊥) (λ both. FindsDamage both n) (seen held) (λ both no damage has. absurd (no damage has)) whole;
     leaves = leaves_none held left kept opened h none stays;
+    unfailed = λ _ _. calm;
     idle = λ w. told_idle n c w;
   }
   areas_found found held left a b f g kept opened n h calm stays whole none nothing (inr (eight, w)) = areas_wanted held left a b f g kept opened n h calm stays none nothing eight w

@@ -62,10 +62,6 @@ pub record StaysAsItWas {D : Type 0} (moment : D → ℕ) (left_since : D → �
   pub contents : seen new ≡ seen old
   pub any_moment : LeavesOnly moment left_since may_leave old new (may_leave old)
 
--- the points of a run: the state that was opened, and those of its saves
-abbrev pub run_points : Saved → Moment → List Entry → Points
-run_points d opened h = points_of d opened h
-
 -- There is a moment, that at which opening had brought both areas to the device, since which each crash leaves areas that
 -- hold a point of the history; and now it leaves the one that was acknowledged last, or one that was begun after it.
 pub record LeavesPoints {D : Type 0} (moment : D → ℕ) (left_since : D → ℕ → Contents → Type 0) (may_leave : D → Contents → Type 0) (old new : D) (points : Points) : Type 0 where
@@ -75,13 +71,13 @@ pub record LeavesPoints {D : Type 0} (moment : D → ℕ) (left_since : D → �
   pub each : Each (left_since new since) (HoldsOne points.all)
   pub now : Each (may_leave new) (HoldsOne (points.acknowledged ∷ points.begun))
 
--- What a run leaves of the areas that it opened to this state. Before opening had brought them to the device a crash leaves
--- what one at the start could have left. Where nothing was saved they hold what they held. The count of faults rose for each
--- save that ended because a call on the disk failed.
+-- What a run leaves of the areas that it opened to this state, from which on its points count. At any moment of it a crash
+-- leaves one of these, or what one at the start could have left. Where nothing was saved they hold what they held. The count
+-- of faults rose for each save that ended because a call on the disk failed.
 pub record KeepsAreas {D : Type 0} (moment : D → ℕ) (left_since : D → ℕ → Contents → Type 0) (may_leave : D → Contents → Type 0) (seen : D → Option Contents) (faults : D → ℕ)
     (old new : D) (d : Saved) (opened : Moment) (h : List Entry) : Type 0 where
-  pub points : LeavesPoints moment left_since may_leave old new (run_points d opened h)
-  pub any_moment : LeavesOnly moment left_since may_leave old new (λ c. may_leave old c ⊎ HoldsOne (run_points d opened h).all c)
+  pub points : LeavesPoints moment left_since may_leave old new (points_of d opened h)
+  pub any_moment : LeavesOnly moment left_since may_leave old new (λ c. may_leave old c ⊎ HoldsOne (points_of d opened h).all c)
   pub unsaved : steps_of h ≡ [] → seen new ≡ seen old
   pub counted : HasRisenBy (failures (steps_of h)) (faults old) (faults new)
 

@@ -50,6 +50,7 @@ pub fn top<S: Source, K: Sink, D: Disk, L: Listener, B: Builder, P: Participant,
     ensures usage { (result.status ≡ 2) ↔ (form_of (map string_bytes words.now) ≡ None) }
     ensures read_fault { TellsReadFault (S.faults source.old) (S.faults source.new) result.status }
     ensures disk_fault { TellsDiskFault (D.faults areas.disk) (D.faults result.areas.disk) result.status }
+    ensures unfailed { result.kept ≡ None → result.status ≢ 5 → D.faults result.areas.disk ≡ D.faults areas.disk }
     ensures write_fault { TellsWriteFault result.kept (K.faults sink.old) (K.faults sink.new) result.status (WasStopped M.meaning (opened_state result.kept (map (λ b. B.tells b) kit.builders)) (S.left source.old) (S.left source.new) result.history) }
     ensures damaged { Touches (form_of (map string_bytes words.now)) → IfSome (D.seen areas.disk) (λ both. FindsDamage both result.status) }
     ensures complete { IsRun (form_of (map string_bytes words.now)) → Completes (S.left source.old) (D.seen areas.disk) (Rose (S.faults source.old) (S.faults source.new)) (Rose (K.faults sink.old) (K.faults sink.new)) (Rose (D.faults areas.disk) (D.faults result.areas.disk)) result.status }
@@ -103,6 +104,7 @@ pub fn answer<S: Source, K: Sink, D: Disk, L: Listener, B: Builder, P: Participa
     ensures participants { HaveTakenPart result.kept (opened_state result.kept (map (λ b. B.tells b) kit.builders)) result.status result.history (map (λ p. P.tells p) kit.participants) (map (λ p. P.tells p) result.kit.participants) }
     ensures leaves { LeavesAreasOf D.moment D.left_since D.may_leave D.seen D.faults areas.disk result.areas.disk result.kept (opened_state result.kept (map (λ b. B.tells b) kit.builders)) result.history }
     ensures unsaved { steps_of result.history ≡ [] → D.seen result.areas.disk ≡ D.seen areas.disk }
+    ensures unfailed { result.kept ≡ None → result.status ≢ 5 → D.faults result.areas.disk ≡ D.faults areas.disk }
     ensures untouched { IfOk words (λ given. (Touches (form_of (map string_bytes given.items)) → ⊥) ⊎ WasIdle result.status → result.areas.disk ≡ areas.disk) }
     // where memory wanted for the words
     ensures memory { IfErr words (λ _. result.status ≡ 8) }

@@ -1,5 +1,5 @@
 -- What is left where areas are opened or looked at.
-use Rattle.std.specs.Prelude.{◌≡◌, ◌⊎◌, ℕ, List, [], Option, Some, None, Result, IfSome, IfOk, IfErr}
+use Rattle.std.specs.Prelude.{◌≡◌, ◌≢◌, ◌⊎◌, ℕ, List, [], Option, Some, None, Result, IfSome, IfOk, IfErr}
 use Rattle.ws_outside.specs.declared.contents.Contents.{Contents}
 use Rattle.disk_area.specs.declared.damage.Damage.{Damage}
 use Rattle.ws_durable.specs.declared.durable.Durable.{Durable}
@@ -52,6 +52,7 @@ pub record LeavesAreas {D : Type 0} (moment : D → ℕ) (left_since : D → ℕ
   pub unopened : TellsUnopened kept (seen held) old new before after status h
   pub damaged : IfSome (seen held) (λ both. FindsDamage both status)
   pub leaves : LeavesAreasOf moment left_since may_leave seen faults held left kept opened h
+  pub unfailed : kept ≡ None → status ≢ 5 → faults left ≡ faults held
   pub idle : WasIdle status → left ≡ held
 
 -- the same of a run, with the state that it opened

@@ -20,6 +20,7 @@ returns-in-Ok g c = let e = c.top.ensures in record {
   participants = e.participants;
   leaves = e.leaves;
   unsaved = e.unsaved;
+  unfailed = e.unfailed;
   untouched = subst (λ w. IfOk w (λ given. (Touches (form_of (map string_bytes given.items)) → ⊥) ⊎ WasIdle c.top.result.status → c.top.result.areas.disk ≡ c.args.areas.disk)) (sym c.in-Ok.is)
       (subst (λ ws. (Touches (form_of (map string_bytes ws)) → ⊥) ⊎ WasIdle c.top.result.status → c.top.result.areas.disk ≡ c.args.areas.disk) c.as_slice.ensures.value e.untouched);
   memory = subst (λ w. IfErr w (λ _. c.top.result.status ≡ 8)) (sym c.in-Ok.is) tt;
@@ -39,6 +40,7 @@ returns-in-Err g c =
       participants = taken_none c.want.result.kept (opened_state c.want.result.kept (map (λ b. g.B.Builder.tells b) c.args.kit.builders)) c.want.result.status c.want.result.history (map (λ p. g.P.Participant.tells p) c.args.kit.participants) (map (λ p. g.P.Participant.tells p) c.want.result.kit.participants) c.want.ensures.none (ap (λ kit. map (λ p. g.P.Participant.tells p) kit.participants) c.want.ensures.kit);
       leaves = leaves_same g.D.Disk.moment g.D.Disk.left_since g.D.Disk.may_leave g.D.Disk.seen g.D.Disk.faults g.met.D.Disk.only_now c.args.areas.disk out.result.areas.disk out.result.kept (opened_state c.want.result.kept (map (λ b. g.B.Builder.tells b) c.args.kit.builders)) out.result.history out.ensures.none same;
       unsaved = λ _. ap g.D.Disk.seen same;
+      unfailed = λ _ _. ap g.D.Disk.faults same;
       untouched = subst (λ w. IfOk w (λ given. (Touches (form_of (map string_bytes given.items)) → ⊥) ⊎ WasIdle out.result.status → out.result.areas.disk ≡ c.args.areas.disk)) (sym c.in-Err.is) tt;
       memory = subst (λ w. IfErr w (λ _. out.result.status ≡ 8)) (sym c.in-Err.is) out.ensures.status;
       unread = subst (λ w. IfErr w (λ _. DoesNothing (g.S.Source.left c.args.source.now) (g.S.Source.left c.args.source.now) (g.S.Source.reads c.args.source.now) (g.S.Source.reads c.args.source.now) (g.S.Source.faults c.args.source.now) (g.S.Source.faults c.args.source.now) c.want.result.history)) (sym c.in-Err.is) (record { left = refl; reads = refl; faults = refl; nothing = out.ensures.nothing });
