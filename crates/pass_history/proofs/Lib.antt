@@ -1,4 +1,5 @@
 pub mod Staying
 pub mod Given
 pub mod Serving
+pub mod Standing
 pub mod Leaving

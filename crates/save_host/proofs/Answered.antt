@@ -20,14 +20,14 @@ use Rattle.save_host.specs.Inside.Hosts.{IsAt, IsFresh, IsStopped, IsBegun, AreK
 use Rattle.save_host.proofs.Places.{book_is, fresh_of, shape}
 
 -- how the last deed ended a save, if it did
-abbrev ending_with : Option SaveAnswer → List Deed → Option SaveAnswer
+abbrev pub ending_with : Option SaveAnswer → List Deed → Option SaveAnswer
 ending_with o [] = o
 ending_with o (Start kind refused ∷ deeds) = ending_with None deeds
 ending_with o (Keep states ∷ deeds) = ending_with None deeds
 ending_with o (Write kind result ∷ deeds) = ending_with None deeds
 ending_with o (Finish answer ∷ deeds) = ending_with (Some answer) deeds
 
-ends_so : (o : Option SaveAnswer) (deeds : List Deed) (a : SaveAnswer) → ending_with o (deeds ++ Finish a ∷ []) ≡ Some a
+pub ends_so : (o : Option SaveAnswer) (deeds : List Deed) (a : SaveAnswer) → ending_with o (deeds ++ Finish a ∷ []) ≡ Some a
 ends_so o [] a = refl
 ends_so o (Start kind refused ∷ deeds) a = ends_so None deeds a
 ends_so o (Keep states ∷ deeds) a = ends_so None deeds a
@@ -35,7 +35,7 @@ ends_so o (Write kind result ∷ deeds) a = ends_so None deeds a
 ends_so o (Finish answer ∷ deeds) a = ends_so (Some answer) deeds a
 
 -- the end of a save keeps no states
-kept_before_end : (deeds : List Deed) (a : SaveAnswer) → kept_in (deeds ++ Finish a ∷ []) ≡ kept_in deeds
+pub kept_before_end : (deeds : List Deed) (a : SaveAnswer) → kept_in (deeds ++ Finish a ∷ []) ≡ kept_in deeds
 kept_before_end [] a = refl
 kept_before_end (Start kind refused ∷ deeds) a = kept_before_end deeds a
 kept_before_end (Keep states ∷ deeds) a = refl

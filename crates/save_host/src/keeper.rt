@@ -74,12 +74,7 @@ impl<D: Disk> Keeper<D> {
 
     /// Writes what is kept of a workspace as a save of the kind. Its faults are those of the store, which can be used after
     /// them: Disk exactly where the disk's count of faults rose in this call.
-    pub(crate) fn write(
-        &mut self,
-        alloc: Global,
-        kind: SaveKind,
-        now: &Durable,
-    ) -> Result<(), WriteFault>
+    pub fn write(&mut self, alloc: Global, kind: SaveKind, now: &Durable) -> Result<(), WriteFault>
         requires { IsNarrow now.now → Valid (saved now.now) }
         ensures began { self.new.began ≡ self.old.began }
         ensures tried { (x : Session) → IsAsked (points_at x self.old) (saved now.now) → IsKept D.moment D.left_since D.may_leave D.faults x self.old

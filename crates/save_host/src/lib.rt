@@ -13,6 +13,8 @@ mod keeper;
 mod saving;
 mod steps;
 
+pub use durable::kept_now;
 pub use keeper::Keeper;
 pub use res_path::NoMemory;
 pub use saving::save;
+pub use steps::keep;

@@ -40,12 +40,12 @@ pub fn save<H: Host, P: Participant>(
 {
     match host.start(kind)? {
         Some(number) => Ok(Saved::Stopped(number)),
-        None => Ok(Saved::Ended(run(alloc, host, parts, kind))),
+        None => Ok(Saved::Ended(save_begun(alloc, host, parts, kind))),
     }
 }
 
-/// How a save ended that began.
-fn run<H: Host, P: Participant>(
+/// Goes on with a save of the kind that began on the host, as `save` does behind the beginning. Answers how it ended.
+pub fn save_begun<H: Host, P: Participant>(
     alloc: Global,
     host: &mut H,
     parts: &mut Participants<P>,

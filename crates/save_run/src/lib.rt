@@ -8,5 +8,5 @@
 mod command;
 mod host;
 
-pub use command::{Saved, save};
+pub use command::{Saved, save, save_begun};
 pub use host::{Host, WriteFault};

@@ -1,4 +1,4 @@
-//! Tests of res_path, sched_rules, rule_table, proj_desc and ws_turn, over what these crates offer.
+//! Tests of res_path, sched_rules, rule_table, proj_desc, ws_turn and job_pool, over what these crates offer.
 //!
 //! - `asserting`: the assertions.
 //! - `rows`: a table of rows, each of a word and its parts, and how a row is taken apart.
@@ -6,6 +6,7 @@
 //! - `intervals`: held rules over another kind of atom.
 //! - `made_by_hand`: a description that is made by hand.
 //! - `notebook`, `turns`: a lock round a small value, with threads.
+//! - `pool`: workers that take numbers from a board, with threads.
 #![tactic(auto)]
 
 #[cfg(test)]
@@ -22,6 +23,8 @@ mod made_by_hand;
 mod notebook;
 #[cfg(test)]
 mod paths;
+#[cfg(test)]
+mod pool;
 #[cfg(test)]
 mod rows;
 #[cfg(test)]

@@ -27,13 +27,13 @@ use Rattle.pass_turns.proofs.There.{none_between}
 use Rattle.pass_history.specs.Served.{Served, services_of, was_done, who_serves}
 use Rattle.pass_history.proofs.Given.{heads}
 use Rattle.pass_history.proofs.Serving.{IsQuiet, others_quiet}
-use Rattle.ws_shared.specs.Fits.{Fits, Told}
-use Rattle.ws_shared.specs.Moved.{ComesHome, checkin}
-use Rattle.ws_shared.specs.Opened.{Opened}
-use Rattle.ws_shared.proofs.Fitting.{fits_same, points_stay, served_one, services_stay, steps_stay}
-use Rattle.ws_shared.proofs.Lent.{by_pass}
+use Rattle.ws_locked.specs.Fits.{Fits, Told}
+use Rattle.ws_locked.specs.Moved.{ComesHome, checkin}
+use Rattle.ws_locked.specs.Opened.{Opened}
+use Rattle.ws_locked.proofs.Fitting.{fits_same, points_stay, served_one, services_stay, steps_stay}
+use Rattle.ws_locked.proofs.Lent.{by_pass}
 
-replies_rest : (s : Moment) (h k : List Entry) → map (λ (x : Entry). x.reply) (h ++ k) ≡ replies s (h ++ k) → map (λ (x : Entry). x.reply) k ≡ replies (replay s h) k
+pub replies_rest : (s : Moment) (h k : List Entry) → map (λ (x : Entry). x.reply) (h ++ k) ≡ replies s (h ++ k) → map (λ (x : Entry). x.reply) k ≡ replies (replay s h) k
 replies_rest s [] k t = t
 replies_rest s (x ∷ h) k t = replies_rest (after s x) h k (heads _ _ _ _ t).1
 

@@ -1,9 +1,8 @@
-pub mod Fitting
-pub mod Halls
-pub mod Asked
-pub mod Numbers
-pub mod Began
-pub mod Going
-pub mod Lent
 pub mod Coming
-pub mod Gathered
+pub mod Courses
+pub mod Stages
+pub mod Ending
+pub mod Beginning
+pub mod Whole
+pub mod Holding
+pub mod Results

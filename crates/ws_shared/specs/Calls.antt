@@ -4,25 +4,21 @@ use Rattle.std.specs.declared.alloc.AllocError.{AllocError}
 use Rattle.core_event.specs.declared.entry.Entry.{Entry}
 use Rattle.core_event.specs.declared.event.Event.{Event}
 use Rattle.core_event.specs.declared.reply.Reply.{Reply}
-use Rattle.ws_core.specs.States.{Moment}
 use Rattle.ws_core.specs.Histories.{Legal}
 use Rattle.pass_turns.specs.Turns as rooms
 use Rattle.pass_turns.specs.Turns.{Knows, TookTurn}
-use Rattle.ws_shared.specs.Asked.{HasStood, WasAsked}
+use Rattle.ws_locked.specs.Asked.{HasStood, WasAsked}
+use Rattle.ws_locked.specs.Halls.{state_in}
 use Rattle.pass_turns.specs.declared.machine.Machine.{Ghosts as Machine}
 use Rattle.pass_turns.specs.declared.pass.Pass.{Pass}
 use Rattle.ws_turn.specs.declared.logged.Logged.{Ghosts as Logged}
-use Rattle.ws_shared.specs.declared.locked.Locked.{Locked}
-use Rattle.ws_shared.specs.declared.services.Opening.{Opening}
+use Rattle.ws_locked.specs.declared.locked.Locked.{Locked}
+use Rattle.ws_locked.specs.declared.services.Opening.{Opening}
 use Rattle.ws_shared.specs.declared.workspace.Workspace.{Workspace}
 
 -- the pass that made an entry
 abbrev pub pass_of : Entry → ℕ
 pass_of x = x.pass
-
--- the state that was opened
-abbrev pub state_in : {D B P : Type 0} → Opening D B P → Moment
-state_in o = o.core.value.opened
 
 -- the entries may follow it
 abbrev pub legal_from : {D B P : Type 0} → Opening D B P → List Entry → Type 0

@@ -1,8 +1,5 @@
-pub mod Opened
-pub mod Fits
-pub mod Halls
-pub mod Asked
 pub mod Calls
 pub mod Jobs
-pub mod Moved
-pub mod Told
+pub mod Saves
+-- Words that private code alone speaks of.
+pub mod Inside

@@ -10,13 +10,10 @@ ghost use Rattle.ws_turn.specs.Lists.{StartsWith, longer};
 ghost use Rattle.pass_turns.specs.Turns.{CameTo, EndsWith, knows, Pairs, IsFaithful, LetIn, LetNobodyIn, StaysThere, TookIn, TookTurn};
 ghost use Rattle.pass_history.specs.There.{gives, HasLeft, LetsIn, WasBusy};
 ghost use Rattle.ws_shared.specs.Jobs.{job_event};
-ghost use Rattle.ws_shared.specs.Asked.{HasCounted, is_plain};
+ghost use Rattle.ws_locked.specs.Asked.{HasCounted, WasCommitted, is_plain};
 
-use crate::asking::{Ask, Count, Tell, Wish};
-use crate::handing::{Await, Give, Given, Take};
 use crate::job::JobEvent;
-use crate::vow::Vow;
-use crate::{CheckInError, JoinError, Locked, NoMemory, Services};
+use crate::{CheckInError, JoinError, Locked, NoMemory, Services, Vow};
 use builder_api::{BuildKind, Builder, Edits};
 use core_event::{Event, Outcomes, Purpose, Reply, ServiceEvent, WsRule};
 use delta_kind::Delta;
@@ -28,6 +25,7 @@ use save_round::Participant;
 use std::alloc::Global;
 use std::sync::Wait;
 use ws_core::{Core, JobCount};
+use ws_locked::{Ask, Await, Commit, Count, Give, Given, Take, Tell, Wish};
 use ws_outside::Disk;
 
 /// A thread's token at a workspace. Contracts see its number, the entries that it has seen, those of its own number, and the
@@ -44,14 +42,14 @@ pub struct Closed<D: Disk, B: Builder, P: Participant> {
 /// An open workspace that many threads share, each with a pass.
 #[derive(Drop)]
 pub struct Workspace<D: Disk, B: Builder, P: Participant, V: Vow> {
-    room: Room<Locked<D, B, P, V>>,
+    pub(crate) room: Room<Locked<D, B, P, V>>,
 }
 
 impl<D: Disk, B: Builder, P: Participant, V: Vow> Workspace<D, B, P, V> {
-    ghost use Rattle.ws_shared.specs.Calls.{Asked, IsOf, Stood, legal_from, opening_of, pass_of, state_in};
-    ghost use Rattle.ws_shared.specs.Fits.{Fits};
-    ghost use Rattle.ws_shared.specs.Halls.{opened_by, told_by, trio_of};
-    ghost use Rattle.ws_shared.specs.Moved.{ComesHome, WasBrought, WasLent};
+    ghost use Rattle.ws_shared.specs.Calls.{Asked, IsOf, Stood, legal_from, opening_of, pass_of};
+    ghost use Rattle.ws_locked.specs.Fits.{Fits};
+    ghost use Rattle.ws_locked.specs.Halls.{opened_by, state_in, told_by, trio_of};
+    ghost use Rattle.ws_locked.specs.Moved.{ComesHome, WasAwaited, WasBrought, WasLent};
 
     /// A workspace that was just opened, in which nothing was done, with its services, and its first pass, which has the number
     /// 0. Where memory wants all is handed back.
@@ -70,7 +68,7 @@ impl<D: Disk, B: Builder, P: Participant, V: Vow> Workspace<D, B, P, V> {
         ensures of { IfOk result (λ r. IsOf r.0 r.1) }
         ensures opening { IfOk result (λ r. let o = opening_of r.0 in (o.core.value ≡ core) × (o.keeper.value ≡ services.keeper) × (o.builders.value ≡ services.builders) × (o.participants.value ≡ services.participants)) }
         ensures pass { IfOk result (λ r. knows r.1 ≡ record { number = 0; seen = []; mine = []; lost = [] }) }
-        ensures err { IfErr result (λ e. e.1 ≡ core) }
+        ensures err { IfErr result (λ e. (e.1 ≡ core) × (trio_of e.2 ≡ trio_of services)) }
     {
         match Room::new(alloc, Locked::of(core, services)) {
             Ok((room, pass)) => Ok((Workspace { room }, pass)),
@@ -373,7 +371,7 @@ impl<D: Disk, B: Builder, P: Participant, V: Vow> Workspace<D, B, P, V> {
     }
 
     /// The pass is to have the services for this, once no other pass has them. Until then it leaves no entry. What it gets fits
-    /// all that it has seen then. A pass that has them itself waits for ever.
+    /// all that it has seen then. That a pass has them is never why it is refused; one that has them itself waits for ever.
     pub fn checkout<R: Wait>(
         &self,
         rt: &R,
@@ -383,7 +381,7 @@ impl<D: Disk, B: Builder, P: Participant, V: Vow> Workspace<D, B, P, V> {
     ) -> Result<(Reply, Option<Services<D, B, P>>), NoMemory>
         requires { IsOf self.now pass.old }
         ensures of { IsOf self.now pass.new }
-        ensures lent { TookTurn pass_of legal_from (λ o n. WasLent (λ h s. Fits D.moment D.left_since D.may_leave D.faults V.fits (opened_by B.tells P.tells o) o.keeper.value h (told_by B.tells P.tells (trio_of s))) (state_in o) n why)
+        ensures lent { TookTurn pass_of legal_from (λ o n. WasAwaited (λ h s. Fits D.moment D.left_since D.may_leave D.faults V.fits (opened_by B.tells P.tells o) o.keeper.value h (told_by B.tells P.tells (trio_of s))) (state_in o) n why)
             (opening_of self.now) result (knows pass.old) (knows pass.new) }
     {
         let mut wish = Await { purpose: why };
@@ -415,7 +413,9 @@ impl<D: Disk, B: Builder, P: Participant, V: Vow> Workspace<D, B, P, V> {
         )
     }
 
-    /// The edits are made below the output of the command under way, and its problems are told.
+    /// The edits are made below the output of the command under way, and its problems are told. Where the pass's last entry is
+    /// that by which something was handed to it for the command, that is still so: nothing but markers changed since,
+    /// whatever other passes did.
     pub fn build_commit<R: Wait>(
         &self,
         rt: &R,
@@ -425,9 +425,12 @@ impl<D: Disk, B: Builder, P: Participant, V: Vow> Workspace<D, B, P, V> {
     ) -> Result<Reply, NoMemory>
         requires { IsOf self.now pass.old }
         ensures of { IsOf self.now pass.new }
-        ensures asked { Asked (opening_of self.now) (Event.Service (ServiceEvent.Commit edits)) result (knows pass.old) (knows pass.new) }
+        ensures committed { TookTurn pass_of legal_from (λ o. WasCommitted edits (state_in o)) (opening_of self.now) result (knows pass.old) (knows pass.new) }
     {
-        self.ask(rt, alloc, pass, Event::Service(ServiceEvent::Commit(edits)))
+        let mut deed = Commit { edits: Some(edits) };
+        let answer = self.room.turn(rt, alloc, pass, &mut deed);
+        drop(deed);
+        answer
     }
 
     /// What the command of this number, from 0, of the project has made goes, and what is remembered of it.

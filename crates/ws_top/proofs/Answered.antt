@@ -18,7 +18,8 @@ use Rattle.ws_top.specs.declared.reading.Unread.{Unread}
 use Rattle.ws_top.specs.declared.reading.Unread.TheVariants.{Fault, TooLong, Memory}
 use Rattle.ws_top.specs.declared.words.Form.{Form}
 use Rattle.ws_top.specs.declared.words.Form.TheVariants.{Run, Check, Help, Version}
-use Rattle.ws_top.specs.Areas.{opened_state, IsDamage, AreUndamaged, FindsDamage, TellsDiskFault}
+use Rattle.ws_opening.specs.Opened.{opened_state}
+use Rattle.ws_top.specs.Areas.{IsDamage, AreUndamaged, FindsDamage, TellsDiskFault}
 use Rattle.ws_top.specs.Forms.{Touches, help_text, version_text}
 use Rattle.ws_top.specs.Inside.Parts.{unread_status, IsUnreadCause, IsUnreadLength, IsUnopenedFor, Responds, EndsRun}
 use Rattle.ws_top.specs.Limits.{longest, Reads, ReadsAll, ReadsShort}

@@ -1,7 +1,6 @@
 pub mod Lines
 pub mod Fronts
 pub mod Taken
-pub mod Named
 pub mod Told
 pub mod Statuses
 pub mod Opened

@@ -1,6 +1,6 @@
 -- What becomes of the areas, and what is told of it.
-use Rattle.std.proofs.Common.{◌≡◌, ◌≤◌, ◌⊎◌, inl, inr, ℕ, Bool, true, false, List, [], ◌∷◌, map, Option, Some, None, refl, sym, ◌∙◌, ap, subst, arith}
-use Rattle.std.specs.Prelude.{Result, Ok, Err, IfSome, IfOk, IsSome, MatchResult, is_some}
+use Rattle.std.proofs.Common.{◌≡◌, ◌≤◌, ◌⊎◌, inl, inr, ℕ, Bool, true, false, List, [], ◌∷◌, Option, Some, None, refl, sym, ◌∙◌, ap, subst, arith}
+use Rattle.std.specs.Prelude.{Ok, Err, IfSome, IsSome, MatchResult, is_some}
 use Rattle.ws_outside.specs.declared.contents.Contents.{Contents}
 use Rattle.ws_outside.specs.Disk.{Each, LeavesOnly}
 use Rattle.ws_outside.specs.Faults.{Rose}
@@ -14,20 +14,16 @@ use Rattle.save_store.specs.declared.look.Found.{Found}
 use Rattle.save_store.specs.declared.saves.Saves.{Saves}
 use Rattle.save_store.specs.Damages.{IsDamaged, TellsDamage, FaultOf}
 use Rattle.save_store.specs.States.{Holds, HoldsOne}
-use Rattle.builder_api.specs.Told.{Told}
-use Rattle.res_path.specs.Paths.{Names}
 use Rattle.save_history.specs.Kept.{HasRisenBy, TellsFaults, disk_of, first_disk, points_at}
 use Rattle.save_history.specs.Points.{points_of}
 use Rattle.save_history.specs.Steps.{failures, steps_of}
 use Rattle.save_history.proofs.Backed.{backed_holds}
-use Rattle.ws_core.specs.Opened.{opened_of}
 use Rattle.ws_core.specs.Sessions.{Session}
 use Rattle.ws_core.specs.States.{Moment}
 use Rattle.core_event.specs.declared.entry.Entry.{Entry}
-use Rattle.ws_top.specs.declared.opening.Opened.{Opened}
 use Rattle.ws_top.specs.declared.reading.Unread.{Unread}
 use Rattle.ws_top.specs.declared.reading.Unread.TheVariants as unread
-use Rattle.ws_top.specs.Areas.{opened_state, EndsDamaged, FindsDamage, IsHeld, KeepsAreas, LeavesAreasOf, LeavesPoints, StaysAsItWas, TellsDiskFault}
+use Rattle.ws_top.specs.Areas.{EndsDamaged, FindsDamage, IsHeld, KeepsAreas, LeavesAreasOf, LeavesPoints, StaysAsItWas, TellsDiskFault}
 use Rattle.ws_top.specs.Inside.Opening.{HasFault, Opens, Refuses, TellsHeld, RunsFrom, LeavesAreas, OpensAreas}
 use Rattle.ws_top.specs.Inside.Parts.{SaysBadLine, unread_status}
 use Rattle.ws_top.specs.Inside.Running.{KeepsStore, LeavesStore, end_status}
@@ -127,14 +123,6 @@ disk_either failed p q n told (inr eight) = record {
 pub unwritten_end : (failed : Bool) (s : ℕ) → s ≡ end_status failed → IsUnwritten s
 unwritten_end true s e = inr e
 unwritten_end false s e = inl e
-
--- ---- workspaces
-
--- a workspace over what was kept is opened in the state that is told
-pub workspace_opened : {E : Type 0} (d : Durable) (names : Names) (told : List Told) (r : Result Opened E) → names ≡ map (λ b. b.named) told → IfOk r (λ o. o.kept ≡ Some d)
-    → IfOk r (λ o. o.core.opened ≡ opened_of (saved d) names) → IfOk r (λ o. o.core.opened ≡ opened_state o.kept told)
-workspace_opened d names told (Ok o) named kept opened = opened ∙ (ap (opened_of (saved d)) named ∙ ap (λ k. opened_state k told) (sym kept))
-workspace_opened d names told (Err e) named kept opened = tt
 
 -- ---- areas
 

@@ -18,7 +18,7 @@ use Rattle.ws_core.specs.Durables.{kept_since}
 use Rattle.ws_core.specs.Histories.{replay}
 use Rattle.phase_run.specs.Calm.{IsCalm}
 use Rattle.ws_top.specs.Inside.Parts.{WritesRun, Nothing, Same, Performs}
-use Rattle.ws_top.specs.Areas.{opened_state}
+use Rattle.ws_opening.specs.Opened.{opened_state}
 use Rattle.ws_top.specs.Outcomes.{IsUnwritten, WasRun, TellsWriteFault, IsOneThread, DoesScript, WritesText, Writes}
 use Rattle.ws_top.specs.Texts.{report_from, restored_blocks, restored_text, done_from, text, cut_text, status_line}
 use Rattle.ws_top.proofs.Fronts.{front_part, front_of_writes, all_is_front}

@@ -17,7 +17,7 @@ use Rattle.run_order.proofs.Whole.{cut_of_shuffle}
 use Rattle.phase_run.specs.Plans.{Made, phases_plan}
 use Rattle.save_store.specs.declared.faults.OpenFault.{OpenFault}
 use Rattle.save_store.specs.declared.faults.OpenFault.TheVariants as fault
-use Rattle.ws_top.specs.Areas.{opened_state}
+use Rattle.ws_opening.specs.Opened.{opened_state}
 use Rattle.ws_top.specs.Inside.Opening.{Refuses}
 use Rattle.ws_top.specs.Inside.Parts.{Nothing, Same, Performs, IsRefused, SaysBadLine, Responds}
 use Rattle.ws_top.specs.Outcomes.{SpellsNone, Shuffle, CutShuffle, StoppedShuffle, Spelled, Writes}

@@ -1,5 +1,5 @@
--- What becomes of the two areas, and which state is opened from them.
-use Rattle.std.specs.Prelude.{◌≡◌, ◌≢◌, ◌⊎◌, ◌≤◌, ℕ, List, [], ◌∷◌, map, Option, Some, None, IfSome}
+-- What becomes of the two areas.
+use Rattle.std.specs.Prelude.{◌≡◌, ◌≢◌, ◌⊎◌, ◌≤◌, ℕ, List, [], ◌∷◌, Option, Some, None, IfSome}
 use Rattle.ws_outside.specs.declared.contents.Contents.{Contents}
 use Rattle.ws_outside.specs.Disk.{Each, LeavesOnly}
 use Rattle.ws_outside.specs.Faults.{Rose}
@@ -7,25 +7,14 @@ use Rattle.disk_area.specs.declared.damage.Damage.{Damage}
 use Rattle.ws_durable.specs.declared.durable.Durable.{Durable}
 use Rattle.ws_durable.specs.Saved.{Saved, saved}
 use Rattle.save_store.specs.Damages.{IsDamaged}
-use Rattle.save_store.specs.States.{fresh, Holds, HoldsOne}
+use Rattle.save_store.specs.States.{Holds, HoldsOne}
 use Rattle.core_event.specs.declared.entry.Entry.{Entry}
 use Rattle.save_history.specs.Kept.{HasRisenBy}
 use Rattle.save_history.specs.Points.{Points, points_of}
 use Rattle.save_history.specs.Steps.{failures, steps_of}
-use Rattle.builder_api.specs.Told.{Told}
-use Rattle.ws_core.specs.Opened.{opened_of}
 use Rattle.ws_core.specs.States.{Moment}
 
 -- ---- which state is opened
-
--- the state that was opened; where none was, that of the fresh workspace stands in its place, on which nothing is done
-abbrev pub kept_state : Option Durable → Saved
-kept_state None = fresh
-kept_state (Some d) = saved d
-
--- the workspace that is opened from what was kept, with builders of these names
-abbrev pub opened_state : Option Durable → List Told → Moment
-opened_state kept told = opened_of (kept_state kept) (map (λ b. b.named) told)
 
 -- both areas hold the state that was opened
 abbrev pub IsHeld : Option Durable → Option Contents → Type 0

@@ -29,7 +29,8 @@ use Rattle.phase_run.specs.Calm.{IsCalm}
 use Rattle.phase_run.specs.Plans.{Made, phases_plan}
 use Rattle.ws_top.specs.declared.words.Form.{Form}
 use Rattle.ws_top.specs.declared.words.Form.TheVariants.{Help, Version}
-use Rattle.ws_top.specs.Areas.{opened_state, IsHeld, IsDamage, AreUndamaged, FindsDamage, TellsDiskFault}
+use Rattle.ws_opening.specs.Opened.{opened_state}
+use Rattle.ws_top.specs.Areas.{IsHeld, IsDamage, AreUndamaged, FindsDamage, TellsDiskFault}
 use Rattle.ws_top.specs.Forms.{IsRun, IsCheck, Touches, help_text, version_text}
 use Rattle.ws_top.specs.Limits.{longest, Reads, ReadsAll, ReadsShort, ReadsLong}
 use Rattle.ws_top.specs.Texts.{text, cut_text, status_line, bad_line, check_text}

@@ -1,6 +1,6 @@
 //! What the areas hold is told.
 ghost use Rattle.std.specs.Prelude.{◌≡◌, ◌++◌, [], map, None, IfOk, OnOk};
-ghost use Rattle.ws_top.specs.Areas.{opened_state};
+ghost use Rattle.ws_opening.specs.Opened.{opened_state};
 ghost use Rattle.ws_top.specs.Inside.Opening.{TellsHeld, LeavesAreas};
 ghost use Rattle.ws_top.specs.Outcomes.{Checks};
 ghost use Rattle.ws_top.specs.Texts.{check_text, status_line};

@@ -2,11 +2,9 @@
 //!
 //! - `program`: `top`, the one call of the program, and `answer`, which makes it.
 //! - `kit`: what a caller brings.
-//! - `kept`: which state a run opened.
-//! - `naming`: the names of a kit's builders.
 //! - `words`: the forms of words that the program takes.
 //! - `reading`: a source is read to its end.
-//! - `opening`: the areas are opened, and a workspace over what they hold.
+//! - `opening`: the areas are opened.
 //! - `running`: participants get back what they kept, a script is run on the workspace that was opened, and what was done is
 //!   written.
 //! - `response`: a script is read, the areas are opened, and it is run on what they hold.
@@ -16,9 +14,7 @@
 #![tactic(auto)]
 
 mod checking;
-mod kept;
 mod kit;
-mod naming;
 mod opening;
 mod program;
 mod reading;
@@ -29,11 +25,11 @@ mod running;
 mod words;
 
 pub use builder_api::{Builder, Builders, Meanings, Silent};
-pub use kept::Kept;
 pub use kit::{Areas, Kit};
 pub use program::{answer, top};
 pub use res_path::NoMemory;
 pub use response::Outcome;
 pub use save_parts::{Listener, Listeners};
 pub use save_round::{Participant, Participants};
+pub use ws_opening::Kept;
 pub use ws_outside::Disk;

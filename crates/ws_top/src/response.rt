@@ -1,7 +1,7 @@
 //! A script is read and run on what the areas hold.
 ghost use Rattle.std.specs.Prelude.{◌≡◌, ◌⊎◌, ◌++◌, [], map, None, OnOk};
 ghost use Rattle.builder_api.specs.Told.{HaveMeanings};
-ghost use Rattle.ws_top.specs.Areas.{opened_state};
+ghost use Rattle.ws_opening.specs.Opened.{opened_state};
 ghost use Rattle.ws_top.specs.Builds.{MakesBuilds};
 ghost use Rattle.ws_top.specs.Inside.Opening.{OpensAreas};
 ghost use Rattle.ws_top.specs.Inside.Parts.{Performs, IsRefused, SaysBadLine, Responds};
@@ -9,7 +9,6 @@ ghost use Rattle.ws_top.specs.Outcomes.{Shuffle, CutShuffle, StoppedShuffle, Hav
 ghost use Rattle.ws_top.specs.Texts.{status_line, bad_line};
 
 use crate::NoMemory;
-use crate::kept::Kept;
 use crate::kit::{Areas, Kit};
 use crate::opening::open_areas;
 use crate::refusal::refuse;
@@ -23,6 +22,7 @@ use save_round::Participant;
 use script_lang::{Script, ScriptError, parse_shared};
 use std::alloc::Global;
 use ws_core::History;
+use ws_opening::Kept;
 use ws_outside::{Disk, Sink};
 
 /// What a run ended with.

@@ -11,7 +11,8 @@ ghost use Rattle.save_history.specs.Rounds.{HadSaves, rounds_of};
 ghost use Rattle.ws_core.specs.Durables.{kept_since};
 ghost use Rattle.ws_core.specs.Histories.{replay};
 ghost use Rattle.phase_run.specs.Calm.{IsCalm};
-ghost use Rattle.ws_top.specs.Areas.{opened_state, TellsDiskFault};
+ghost use Rattle.ws_opening.specs.Opened.{opened_state};
+ghost use Rattle.ws_top.specs.Areas.{TellsDiskFault};
 ghost use Rattle.ws_top.specs.Builds.{MakesBuilds};
 ghost use Rattle.ws_top.specs.Inside.Opening.{RunsFrom};
 ghost use Rattle.ws_top.specs.Inside.Parts.{Nothing, Same, Performs};
@@ -19,9 +20,7 @@ ghost use Rattle.ws_top.specs.Inside.Running.{KeepsStore, LeavesStore, end_statu
 ghost use Rattle.ws_top.specs.Outcomes.{Shuffle, CutShuffle, StoppedShuffle, IsOneThread, HaveTakenPart, HearsNotices};
 ghost use Rattle.ws_top.specs.Texts.{status_line};
 
-use crate::kept::Kept;
 use crate::kit::{Areas, Kit};
-use crate::opening::{Opened, workspace};
 use crate::report::write_run;
 use crate::response::{Outcome, want};
 use builder_api::{Builder, Meanings};
@@ -36,6 +35,7 @@ use script_lang::Script;
 use std::alloc::Global;
 use ws_core::{Core, State};
 use ws_durable::Durable;
+use ws_opening::{Kept, Opened, workspace};
 use ws_outside::{Disk, Sink};
 use ws_saved::SavedWorkspace;
 

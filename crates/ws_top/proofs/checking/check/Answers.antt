@@ -2,7 +2,7 @@ use Rattle.std.proofs.Common.{◌≡◌, map, sym, subst}
 use Rattle.std.specs.Prelude.{IfSome, MatchResult}
 use Rattle.disk_area.specs.declared.damage.Damage.{Damage}
 use Rattle.save_store.specs.Damages.{IsDamaged, TellsDamage}
-use Rattle.ws_top.specs.Areas.{opened_state}
+use Rattle.ws_opening.specs.Opened.{opened_state}
 use Rattle.ws_top.specs.Inside.Opening.{LeavesAreas}
 use Rattle.ws_top.specs.Outcomes.{Checks}
 use Rattle.ws_top.proofs.Checked.{checks_found, checks_refused}

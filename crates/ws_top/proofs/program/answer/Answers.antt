@@ -1,6 +1,6 @@
 use Rattle.std.proofs.Common.{◌≡◌, ◌⊎◌, map, refl, ap, subst, sym, None}
 use Rattle.std.specs.Prelude.{string_bytes, IfOk, IfErr}
-use Rattle.ws_top.specs.Areas.{opened_state}
+use Rattle.ws_opening.specs.Opened.{opened_state}
 use Rattle.ws_top.specs.Forms.{form_of, Touches}
 use Rattle.ws_top.specs.Outcomes.{WasIdle, Writes, DoesNothing, EndsProgram}
 use Rattle.ws_top.specs.Texts.{status_line}

@@ -1,5 +1,5 @@
 use Rattle.std.proofs.Common.{map, ap}
-use Rattle.ws_top.specs.Areas.{opened_state}
+use Rattle.ws_opening.specs.Opened.{opened_state}
 use Rattle.ws_top.proofs.Built.{builds_nothing}
 use Rattle.ws_top.proofs.Opened.{opens_unread}
 use Rattle.ws_top.proofs.Taking.{taken_none}

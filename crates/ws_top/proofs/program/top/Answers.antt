@@ -1,6 +1,6 @@
 use Rattle.std.proofs.Common.{◌⊎◌, inl, inr, map, sym, ◌∙◌, ap, subst, Some}
 use Rattle.std.specs.Prelude.{string_bytes}
-use Rattle.ws_top.specs.Areas.{opened_state}
+use Rattle.ws_opening.specs.Opened.{opened_state}
 use Rattle.ws_top.specs.Forms.{form_of}
 use Rattle.ws_top.specs.Outcomes.{Tells}
 use Rattle.ws_top.proofs.Answered.{program_run, program_usage, program_help, program_version, program_check, touched_idle}

@@ -1,5 +1,5 @@
 use Rattle.std.proofs.Common.{inl, map, sym, ap, subst, ◌∙◌}
-use Rattle.ws_top.specs.Areas.{opened_state}
+use Rattle.ws_opening.specs.Opened.{opened_state}
 use Rattle.ws_top.specs.Inside.Opening.{OpensAreas}
 use Rattle.ws_top.proofs.Built.{builds_nothing}
 use Rattle.ws_top.proofs.Opened.{opens_from, opens_refused}

@@ -1,5 +1,5 @@
 use Rattle.std.proofs.Common.{inl, inr, map, ap, ◌∙◌, Err}
-use Rattle.ws_top.specs.Areas.{opened_state}
+use Rattle.ws_opening.specs.Opened.{opened_state}
 use Rattle.ws_top.proofs.Built.{builds_nothing}
 use Rattle.ws_top.proofs.Opened.{opens_wanted, opens_bad_line}
 use Rattle.ws_top.proofs.Responded.{none_spelled, responds_script, responds_nothing, responds_bad}

@@ -1,6 +1,6 @@
 use Rattle.std.proofs.Common.{inl, inr, map, Some, sym, ap, subst, ◌∙◌, arith}
 use Rattle.std.specs.Prelude.{is_some}
-use Rattle.ws_top.specs.Areas.{opened_state}
+use Rattle.ws_opening.specs.Opened.{opened_state}
 use Rattle.ws_top.specs.Inside.Opening.{RunsFrom}
 use Rattle.ws_top.proofs.Built.{builds_nothing}
 use Rattle.ws_top.proofs.Opened.{disk_calm, store_none}

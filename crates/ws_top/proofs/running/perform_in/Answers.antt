@@ -2,7 +2,7 @@ use Rattle.std.proofs.Common.{inl, inr, map, sym, ap, subst, ◌∙◌, arith}
 use Rattle.std.specs.Prelude.{is_some}
 use Rattle.save_round.specs.Restoring.{HasStoppedRestoring}
 use Rattle.ws_core.specs.Durables.{kept_since}
-use Rattle.ws_top.specs.Areas.{opened_state}
+use Rattle.ws_opening.specs.Opened.{opened_state}
 use Rattle.ws_top.specs.Builds.{MakesBuilds}
 use Rattle.ws_top.specs.Inside.Running.{KeepsStore}
 use Rattle.ws_top.specs.Outcomes.{Shuffle, CutShuffle, StoppedShuffle, HearsNotices}

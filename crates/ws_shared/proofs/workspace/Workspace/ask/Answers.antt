@@ -1,8 +1,9 @@
 use Rattle.std.proofs.Common.{refl}
 use Rattle.pass_turns.specs.Turns.{knows}
 use Rattle.pass_turns.proofs.Waited.{turn_wider}
-use Rattle.ws_shared.specs.Asked.{WasAsked}
-use Rattle.ws_shared.specs.Calls.{legal_from, pass_of, state_in}
+use Rattle.ws_locked.specs.Asked.{WasAsked}
+use Rattle.ws_shared.specs.Calls.{legal_from, pass_of}
+use Rattle.ws_locked.specs.Halls.{state_in}
 use Rattle.ws_shared.proofs.workspace.Workspace.ask.Goals as goal
 
 pub returns-clause-asked : goal.returns-clause-asked

@@ -1,9 +1,9 @@
 use Rattle.std.proofs.Common.{refl}
 use Rattle.pass_turns.specs.Turns.{base_of, knows}
 use Rattle.pass_turns.proofs.Waited.{turn_wider}
-use Rattle.ws_shared.specs.Calls.{legal_from, pass_of, state_in}
-use Rattle.ws_shared.specs.Halls.{opened_by, told_by, trio_of}
-use Rattle.ws_shared.specs.Moved.{WasBrought}
+use Rattle.ws_shared.specs.Calls.{legal_from, pass_of}
+use Rattle.ws_locked.specs.Halls.{opened_by, state_in, told_by, trio_of}
+use Rattle.ws_locked.specs.Moved.{WasBrought}
 use Rattle.ws_shared.proofs.Coming.{comes_on}
 use Rattle.ws_shared.proofs.workspace.Workspace.check_in.Goals as goal
 

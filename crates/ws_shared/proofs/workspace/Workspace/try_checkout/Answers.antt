@@ -2,12 +2,12 @@ use Rattle.std.proofs.Common.{List, refl}
 use Rattle.core_event.specs.declared.entry.Entry.{Entry}
 use Rattle.pass_turns.specs.Turns.{knows}
 use Rattle.pass_turns.proofs.Waited.{turn_wider}
-use Rattle.ws_shared.specs.Calls.{legal_from, pass_of, state_in}
-use Rattle.ws_shared.specs.Fits.{Fits}
-use Rattle.ws_shared.specs.Halls.{opened_by, told_by, trio_of}
-use Rattle.ws_shared.specs.Moved.{WasLent}
-use Rattle.ws_shared.specs.declared.services.Opening.{Opening}
-use Rattle.ws_shared.specs.declared.services.Services.{Services}
+use Rattle.ws_shared.specs.Calls.{legal_from, pass_of}
+use Rattle.ws_locked.specs.Fits.{Fits}
+use Rattle.ws_locked.specs.Halls.{opened_by, state_in, told_by, trio_of}
+use Rattle.ws_locked.specs.Moved.{WasLent}
+use Rattle.ws_locked.specs.declared.services.Opening.{Opening}
+use Rattle.ws_locked.specs.declared.services.Services.{Services}
 use Rattle.ws_shared.proofs.workspace.Workspace.try_checkout.Goals as goal
 
 pub returns-clause-lent : goal.returns-clause-lent

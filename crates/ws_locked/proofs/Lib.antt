@@ -1,0 +1,10 @@
+pub mod Fitting
+pub mod Halls
+pub mod Asked
+pub mod Numbers
+pub mod Began
+pub mod Going
+pub mod Lent
+pub mod Gathered
+pub mod Keeping
+pub mod Idle

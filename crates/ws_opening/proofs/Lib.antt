@@ -1,0 +1,4 @@
+pub mod Named
+pub mod Workspaces
+pub mod Told
+pub mod Begun

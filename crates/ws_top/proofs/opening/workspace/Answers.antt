@@ -1,6 +1,0 @@
-use Rattle.std.proofs.Common.{map}
-use Rattle.ws_top.proofs.Opened.{workspace_opened}
-use Rattle.ws_top.proofs.opening.workspace.Goals as goal
-
-pub returns-clause-opened : goal.returns-clause-opened
-returns-clause-opened g c = workspace_opened c.args.durable c.in_ok-names.names (map (λ b. g.B.Builder.tells b) c.args.builders.now) c.with_builders.result c.in_ok-names.ensures c.with_builders.ensures.kept c.with_builders.ensures.opened
