@@ -1,5 +1,5 @@
 //! What the lock keeps.
-ghost use Rattle.std.specs.Prelude.{◌≡◌, ◌++◌, List, [], Some, drop, is_none, map, true, IfOk};
+ghost use Rattle.std.specs.Prelude.{◌≡◌, ◌++◌, List, [], Some, drop, is_none, map, true, IfErr, IfOk};
 ghost use Rattle.std.specs.Option.{option_map};
 ghost use Rattle.core_event.specs.declared.entry.Entry.{Entry};
 
@@ -12,20 +12,26 @@ use delta_kind::Delta;
 use elem_tree::LayerTree;
 use res_path::NoMemory;
 use save_round::Participant;
-use std::alloc::Global;
+use std::alloc::{AllocError, Global};
 use std::marker::{Model, PhantomData};
 use std::snapshot::Snapshot;
 use ws_core::{Core, JobCount};
 use ws_outside::Disk;
 
+/// The core, and the services while they are home.
+#[derive(Drop)]
+pub(crate) struct Hold<D: Disk, B: Builder, P: Participant> {
+    pub(crate) core: Core<LayerTree>,
+    pub(crate) services: Option<Services<D, B, P>>,
+}
+
 /// The core of a workspace, with its services while no pass has them. A contract sees these, and with which services the
-/// workspace was opened.
+/// workspace was opened. It is one pointer wide, so that a lock moves it at no cost.
 ///
 /// The services are home exactly where no pass has them, and then they fit what was done.
 #[derive(Drop)]
 pub struct Locked<D: Disk, B: Builder, P: Participant, V: Vow> {
-    pub(crate) core: Core<LayerTree>,
-    pub(crate) services: Option<Services<D, B, P>>,
+    pub(crate) hold: Box<Hold<D, B, P>>,
     pub(crate) opening: Opening<D, B, P>,
     pub(crate) vow: PhantomData<V>,
 }
@@ -49,14 +55,14 @@ impl<D: Disk, B: Builder, P: Participant, V: Vow> Model for Locked<D, B, P, V> {
     ghost coded = { Prim.hlevel (codes, of_entry.the_row.coded, durable.the_row.coded, moment_code element.the_row.coded command.the_row.coded job_manager.the_row.coded desk.the_row.coded) };
 
     ghost view = { λ l. record {
-      core = l.core;
-      services = option_map (λ s. trio_of s) l.services;
+      core = l.hold.value.core;
+      services = option_map (λ s. trio_of s) l.hold.value.services;
       opening = l.opening;
     } };
 
     ghost invariant = { λ l. IsHall B.tells P.tells (Fits D.moment D.left_since D.may_leave D.faults V.fits) (record {
-      core = l.core;
-      services = option_map (λ s. trio_of s) l.services;
+      core = l.hold.value.core;
+      services = option_map (λ s. trio_of s) l.hold.value.services;
       opening = l.opening;
     }) };
 }
@@ -71,15 +77,20 @@ impl<D: Disk, B: Builder, P: Participant, V: Vow> Locked<D, B, P, V> {
     ghost use Rattle.ws_locked.specs.Asked.{HasCounted, WasAsked, WasTried};
     ghost use Rattle.ws_locked.specs.Halls.{IsHall, opened_by, opened_in, told_by, trio_of};
 
-    /// A workspace that was just opened, with its services at home. It takes no memory.
-    pub fn of(core: Core<LayerTree>, services: Services<D, B, P>) -> Locked<D, B, P, V>
+    /// A workspace that was just opened, with its services at home. Where memory wants both are handed back.
+    pub fn of(
+        alloc: Global,
+        core: Core<LayerTree>,
+        services: Services<D, B, P>,
+    ) -> Result<Locked<D, B, P, V>, (NoMemory, Core<LayerTree>, Services<D, B, P>)>
         requires nothing_done { core.history ≡ [] }
         requires first { core.opened.manager ≡ first_manager }
         requires kept { IsKept D.moment D.left_since D.may_leave D.faults core services.keeper }
         requires vowed { V.fits (record { state = core.opened; builders = map (λ b. B.tells b) services.builders; participants = map (λ p. P.tells p) services.participants }) (map (λ b. B.tells b) services.builders) [] }
-        ensures core { result.core ≡ core }
-        ensures services { result.services ≡ Some (trio_of services) }
-        ensures opening { (result.opening.core.value ≡ core) × (result.opening.keeper.value ≡ services.keeper) × (result.opening.builders.value ≡ services.builders) × (result.opening.participants.value ≡ services.participants) }
+        ensures core { IfOk result (λ l. l.core ≡ core) }
+        ensures services { IfOk result (λ l. l.services ≡ Some (trio_of services)) }
+        ensures opening { IfOk result (λ l. (l.opening.core.value ≡ core) × (l.opening.keeper.value ≡ services.keeper) × (l.opening.builders.value ≡ services.builders) × (l.opening.participants.value ≡ services.participants)) }
+        ensures err { IfErr result (λ e. (e.1 ≡ core) × (e.2 ≡ services)) }
     {
         let _ = core.state();
         let opening = Opening {
@@ -88,11 +99,13 @@ impl<D: Disk, B: Builder, P: Participant, V: Vow> Locked<D, B, P, V> {
             builders: Snapshot::of(&services.builders),
             participants: Snapshot::of(&services.participants),
         };
-        Locked {
-            core,
-            services: Some(services),
-            opening,
-            vow: PhantomData,
+        match boxed(alloc, core, services) {
+            Ok(hold) => Ok(Locked {
+                hold,
+                opening,
+                vow: PhantomData,
+            }),
+            Err((core, services)) => Err((AllocError, core, services)),
         }
     }
 
@@ -103,13 +116,13 @@ impl<D: Disk, B: Builder, P: Participant, V: Vow> Locked<D, B, P, V> {
         ensures hall { IsHall B.tells P.tells (Fits D.moment D.left_since D.may_leave D.faults V.fits) self }
         ensures replayed { self.core.state ≡ replay (opened_in self) self.core.history }
     {
-        let _ = self.core.state();
+        let _ = self.hold.core.state();
         let Locked {
-            core,
-            services,
+            hold,
             opening: _,
             vow: _,
         } = self;
+        let Hold { core, services } = Box::into_inner(hold);
         (core, services)
     }
 
@@ -132,22 +145,22 @@ impl<D: Disk, B: Builder, P: Participant, V: Vow> Locked<D, B, P, V> {
         ensures first { (opened_in self.now).manager ≡ first_manager }
         ensures legal { Legal (opened_in self.now) self.now.core.history }
     {
-        let _ = self.core.history();
+        let _ = self.hold.core.history();
     }
 
     /// What the history tells, but for so many of its first notices.
     pub(crate) fn notices(&self, alloc: Global, from: usize) -> Result<Vec<Delta>, NoMemory>
         ensures { IfOk result (λ told. told.items ≡ drop from (notices (opened_in self.now) self.now.core.history)) }
     {
-        told_from(alloc, self.core.history(), from)
+        told_from(alloc, self.hold.core.history(), from)
     }
 
     /// How many jobs wait or are run, and how many were finished.
     pub(crate) fn jobs(&self) -> JobCount
         ensures { HasCounted (opened_in self.now) 0 self.now.core.history [] result }
     {
-        let _ = self.core.state();
-        self.core.jobs()
+        let _ = self.hold.core.state();
+        self.hold.core.jobs()
     }
 
     /// Does an event by which the services stay where they are, as `Core::step` does.
@@ -157,14 +170,14 @@ impl<D: Disk, B: Builder, P: Participant, V: Vow> Locked<D, B, P, V> {
         ensures opening { self.new.opening ≡ self.old.opening }
         ensures asked { (added : List Entry) × (self.new.core.history ≡ self.old.core.history ++ added) × WasAsked event (opened_in self.old) pass self.old.core.history added result }
     {
-        let _ = self.core.state();
-        self.core.step(alloc, pass, event)
+        let _ = self.hold.core.state();
+        self.hold.core.step(alloc, pass, event)
     }
 
     /// Whether it is worth to try the event: false only where it would find that it must wait. It takes no memory.
     pub(crate) fn may_go(&self, pass: u64, event: &Event) -> bool {
         match event {
-            Event::Begin(rule) => may_begin(&self.core, pass, rule),
+            Event::Begin(rule) => may_begin(&self.hold.core, pass, rule),
             _ => true,
         }
     }
@@ -186,6 +199,31 @@ impl<D: Disk, B: Builder, P: Participant, V: Vow> Locked<D, B, P, V> {
             return Ok(None);
         }
         Ok(Some(reply))
+    }
+}
+
+/// The core, with its services at home, where memory doesn't want.
+fn boxed<D: Disk, B: Builder, P: Participant>(
+    alloc: Global,
+    core: Core<LayerTree>,
+    services: Services<D, B, P>,
+) -> Result<Box<Hold<D, B, P>>, (Core<LayerTree>, Services<D, B, P>)>
+    ensures ok { IfOk result (λ hold. hold.value ≡ record { core = core; services = Some services }) }
+    ensures err { IfErr result (λ e. (e.0 ≡ core) × (e.1 ≡ services)) }
+{
+    let hold = Hold {
+        core,
+        services: Some(services),
+    };
+    match Box::new(alloc, hold) {
+        Ok(hold) => Ok(hold),
+        Err(failed) => {
+            let Hold { core, services } = failed.value;
+            match services {
+                Some(services) => Err((core, services)),
+                None => unreachable!(),
+            }
+        }
     }
 }
 

@@ -27,7 +27,7 @@ impl<D: Disk, B: Builder, P: Participant, V: Vow> Logged for Locked<D, B, P, V> 
     ghost gives = { gives };
 
     fn entries(&self) -> u64 {
-        self.core.history().len() as u64
+        self.hold.core.history().len() as u64
     }
 }
 
@@ -51,12 +51,12 @@ impl<D: Disk, B: Builder, P: Participant, V: Vow> Machine for Locked<D, B, P, V>
     ghost may_close = { λ o h. is_none (who_serves o.core.value.opened h) };
 
     fn may_close(&self) -> bool {
-        let _ = self.core.state();
-        self.services.is_some()
+        let _ = self.hold.core.state();
+        self.hold.services.is_some()
     }
 
     fn settle(&self) {
-        let _ = self.core.history();
+        let _ = self.hold.core.history();
     }
 
     fn enter(&mut self, alloc: Global, pass: u64) -> Result<u64, NoMemory> {

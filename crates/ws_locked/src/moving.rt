@@ -85,10 +85,10 @@ impl<D: Disk, B: Builder, P: Participant, V: Vow> Locked<D, B, P, V> {
     pub(crate) fn must_wait(&self, pass: u64, purpose: &Purpose) -> bool
         ensures { result ≡ false → (holder : ℕ) → (step (replay (opened_in self.now) self.now.core.history) pass (checkout purpose.now)).1.answer ≢ Refused (ServicesOut holder) }
     {
-        let _ = self.core.state();
-        let is_free = may_take(&self.core, pass, purpose);
-        if is_free {
-            self.services.is_none()
+        let _ = self.hold.core.state();
+        let has_rule = may_take(&self.hold.core, pass, purpose);
+        if has_rule {
+            self.hold.services.is_none()
         } else {
             false
         }
@@ -109,11 +109,11 @@ impl<D: Disk, B: Builder, P: Participant, V: Vow> Locked<D, B, P, V> {
         ensures round { IfOk result (λ r. IfSome r.1 (λ s. (rounds_of self.new.core.history).under ≡ round_for purpose)) }
         ensures err { OnErr result (self.new.core.history ≡ self.old.core.history) }
     {
-        let _ = self.core.state();
+        let _ = self.hold.core.state();
         let event = Event::Service(ServiceEvent::Checkout(purpose));
-        let reply = self.core.step(alloc, pass, event)?;
+        let reply = self.hold.core.step(alloc, pass, event)?;
         if was_done(&reply) {
-            let out = self.services.take();
+            let out = self.hold.services.take();
             return Ok((reply, out));
         }
         Ok((reply, None))
@@ -132,9 +132,9 @@ impl<D: Disk, B: Builder, P: Participant, V: Vow> Locked<D, B, P, V> {
         ensures opening { self.new.opening ≡ self.old.opening }
         ensures kept { (added : List Entry) × (self.new.core.history ≡ self.old.core.history ++ added) × WereKept states (opened_in self.old) pass self.old.core.history added result }
     {
-        let _ = self.core.state();
-        keep(&mut self.core, alloc, pass, states)?;
-        match kept_now(&self.core, alloc) {
+        let _ = self.hold.core.state();
+        keep(&mut self.hold.core, alloc, pass, states)?;
+        match kept_now(&self.hold.core, alloc) {
             Ok(now) => Ok(Some(now)),
             Err(_) => Ok(None),
         }
@@ -157,13 +157,13 @@ impl<D: Disk, B: Builder, P: Participant, V: Vow> Locked<D, B, P, V> {
         ensures err { IfErr result (λ e. (e.1 ≡ services) × WasHandedBack (opened_in self.old) pass outcome self.old.core.history self.new.core.history e.0) }
         ensures never { ChecksIn (replay (opened_in self.old) self.old.core.history) pass (checkin outcome) → IsOk result }
     {
-        let _ = self.core.state();
+        let _ = self.hold.core.state();
         let event = Event::Service(ServiceEvent::CheckIn(outcome));
-        let Ok(reply) = self.core.step(alloc, pass, event) else {
+        let Ok(reply) = self.hold.core.step(alloc, pass, event) else {
             return Err((CheckInError::Memory, services));
         };
         if was_done(&reply) {
-            self.services = Some(services);
+            self.hold.services = Some(services);
             return Ok(reply);
         }
         Err((error_of(&reply), services))

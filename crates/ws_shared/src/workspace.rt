@@ -1,5 +1,5 @@
 //! A workspace that many threads share.
-ghost use Rattle.std.specs.Prelude.{◌≡◌, [], drop, false, is_none, List, map, true, IfErr, IfOk, OnErr, OnOk};
+ghost use Rattle.std.specs.Prelude.{◌≡◌, [], drop, false, is_none, List, map, Some, true, IfErr, IfOk, OnErr, OnOk};
 ghost use Rattle.std.specs.List.{AllByRecursion};
 ghost use Rattle.core_event.specs.declared.entry.Entry.{Entry};
 ghost use Rattle.job_manager.specs.Managers.{first_manager};
@@ -70,7 +70,29 @@ impl<D: Disk, B: Builder, P: Participant, V: Vow> Workspace<D, B, P, V> {
         ensures pass { IfOk result (λ r. knows r.1 ≡ record { number = 0; seen = []; mine = []; lost = [] }) }
         ensures err { IfErr result (λ e. (e.1 ≡ core) × (trio_of e.2 ≡ trio_of services)) }
     {
-        match Room::new(alloc, Locked::of(core, services)) {
+        match Locked::of(alloc, core, services) {
+            Ok(locked) => Workspace::over(alloc, locked),
+            Err(refused) => Err(refused),
+        }
+    }
+
+    /// A workspace over what its lock is to keep, in which nothing was done, with its first pass. Where memory wants what was
+    /// to be kept is handed back.
+    fn over(
+        alloc: Global,
+        locked: Locked<D, B, P, V>,
+    ) -> Result<
+        (Workspace<D, B, P, V>, Pass<D, B, P, V>),
+        (NoMemory, Core<LayerTree>, Services<D, B, P>),
+    >
+        requires nothing_done { locked.core.history ≡ [] }
+        requires first { (state_in locked.opening).manager ≡ first_manager }
+        ensures of { IfOk result (λ r. IsOf r.0 r.1) }
+        ensures opening { IfOk result (λ r. opening_of r.0 ≡ locked.opening) }
+        ensures pass { IfOk result (λ r. knows r.1 ≡ record { number = 0; seen = []; mine = []; lost = [] }) }
+        ensures err { IfErr result (λ e. (e.1 ≡ locked.core) × (Some (trio_of e.2) ≡ locked.services)) }
+    {
+        match Room::new(alloc, locked) {
             Ok((room, pass)) => Ok((Workspace { room }, pass)),
             Err((error, locked)) => {
                 let (core, services) = locked.into_home();

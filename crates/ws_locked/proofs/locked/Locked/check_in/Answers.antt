@@ -17,13 +17,13 @@ invariant_of-self-then-was_done g c =
     let d = g.D.Disk in
     let e = c.in-Ok.ensures in
     let s = c.self.inside.opening.core.value.opened in
-    let at = sym c.state.ensures.state ∙ (c.state.ensures.replayed ∙ ap (λ z. replay z c.self.inside.core.history) c.self.invariant.opened) in
+    let at = sym c.state.ensures.state ∙ (c.state.ensures.replayed ∙ ap (λ z. replay z c.self.inside.hold.value.core.history) c.self.invariant.opened) in
     let good = ap (λ (r : Reply). was_done r.answer) (sym e.reply) ∙ (sym c.was_done.ensures ∙ c.if-was_done.true) in
     let asks : Hall g.row.D.Denot g.row.B.Denot g.row.P.Denot → Type 0 = λ l. who_serves (opened_in l) l.core.history ≡ Some c.args.pass
     → ComesHome (λ h. Fits d.moment d.left_since d.may_leave d.faults g.V.Vow.fits (opened_by g.B.Builder.tells g.P.Participant.tells l.opening) l.opening.keeper.value h (told_by g.B.Builder.tells g.P.Participant.tells (trio_of c.args.services))) c.args.pass c.args.outcome l.core.history in
     let fits = subst asks (sym c.self.view_is) c.requires.fits in
     hall_home d.moment d.left_since d.may_leave d.faults g.B.Builder.tells g.P.Participant.tells g.V.Vow.fits
-    (record { core = c.self.inside.core; services = option_map (λ z. trio_of z) c.self.inside.services; opening = c.self.inside.opening })
+    (record { core = c.self.inside.hold.value.core; services = option_map (λ z. trio_of z) c.self.inside.hold.value.services; opening = c.self.inside.opening })
     c.step.new.self c.args.pass c.args.outcome (trio_of c.args.services) good e.opened e.state e.history (λ serves. fits (sym (ap serving_of at) ∙ serves)) c.self.invariant
 
 pub invariant_of-self-else-was_done : goal.invariant_of-self-else-was_done
@@ -32,13 +32,13 @@ invariant_of-self-else-was_done g c =
     let e = c.in-Ok.ensures in
     let bad = ap (λ (r : Reply). was_done r.answer) (sym e.reply) ∙ (sym c.was_done.ensures ∙ c.if-was_done.false) in
     hall_refused d.moment d.left_since d.may_leave d.faults g.B.Builder.tells g.P.Participant.tells g.V.Vow.fits
-    (record { core = c.self.inside.core; services = option_map (λ z. trio_of z) c.self.inside.services; opening = c.self.inside.opening })
+    (record { core = c.self.inside.hold.value.core; services = option_map (λ z. trio_of z) c.self.inside.hold.value.services; opening = c.self.inside.opening })
     c.step.new.self c.args.pass c.args.outcome bad e.opened e.state e.history c.self.invariant
 
 pub returns-then-was_done-clause-ok : goal.returns-then-was_done-clause-ok
 returns-then-was_done-clause-ok g c =
     let e = c.in-Ok.ensures in
-    let x = c.self.inside.core in
+    let x = c.self.inside.hold.value.core in
     let at = sym c.state.ensures.state ∙ (c.state.ensures.replayed ∙ ap (λ z. replay z x.history) c.self.invariant.opened) in
     let good = ap (λ (r : Reply). was_done r.answer) (sym e.reply) ∙ (sym c.was_done.ensures ∙ c.if-was_done.true) in
     subst (λ (l : Hall g.row.D.Denot g.row.B.Denot g.row.P.Denot). WasGiven (opened_in l) c.args.pass c.args.outcome l.core.history c.step.new.self.history c.in-Ok.reply) c.self.view_is
@@ -51,7 +51,7 @@ returns-then-was_done-clause-ok g c =
 pub returns-clause-err : goal.returns-clause-err
 returns-clause-err g c =
     let e = c.in-Ok.ensures in
-    let x = c.self.inside.core in
+    let x = c.self.inside.hold.value.core in
     let n = c.args.pass in
     let at = sym c.state.ensures.state ∙ (c.state.ensures.replayed ∙ ap (λ z. replay z x.history) c.self.invariant.opened) in
     let bad = ap (λ (r : Reply). was_done r.answer) (sym e.reply) ∙ (sym c.was_done.ensures ∙ c.if-was_done.false) in

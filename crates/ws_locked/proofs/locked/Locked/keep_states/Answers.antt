@@ -13,7 +13,7 @@ use Rattle.ws_locked.proofs.locked.Locked.keep_states.Goals as goal
 
 pub returns-clause-kept : goal.returns-clause-kept
 returns-clause-kept g c =
-    let x = c.self.inside.core in
+    let x = c.self.inside.hold.value.core in
     let y = c.keep.new.core in
     let s = c.self.inside.opening.core.value.opened in
     let at = sym c.state.ensures.state ∙ (c.state.ensures.replayed ∙ ap (λ s. replay s x.history) c.self.invariant.opened) in
