@@ -11,7 +11,7 @@ use crate::asserting::{let_go, must, same};
 use crate::making::at;
 use crate::opening::{Space, Token, opened};
 use crate::passes::split;
-use crate::slow::{Gate, Slow, gate, slow, wait};
+use crate::slow::{Gate, Slow, shut, stopped_by, wait};
 use builder_api::Builder;
 use core_event::{Answer, Outcomes, Purpose, Refusal, Reply};
 use save_kind::{SaveAnswer, SaveKind};
@@ -257,8 +257,8 @@ fn in_turn<R: Wait + Abort + AllocGlobal>(
 
 #[test]
 fn who_has_not_got_the_services_neither_takes_them_nor_gives_them_back(rt: HostRuntime) {
-    let gate = must(&rt, gate(rt.alloc()));
-    let slow = must(&rt, slow(rt.alloc(), &gate));
+    let gate = must(&rt, shut(rt.alloc()));
+    let slow = must(&rt, stopped_by(rt.alloc(), &gate));
     let (space, mut first) = opened(&rt, slow);
     let other = split(&rt, &space, &mut first);
     let mut passes = vec![in rt.alloc(); first, other];

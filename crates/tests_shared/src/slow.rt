@@ -26,7 +26,7 @@ pub struct Slow {
 }
 
 /// Nothing has begun.
-pub fn gate(alloc: Global) -> Result<Arc<Gate, Global>, NoMemory> {
+pub fn shut(alloc: Global) -> Result<Arc<Gate, Global>, NoMemory> {
     let gate = Gate {
         begun: AtomicBool::new(false),
         may_go: AtomicBool::new(false),
@@ -38,7 +38,7 @@ pub fn gate(alloc: Global) -> Result<Arc<Gate, Global>, NoMemory> {
 }
 
 /// A participant that waits at the gate.
-pub fn slow(alloc: Global, gate: &Arc<Gate, Global>) -> Result<Slow, NoMemory> {
+pub fn stopped_by(alloc: Global, gate: &Arc<Gate, Global>) -> Result<Slow, NoMemory> {
     match Arc::try_clone(gate) {
         Ok(gate) => Ok(Slow {
             notes: Notes::new(alloc),
