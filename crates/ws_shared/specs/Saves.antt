@@ -16,7 +16,7 @@ use Rattle.ws_locked.specs.declared.services.Opening.{Opening}
 use Rattle.ws_shared.specs.Calls.{legal_from, pass_of}
 
 -- The save ended so: its entries are the last that the pass has made, in order, and its end is the last entry that it has seen.
--- It ended as too large, or for want of a number, only where that is so: of all saves in what it has seen it was begun last.
+-- It ended as too large, or for want of a number, only where that is so of its point, the newest in what the pass has seen.
 -- Where memory wanted before it began the pass has made nothing.
 pub record WasSaved {D B P : Type 0} (kind : SaveKind) (o : Opening D B P) (answer : Result SaveAnswer AllocError) (k k' : Knows Entry) : Type 0 where
   pub begins : StartsWith k'.seen k.seen
