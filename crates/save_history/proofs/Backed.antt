@@ -74,6 +74,9 @@ risen_more n a b c (inr top) (inr last) = let t = top.0 in let le = top.1 in let
 le_same : (n : ℕ) → n ≤ n
 le_same n = omega arith
 
+le_none : (n : ℕ) → n ≤ n + 0
+le_none n = omega arith
+
 le_next : (n : ℕ) → n ≤ n + 1
 le_next n = omega arith
 
@@ -127,7 +130,7 @@ module _ {D : Type 0} (moment : D → ℕ) (left_since : D → ℕ → Contents 
   -- the store was just opened
   pub safe_first : ((d : D) (c : Contents) → left_since d (moment d) c → may_leave d c) → (saves : Saves D) → IsStored may_leave [] saves → Safe (first_points (saved saves.last)) (record { began = saves; store = saves; failed = false })
   safe_first only_now saves stored = record {
-    leaves = record { moments = at_start moment left_since may_leave only_now saves.areas.disk (HoldsOne (saved saves.last ∷ [])) (stored_holds may_leave [] saves stored); calls = refl; numbered = omega arith };
+    leaves = record { moments = at_start moment left_since may_leave only_now saves.areas.disk (HoldsOne (saved saves.last ∷ [])) (stored_holds may_leave [] saves stored); calls = refl; numbered = le_none saves.areas.top };
     backed = backed_first may_leave saves stored;
   }
 
