@@ -9,8 +9,8 @@ use Rattle.save_store.specs.declared.saves.Saves.{Saves}
 use Rattle.save_store.specs.States.{Holds, HoldsOne}
 use Rattle.save_store.specs.Stored.{IsStored}
 use Rattle.save_store.proofs.Runs.{stored_holds}
-use Rattle.save_history.specs.Points.{Points, Among, AllAmong, IsAsked, IsLast, first_points, with_acknowledged, with_begun}
-use Rattle.save_history.specs.Kept.{Keeper, HasRisenBy, IsAhead, IsBacked, IsSafe, LeavesPoints, TellsFaults, disk_of, first_disk}
+use Rattle.save_history.specs.Points.{Points, Among, AllAmong, IsAsked, first_points, with_acknowledged, with_begun, with_ended}
+use Rattle.save_history.specs.Kept.{Keeper, HasRisenBy, IsAhead, IsBacked, IsNumbered, IsSafe, LeavesPoints, TellsFaults, disk_of, first_disk}
 use Rattle.save_history.proofs.Points.{IsWhole, all_all, all_behind, all_more, all_on, among_all, last_among, last_is}
 
 -- ---- what areas hold
@@ -71,6 +71,19 @@ risen_more n a b c (inl risen) (inr last) = let top = last.0 in let same = last.
 risen_more n a b c (inr top) (inl rose) = let t = top.0 in let le = top.1 in inr (omega (arith, t, rose), omega (arith, le, rose))
 risen_more n a b c (inr top) (inr last) = let t = top.0 in let le = top.1 in let same = last.1 in inr (omega (arith, t, same), omega (arith, le, same))
 
+le_same : (n : ℕ) → n ≤ n
+le_same n = omega arith
+
+le_none : (n : ℕ) → n ≤ n + 0
+le_none n = omega arith
+
+le_next : (n : ℕ) → n ≤ n + 1
+le_next n = omega arith
+
+-- a bound on a number, by a greater one
+bound_more : (n m a b : ℕ) → a ≤ b → n ≤ m + a → n ≤ m + b
+bound_more n m a b more le = omega (arith, more, le)
+
 -- ---- a store
 
 -- each crash image of its areas holds the point that was acknowledged last, or one that was begun after it
@@ -92,7 +105,7 @@ backed_unsaved may_leave p old new now asked unsaved same b = record {
   begun = b.begun ++ now ∷ [];
   stored = unsaved b.begun b.stored;
   last = ap saved same ∙ b.last;
-  among = all_on b.begun now p.begun b.among (last_among p.begun now asked);
+  among = all_on b.begun now p.begun b.among (last_among p.begun now asked.last);
 }
 
 -- ---- the store of a run
@@ -107,43 +120,52 @@ module _ {D : Type 0} (moment : D → ℕ) (left_since : D → ℕ → Contents 
   abbrev Ahead : Points → Keeper D → Type 0
   Ahead p k = IsAhead moment left_since may_leave faults p k
 
-  leaves_wider : (p q : Points) (k : Keeper D) → AllAmong p.all q.all → Leaves p k → Leaves q k
-  leaves_wider p q k all l = record {
+  leaves_wider : (p q : Points) (k : Keeper D) → AllAmong p.all q.all → p.count ≤ q.count → Leaves p k → Leaves q k
+  leaves_wider p q k all more l = record {
     moments = only_wider moment left_since may_leave (first_disk k) (disk_of k) (HoldsOne q.all) (HoldsOne p.all) l.moments (holds_wider p.all q.all all);
     calls = l.calls;
+    numbered = bound_more k.store.areas.top k.began.areas.top p.count q.count more l.numbered;
   }
 
   -- the store was just opened
   pub safe_first : ((d : D) (c : Contents) → left_since d (moment d) c → may_leave d c) → (saves : Saves D) → IsStored may_leave [] saves → Safe (first_points (saved saves.last)) (record { began = saves; store = saves; failed = false })
   safe_first only_now saves stored = record {
-    leaves = record { moments = at_start moment left_since may_leave only_now saves.areas.disk (HoldsOne (saved saves.last ∷ [])) (stored_holds may_leave [] saves stored); calls = refl };
+    leaves = record { moments = at_start moment left_since may_leave only_now saves.areas.disk (HoldsOne (saved saves.last ∷ [])) (stored_holds may_leave [] saves stored); calls = refl; numbered = le_none saves.areas.top };
     backed = backed_first may_leave saves stored;
   }
 
   -- a save was begun
   pub safe_begun : (d : Saved) (p : Points) (k : Keeper D) → Safe p k → Safe (with_begun d p) k
   safe_begun d p k safe = record {
-    leaves = leaves_wider p (with_begun d p) k (all_more p.all p.all (d ∷ []) (itself_among p.all)) safe.leaves;
+    leaves = leaves_wider p (with_begun d p) k (all_more p.all p.all (d ∷ []) (itself_among p.all)) (le_next p.count) safe.leaves;
     backed = backed_begun may_leave d p k.store safe.backed;
+  }
+
+  -- it ended, and wasn't acknowledged
+  pub safe_ended : (p : Points) (k : Keeper D) → Safe p k → Safe (with_ended p) k
+  safe_ended p k safe = record {
+    leaves = leaves_wider p (with_ended p) k (itself_among p.all) (le_same p.count) safe.leaves;
+    backed = record { begun = safe.backed.begun; stored = safe.backed.stored; last = safe.backed.last; among = safe.backed.among };
   }
 
   -- it was acknowledged
   pub safe_acknowledged : (p : Points) (k : Keeper D) → Ahead p k → Safe (with_acknowledged p) k
   safe_acknowledged p k ahead = record {
-    leaves = leaves_wider p (with_acknowledged p) k (itself_among p.all) ahead.leaves;
-    backed = record { begun = []; stored = ahead.stored; last = sym (last_is p.acknowledged (saved k.store.last) p.begun ahead.written); among = tt };
+    leaves = leaves_wider p (with_acknowledged p) k (itself_among p.all) (le_same p.count) ahead.leaves;
+    backed = record { begun = []; stored = ahead.stored; last = sym (last_is p.acknowledged (saved k.store.last) p.begun ahead.written.last); among = tt };
   }
 
   -- the save that was begun last was written
   module _ (p : Points) (whole : IsWhole p) (old new : Keeper D) (now : Saved) (asked : IsAsked p now) (safe : Safe p old) (began : new.began ≡ old.began)
-      (run : (begun : List Saved) → IsStored may_leave begun old.store → LeavesOnly moment left_since may_leave (disk_of old) (disk_of new) (HoldsOne (saved old.store.last ∷ begun ++ now ∷ []))) where
+      (run : (begun : List Saved) → IsStored may_leave begun old.store → LeavesOnly moment left_since may_leave (disk_of old) (disk_of new) (HoldsOne (saved old.store.last ∷ begun ++ now ∷ [])))
+      (numbered : IsNumbered p new) where
     abbrev touched : List Saved
     touched = saved old.store.last ∷ safe.backed.begun ++ now ∷ []
 
     wrote_among : AllAmong touched p.all
     wrote_among = (
       subst (λ d. Among d p.all) (sym safe.backed.last) whole.acknowledged,
-      all_on safe.backed.begun now p.all (all_all safe.backed.begun p.begun p.all safe.backed.among whole.begun) (among_all now p.begun p.all (last_among p.begun now asked) whole.begun),
+      all_on safe.backed.begun now p.all (all_all safe.backed.begun p.begun p.all safe.backed.among whole.begun) (among_all now p.begun p.all (last_among p.begun now asked.last) whole.begun),
     )
 
     wrote_moments : LeavesOnly moment left_since may_leave (first_disk new) (disk_of new) (HoldsOne p.all)
@@ -152,10 +174,10 @@ module _ {D : Type 0} (moment : D → ℕ) (left_since : D → ℕ → Contents 
         (holds_wider touched p.all wrote_among))
 
     wrote_leaves : TellsFaults new.failed (faults (first_disk old)) (faults (disk_of new)) → Leaves p new
-    wrote_leaves calls = record { moments = wrote_moments; calls = subst (λ (b : Saves D). TellsFaults new.failed (faults b.areas.disk) (faults (disk_of new))) (sym began) calls }
+    wrote_leaves calls = record { moments = wrote_moments; calls = subst (λ (b : Saves D). TellsFaults new.failed (faults b.areas.disk) (faults (disk_of new))) (sym began) calls; numbered = numbered }
 
     pub wrote_ahead : TellsFaults new.failed (faults (first_disk old)) (faults (disk_of new)) → IsStored may_leave [] new.store → saved new.store.last ≡ now → Ahead p new
-    wrote_ahead calls stored last = record { leaves = wrote_leaves calls; stored = stored; written = subst (IsLast p.begun) (sym last) asked }
+    wrote_ahead calls stored last = record { leaves = wrote_leaves calls; stored = stored; written = subst (IsAsked p) (sym last) asked }
 
     pub wrote_safe : TellsFaults new.failed (faults (first_disk old)) (faults (disk_of new)) → ((begun : List Saved) → IsStored may_leave begun old.store → IsStored may_leave (begun ++ now ∷ []) new.store)
         → new.store.last ≡ old.store.last → Safe p new

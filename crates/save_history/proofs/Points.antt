@@ -7,7 +7,7 @@ use Rattle.ws_core.specs.States.{Moment}
 use Rattle.ws_core.specs.Histories.{after}
 use Rattle.ws_core.specs.Durables.{durable_of}
 use Rattle.save_history.specs.Steps.{SaveStep, Begins, Keeps, Ends, step_of}
-use Rattle.save_history.specs.Points.{Points, Among, AllAmong, IsLast, first_points, last_of, points_from, points_of, with_acknowledged, with_begun, with_step}
+use Rattle.save_history.specs.Points.{Points, Among, AllAmong, IsLast, first_points, last_of, points_from, points_of, with_acknowledged, with_begun, with_ended, with_step}
 
 -- ---- lists of states
 
@@ -71,6 +71,9 @@ whole_begun d p whole = record {
   begun = all_on p.begun d (p.all ++ d ∷ []) (all_more p.begun p.all (d ∷ []) whole.begun) (among_last d p.all);
 }
 
+whole_ended : (p : Points) → IsWhole p → IsWhole (with_ended p)
+whole_ended p whole = record { acknowledged = whole.acknowledged; begun = whole.begun }
+
 whole_acknowledged : (p : Points) → IsWhole p → IsWhole (with_acknowledged p)
 whole_acknowledged p whole = record { acknowledged = last_in p.acknowledged p.begun p.all whole.acknowledged whole.begun; begun = tt }
 
@@ -79,11 +82,11 @@ whole_step d None p whole = whole
 whole_step d (Some (Begins kind)) p whole = whole
 whole_step d (Some (Keeps states)) p whole = whole_begun d p whole
 whole_step d (Some (Ends answer.Saved)) p whole = whole_acknowledged p whole
-whole_step d (Some (Ends answer.SaveFailed)) p whole = whole
-whole_step d (Some (Ends (answer.ParticipantFailed name))) p whole = whole
-whole_step d (Some (Ends answer.SaveTooLarge)) p whole = whole
-whole_step d (Some (Ends answer.SaveNumbers)) p whole = whole
-whole_step d (Some (Ends answer.NoMemory)) p whole = whole
+whole_step d (Some (Ends answer.SaveFailed)) p whole = whole_ended p whole
+whole_step d (Some (Ends (answer.ParticipantFailed name))) p whole = whole_ended p whole
+whole_step d (Some (Ends answer.SaveTooLarge)) p whole = whole_ended p whole
+whole_step d (Some (Ends answer.SaveNumbers)) p whole = whole_ended p whole
+whole_step d (Some (Ends answer.NoMemory)) p whole = whole_ended p whole
 
 whole_from : (p : Points) (s : Moment) (h : List Entry) → IsWhole p → IsWhole (points_from p s h)
 whole_from p s [] whole = whole

@@ -10,9 +10,10 @@ use Rattle.save_run.specs.declared.command.Saved.TheVariants.{Ended, Stopped}
 use Rattle.save_run.specs.Books.{Deed, Start, Keep, Write, Finish, outcome_of}
 use Rattle.save_run.specs.Saves.{CameTo, IsAnswered}
 use Rattle.ws_core.specs.Sessions.{Session}
-use Rattle.save_history.specs.Kept.{Keeper}
+use Rattle.save_history.specs.Kept.{Keeper, points_at}
 use Rattle.save_history.specs.Rounds.{Rounds, kept_in}
 use Rattle.save_history.proofs.Rounds.{had_kept, had_same, had_unkept, home_kept, home_unkept, rounds_on, steps_stopped}
+use Rattle.save_history.proofs.Safe.{unkept_may}
 use Rattle.save_history.proofs.Saved.{grew_kept, grew_unkept, made_kept, made_unkept, saved_kept, saved_stopped, saved_unkept}
 use Rattle.save_host.specs.declared.host.Try.{Try}
 use Rattle.save_host.specs.Inside.Answers.{Answers, IsUnanswered}
@@ -76,11 +77,12 @@ module _ {D : Type 0} (moment : D → ℕ) (left_since : D → ℕ → Contents 
       let grew = grew_unkept k other end x a y b e unkept in
       subst (λ z. Done z (Ended o)) same (subst (λ z. Done other (Ended z)) so (record {
         made = saved_unkept k other end x a y b e unkept;
+        reason = unkept_may end (points_at y keeper) keeper.began.areas.top unkept;
         kept = kept;
         home = λ home. home_unkept k other end x.history y.history entries made grew;
         had = λ first had. had_unkept k other end x.history y.history entries first old new deeds made grew came_so (keeps_as kind deeds o _ is) had;
       }))
-  ended_by (IsThrough other states a c t b h e some kept) kind o deeds came is =
+  ended_by (IsThrough other states a c t b h e some kept may) kind o deeds came is =
       let end = outcome_of t.result in
       let same : other ≡ kind = cc in
       let ends = ends_as kind deeds o _ is in
@@ -91,6 +93,7 @@ module _ {D : Type 0} (moment : D → ℕ) (left_since : D → ℕ → Contents 
       let grew = grew_kept k other states end x a c y b h e in
       subst (λ z. Done z (Ended o)) same (subst (λ z. Done other (Ended z)) so (record {
         made = saved_kept k other states end x a c y b h e;
+        reason = may;
         kept = kept;
         home = λ home. home_kept k other end x.history y.history entries made grew;
         had = λ first had. had_kept k other end x.history y.history entries first old new deeds made grew came_so (keeps_as kind deeds o _ is) had;
@@ -105,6 +108,7 @@ module _ {D : Type 0} (moment : D → ℕ) (left_since : D → ℕ → Contents 
       let rounds = rounds_on x.history y.history made.entries [] made.history (steps_stopped k other m made.entries made.made) in
       subst (λ z. Done z (Stopped n)) same (subst (λ z. Done other (Stopped z)) so (record {
         made = made;
+        reason = tt;
         kept = kept;
         home = λ home. ap (λ (z : Rounds). z.under) rounds ∙ home;
         had = λ first had. had_same x.history y.history first old new rounds quiet had;
@@ -113,7 +117,7 @@ module _ {D : Type 0} (moment : D → ℕ) (left_since : D → ℕ → Contents 
   stopped_by (AreKept other states a b h none kept asked) kind n quiet is = cc
   stopped_by (WasTried other states a t b h some tried) kind n quiet is = cc
   stopped_by (IsOver other end a b e unkept none kept) kind n quiet is = cc
-  stopped_by (IsThrough other states a c t b h e some kept) kind n quiet is = cc
+  stopped_by (IsThrough other states a c t b h e some kept may) kind n quiet is = cc
 
   -- so it is of a save that was answered, by what was done for it
   pub answers : At → (kind : SaveKind) (saved : Saved) → IsAnswered kind saved (book_of x y w) old new → Done kind saved

@@ -20,7 +20,7 @@ use Rattle.save_history.specs.Saves.{beginning, ending}
 use Rattle.save_history.specs.Kept.{Keeper, IsKept, IsTried, points_at}
 use Rattle.save_history.specs.Stages.{HasBegun, HasEnded, HasKept, IsUnderWay, Starts, Stays, WasRefused}
 use Rattle.save_history.proofs.Rounds.{done_step, refused_step}
-use Rattle.save_history.proofs.Safe.{asked_keeps, kept_begins, kept_keeps, kept_none, kept_tried, kept_unkept}
+use Rattle.save_history.proofs.Safe.{asked_keeps, kept_begins, kept_keeps, kept_none, kept_tried, kept_unkept, may_by}
 use Rattle.save_host.specs.declared.host.Try.{Try}
 use Rattle.save_host.specs.Inside.Hosts.{IsStopped, IsBegun, AreKept, WasTried, IsOver, IsThrough, IsReady, book_of}
 use Rattle.save_host.proofs.Books.{book_begun, book_kept, book_over, book_stopped, book_tried, book_written}
@@ -81,7 +81,9 @@ module _ {D : Type 0} (moment : D → ℕ) (left_since : D → ℕ → Contents 
           entered = entered_on k y.state z.state e.went.stays entered;
           at = IsThrough now.kind now.states now.between y now.last now.begun now.keeps ended now.some
               (kept_tried moment left_since may_leave faults keeper y z ended.went.opened ended.went.placed ended.went.entry ended.went.history ended.went.state now.last.result
-              (done_step k (ending (outcome_of now.last.result)) ended.went.entry ended.went.is) now.tried);
+              (done_step k (ending (outcome_of now.last.result)) ended.went.entry ended.went.is) now.tried)
+              (may_by moment left_since may_leave faults keeper y z ended.went.opened ended.went.placed ended.went.entry ended.went.history ended.went.state (outcome_of now.last.result)
+              (done_step k (ending (outcome_of now.last.result)) ended.went.entry ended.went.is) now.tried.cause);
         }
 
 -- a write was tried

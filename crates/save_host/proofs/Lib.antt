@@ -1,3 +1,4 @@
+pub mod Caused
 pub mod Writing
 pub mod Books
 pub mod Places

@@ -62,7 +62,7 @@ module _ {D : Type 0} (moment : D → ℕ) (left_since : D → ℕ → Contents 
   shape (AreKept kind states a b h none kept asked) = Start kind None ∷ Keep states ∷ []
   shape (WasTried kind states a t b h some tried) = Start kind None ∷ Keep states ∷ Write t.kind t.result ∷ []
   shape (IsOver kind o a b e unkept none kept) = Start kind None ∷ Finish o ∷ []
-  shape (IsThrough kind states a c t b h e some kept) = Start kind None ∷ Keep states ∷ Write t.kind t.result ∷ Finish (outcome_of t.result) ∷ []
+  shape (IsThrough kind states a c t b h e some kept may) = Start kind None ∷ Keep states ∷ Write t.kind t.result ∷ Finish (outcome_of t.result) ∷ []
 
   pub book_is : (at : At) → book_of x y w ≡ shape at
   book_is (IsFresh same none kept) = book_fresh x y w same none
@@ -71,7 +71,7 @@ module _ {D : Type 0} (moment : D → ℕ) (left_since : D → ℕ → Contents 
   book_is (AreKept kind states a b h none kept asked) = book_kept k kind states x a y w b h none
   book_is (WasTried kind states a t b h some tried) = book_tried k kind states x a y w t b h some
   book_is (IsOver kind o a b e unkept none kept) = book_over k kind o x a y w b e none
-  book_is (IsThrough kind states a c t b h e some kept) = book_written k kind states (outcome_of t.result) x a c y w t b h e some
+  book_is (IsThrough kind states a c t b h e some kept may) = book_written k kind states (outcome_of t.result) x a c y w t b h e some
 
   -- nothing was done
   fresh_by : (at : At) → shape at ≡ [] → (y ≡ x) × (w ≡ None) × Kept
@@ -81,7 +81,7 @@ module _ {D : Type 0} (moment : D → ℕ) (left_since : D → ℕ → Contents 
   fresh_by (AreKept kind states a b h none kept asked) is = cc
   fresh_by (WasTried kind states a t b h some tried) is = cc
   fresh_by (IsOver kind o a b e unkept none kept) is = cc
-  fresh_by (IsThrough kind states a c t b h e some kept) is = cc
+  fresh_by (IsThrough kind states a c t b h e some kept may) is = cc
 
   pub fresh_of : At → book_of x y w ≡ [] → (y ≡ x) × (w ≡ None) × Kept
   fresh_of at is = fresh_by at (sym (book_is at) ∙ is)
@@ -100,7 +100,7 @@ module _ {D : Type 0} (moment : D → ℕ) (left_since : D → ℕ → Contents 
   begun_by (AreKept other states a b h none kept asked) kind is = cc
   begun_by (WasTried other states a t b h some tried) kind is = cc
   begun_by (IsOver other o a b e unkept none kept) kind is = cc
-  begun_by (IsThrough other states a c t b h e some kept) kind is = cc
+  begun_by (IsThrough other states a c t b h e some kept may) kind is = cc
 
   pub begun_of : (kind : SaveKind) → At → book_of x y w ≡ Start kind None ∷ [] → BegunNow
   begun_of kind at is = begun_by at kind (sym (book_is at) ∙ is)
@@ -123,7 +123,7 @@ module _ {D : Type 0} (moment : D → ℕ) (left_since : D → ℕ → Contents 
   kept_by (AreKept other those a b h none kept asked) kind states is = record { kind = other; states = those; between = a; begun = b; keeps = h; none = none; kept = kept; asked = asked }
   kept_by (WasTried other those a t b h some tried) kind states is = absurd (three_two _ _ _ _ _ is)
   kept_by (IsOver other o a b e unkept none kept) kind states is = absurd (ended_kept _ _ o states is)
-  kept_by (IsThrough other those a c t b h e some kept) kind states is = absurd (four_two _ _ _ _ _ _ is)
+  kept_by (IsThrough other those a c t b h e some kept may) kind states is = absurd (four_two _ _ _ _ _ _ is)
 
   pub kept_of : (kind : SaveKind) (states : List (List ℕ × PartState)) → At → book_of x y w ≡ Start kind None ∷ Keep states ∷ [] → KeptNow
   kept_of kind states at is = kept_by at kind states (sym (book_is at) ∙ is)
@@ -148,7 +148,7 @@ module _ {D : Type 0} (moment : D → ℕ) (left_since : D → ℕ → Contents 
   tried_by (WasTried other those a t b h some tried) kind asked states r is =
       record { kind = other; states = those; between = a; last = t; begun = b; keeps = h; some = some; result_is = same_result _ _ _ _ t.kind asked t.result r is; tried = tried }
   tried_by (IsOver other o a b e unkept none kept) kind asked states r is = absurd (two_three _ _ _ _ _ is)
-  tried_by (IsThrough other those a c t b h e some kept) kind asked states r is = absurd (four_three _ _ _ _ _ _ _ is)
+  tried_by (IsThrough other those a c t b h e some kept may) kind asked states r is = absurd (four_three _ _ _ _ _ _ _ is)
 
   pub tried_of : (kind asked : SaveKind) (states : List (List ℕ × PartState)) (r : Result (Unit {0}) WriteFault) → At → book_of x y w ≡ Start kind None ∷ Keep states ∷ Write asked r ∷ [] → TriedNow r
   tried_of kind asked states r at is = tried_by at kind asked states r (sym (book_is at) ∙ is)

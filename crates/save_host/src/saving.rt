@@ -3,7 +3,8 @@ ghost use Rattle.std.specs.Prelude.{◌≡◌, [], true, List, map, None, IfOk, 
 ghost use Rattle.save_round.specs.Told.{Told};
 ghost use Rattle.ws_core.specs.Histories.{has_entered};
 ghost use Rattle.save_history.specs.Rounds.{HadSaves, rounds_of};
-ghost use Rattle.save_history.specs.Kept.{IsKept};
+ghost use Rattle.save_history.specs.Causes.{MayBeAnswered};
+ghost use Rattle.save_history.specs.Kept.{IsKept, points_at};
 ghost use Rattle.save_history.specs.Stages.{HasSaved};
 ghost use Rattle.save_host.specs.Inside.Answers.{Answers, IsUnanswered};
 ghost use Rattle.save_host.specs.Inside.Hosts.{IsReady, book_of};
@@ -79,7 +80,9 @@ fn hosted<D: Disk, P: Participant>(
 }
 
 /// A pass makes a save of the kind, of the whole workspace or of what changed since the last one (`IWorkspace.save`). Answers
-/// as `save` of save_run does.
+/// as `save` of save_run does. SaveTooLarge comes only where each image of what is to be written passes 1,073,741,824 bytes
+/// with its header and its gate, and SaveNumbers only where the save number that was the greatest as the store was opened and
+/// one for each save that was begun since pass 2^63 - 1.
 ///
 /// At every moment each crash image of the areas holds a point of the history, and after it the point of the save that was
 /// acknowledged last or of one that was begun after it.
@@ -99,6 +102,8 @@ pub fn save<D: Disk, P: Participant>(
     ensures same { OnErr result (core.new ≡ core.old) }
     ensures entered { has_entered pass core.new.state ≡ true }
     ensures home { (rounds_of core.new.history).under ≡ None }
+    // it ended as too large, or for want of a number, only where that is so
+    ensures reason { IfOk result (λ saved. MayBeAnswered saved (points_at core.new keeper.new) keeper.new.began.areas.top) }
     // the store is as save_history says, since it was opened
     ensures began { keeper.new.began ≡ keeper.old.began }
     ensures kept { IsKept D.moment D.left_since D.may_leave D.faults core.new keeper.new }

@@ -55,6 +55,7 @@ impl<D: Disk> Saves<D> {
         ensures stays { OnErr result ((self.new.last ≡ self.old.last) × (self.new.areas.home ≡ self.old.areas.home)) }
         ensures sound { OnOk result (self.new.failed ≡ false) }
         ensures failed { OnErr result (self.new.failed ≡ true) }
+        ensures risen { (self.old.areas.top ≤ self.new.areas.top) × (self.new.areas.top ≤ self.old.areas.top + 1) }
         ensures beside { option_map (beside (other self.old.areas.home)) (D.seen self.new.areas.disk) ≡ option_map (beside (other self.old.areas.home)) (D.seen self.old.areas.disk) }
         ensures limits { MatchResult result (λ _. Fits last × HasNumber self.old.areas.top) (FailsFull last self.old.areas.top) }
         ensures took_none { result ≡ Err Memory → ⊥ }
@@ -79,6 +80,7 @@ impl<D: Disk> Saves<D> {
         ensures stays { OnErr result ((self.new.last ≡ self.old.last) × (self.new.areas.home ≡ self.old.areas.home)) }
         ensures sound { OnOk result (self.new.failed ≡ false) }
         ensures failed { OnErr result (self.new.failed ≡ true) }
+        ensures risen { (self.old.areas.top ≤ self.new.areas.top) × (self.new.areas.top ≤ self.old.areas.top + 1) }
         ensures beside { option_map (beside (other self.old.areas.home)) (D.seen self.new.areas.disk) ≡ option_map (beside (other self.old.areas.home)) (D.seen self.old.areas.disk) }
         ensures limits { MatchResult result (λ _. Fits now.now × HasNumber self.old.areas.top) (FailsFull now.now self.old.areas.top) }
         ensures unwritten { result ≡ Err Memory → self.new ≡ record self.old { failed = true } }
@@ -137,6 +139,7 @@ impl<D: Disk> Saves<D> {
         ensures stays { OnErr result ((self.new.last ≡ self.old.last) × (self.new.areas.home ≡ self.old.areas.home)) }
         ensures sound { OnOk result (self.new.failed ≡ false) }
         ensures failed { OnErr result (self.new.failed ≡ true) }
+        ensures risen { (self.old.areas.top ≤ self.new.areas.top) × (self.new.areas.top ≤ self.old.areas.top + 1) }
         ensures beside { option_map (beside self.old.areas.home) (D.seen self.new.areas.disk) ≡ option_map (beside self.old.areas.home) (D.seen self.old.areas.disk) }
         ensures disk { IfErr result (λ fault. fault ≡ Disk) }
         ensures cause { MatchResult result (λ _. D.faults self.new.areas.disk ≡ D.faults self.old.areas.disk) (FaultOf (D.faults self.old.areas.disk) (D.faults self.new.areas.disk)) }
@@ -161,6 +164,7 @@ impl<D: Disk> Saves<D> {
         ensures stays { OnErr result ((self.new.last ≡ self.old.last) × (self.new.areas.home ≡ self.old.areas.home)) }
         ensures sound { OnOk result (self.new.failed ≡ false) }
         ensures failed { OnErr result (self.new.failed ≡ true) }
+        ensures risen { (self.old.areas.top ≤ self.new.areas.top) × (self.new.areas.top ≤ self.old.areas.top + 1) }
         ensures unwritten { result ≡ Err Memory → self.new ≡ record self.old { failed = true } }
         ensures cause { MatchResult result (λ _. D.faults self.new.areas.disk ≡ D.faults self.old.areas.disk) (FaultOf (D.faults self.old.areas.disk) (D.faults self.new.areas.disk)) }
     {

@@ -1,5 +1,5 @@
 // The store of what a workspace keeps.
-ghost use Rattle.std.specs.Prelude.{◌≡◌, ◌++◌, ℕ, List, [], ◌∷◌, Ok, Err, Some, OnOk, OnErr, IfOk, IfErr, IfSome, MatchResult, option_map, is_some, true, false, Option};
+ghost use Rattle.std.specs.Prelude.{◌≡◌, ◌≤◌, ◌+◌, ◌++◌, ℕ, List, [], ◌∷◌, Ok, Err, Some, OnOk, OnErr, IfOk, IfErr, IfSome, MatchResult, option_map, is_some, true, false, Option};
 ghost use Rattle.ws_outside.specs.Disk.{beside, Each, LeavesOnly};
 ghost use Rattle.ws_durable.specs.Saved.{Saved, saved};
 ghost use Rattle.save_format.specs.Valid.{Valid, IsImage};
@@ -151,7 +151,8 @@ impl<D: Disk> Store<D> {
     /// of faults rose in this call. Memory may come before the first call on the disk, in place of each of these.
     ///
     /// At every moment since the call began each crash image holds a state that it could hold before, or this one. After Ok
-    /// it holds this one. After a fault the store can be used, and its next save is a full one.
+    /// it holds this one. After a fault the store can be used, and its next save is a full one. Whatever it answers, the
+    /// greatest number that was read or written is the same, or one greater.
     pub fn full(&mut self, alloc: Global, now: &Durable) -> Result<(), SaveFault>
         requires { IsNarrow now.now → Valid (saved now.now) }
         ensures any_moment { (begun : List Saved) → IsStored D.may_leave begun self.old
@@ -164,6 +165,7 @@ impl<D: Disk> Store<D> {
         ensures stays { OnErr result ((self.new.last ≡ self.old.last) × (self.new.areas.home ≡ self.old.areas.home)) }
         ensures sound { OnOk result (self.new.failed ≡ false) }
         ensures failed { OnErr result (self.new.failed ≡ true) }
+        ensures risen { (self.old.areas.top ≤ self.new.areas.top) × (self.new.areas.top ≤ self.old.areas.top + 1) }
         ensures beside { option_map (beside (other self.old.areas.home)) (D.seen self.new.areas.disk) ≡ option_map (beside (other self.old.areas.home)) (D.seen self.old.areas.disk) }
         ensures limits { MatchResult result (λ _. Fits now.now × HasNumber self.old.areas.top) (FailsFull now.now self.old.areas.top) }
         ensures unwritten { result ≡ Err Memory → self.new ≡ record self.old { failed = true } }
@@ -178,8 +180,9 @@ impl<D: Disk> Store<D> {
     /// exactly where the disk's count of faults rose in this call, and Memory before the first call on the disk.
     ///
     /// At every moment since the call began each crash image holds a state that it could hold before, or this one. After Ok
-    /// it holds this one. After a fault the store can be used, and its next save is a full one. A record costs its own bytes,
-    /// the comparison of the two states, and two syncs.
+    /// it holds this one. After a fault the store can be used, and its next save is a full one. Whatever it answers, the
+    /// greatest number that was read or written is the same, or one greater. A record costs its own bytes, the comparison of
+    /// the two states, and two syncs.
     pub fn snapshot(&mut self, alloc: Global, now: &Durable) -> Result<(), SaveFault>
         requires { IsNarrow now.now → Valid (saved now.now) }
         ensures any_moment { (begun : List Saved) → IsStored D.may_leave begun self.old
@@ -192,6 +195,7 @@ impl<D: Disk> Store<D> {
         ensures stays { OnErr result ((self.new.last ≡ self.old.last) × (self.new.areas.home ≡ self.old.areas.home)) }
         ensures sound { OnOk result (self.new.failed ≡ false) }
         ensures failed { OnErr result (self.new.failed ≡ true) }
+        ensures risen { (self.old.areas.top ≤ self.new.areas.top) × (self.new.areas.top ≤ self.old.areas.top + 1) }
         ensures unwritten { result ≡ Err Memory → self.new ≡ record self.old { failed = true } }
         ensures cause { MatchResult result (λ _. D.faults self.new.areas.disk ≡ D.faults self.old.areas.disk) (FaultOf (D.faults self.old.areas.disk) (D.faults self.new.areas.disk)) }
     {

@@ -17,7 +17,7 @@ use Rattle.core_event.specs.declared.service.ServiceEvent.TheVariants.{Checkout}
 use Rattle.core_event.specs.Events.{service_of}
 use Rattle.ws_core.specs.Histories.{after, only_tried, replay, written}
 use Rattle.ws_core.specs.Durables.{durable_of}
-use Rattle.save_history.specs.Kept.{Keeper, IsKept, IsSafe, HasRisenBy, disk_of, first_disk}
+use Rattle.save_history.specs.Kept.{Keeper, HasNumberLeft, IsKept, IsSafe, HasRisenBy, disk_of, first_disk}
 use Rattle.save_history.specs.Points.{Points, points_from, with_step}
 use Rattle.save_history.specs.Rounds.{no_rounds, rounds_after, rounds_of}
 use Rattle.save_history.specs.Steps.{SaveStep, Begins, failures, step_asked, step_in, step_of, steps_of}
@@ -78,6 +78,7 @@ module _ {D : Type 0} (moment : D → ℕ) (left_since : D → ℕ → Contents 
       → IsKept moment left_since may_leave faults (session s g) keeper → IsKept moment left_since may_leave faults (session s h) keeper
   store_same s g h keeper points made kept = record {
     safe = subst (λ p. IsSafe moment left_since may_leave faults p keeper) (sym (points _)) kept.safe;
+    number_left = subst (λ p. HasNumberLeft p keeper) (sym (points _)) kept.number_left;
     counted = subst (λ l. HasRisenBy (failures l) (faults (first_disk keeper)) (faults (disk_of keeper))) (sym made) kept.counted;
     untouched = λ none. kept.untouched (sym made ∙ none);
   }

@@ -1,6 +1,6 @@
 -- A pass that leaves the services alone may give them back.
-use Rattle.std.proofs.Common.{◌≡◌, ◌⊎◌, inl, inr, ℕ, ◌+◌, true, List, [], ◌∷◌, ◌++◌, refl, sym, ap, ◌∙◌, subst, arith}
-use Rattle.std.specs.Prelude.{Option, Some, None, Result, Ok, Err}
+use Rattle.std.proofs.Common.{◌≡◌, ◌⊎◌, inl, inr, ℕ, List, [], ◌∷◌, ◌++◌, refl, sym, ap, ◌∙◌, subst}
+use Rattle.std.specs.Prelude.{Some, None}
 use Rattle.std.specs.Option.{option_map, option_to_list}
 use Rattle.ws_outside.specs.declared.contents.Contents.{Contents}
 use Rattle.builder_api.specs.Told.{Told as BuilderTold}
@@ -8,21 +8,21 @@ use Rattle.save_kind.specs.declared.answer.SaveAnswer.{SaveAnswer}
 use Rattle.save_kind.specs.declared.answer.SaveAnswer.TheVariants as answer
 use Rattle.save_kind.specs.declared.kind.SaveKind.{SaveKind}
 use Rattle.save_round.specs.Told.{Told as PartTold}
-use Rattle.save_run.specs.declared.host.WriteFault.{WriteFault}
-use Rattle.save_run.specs.declared.host.WriteFault.TheVariants as fault
-use Rattle.save_run.specs.Books.{outcome_of}
 use Rattle.core_event.specs.declared.entry.Entry.{Entry}
 use Rattle.core_event.specs.declared.service.Outcomes.TheVariants as outcomes
 use Rattle.core_event.specs.declared.service.ServiceEvent.TheVariants.{CheckIn}
 use Rattle.core_event.specs.declared.reply.Answer.TheVariants.{Done}
 use Rattle.core_event.specs.declared.reply.Reply.{Reply}
 use Rattle.ws_core.proofs.Grown.{replay_append}
-use Rattle.ws_core.specs.Sessions.{Session}
-use Rattle.save_history.specs.Kept.{HasRisenBy, IsKept, IsTried, Keeper, disk_of, first_disk}
+use Rattle.ws_core.specs.Durables.{durable_of}
+use Rattle.ws_core.specs.Histories.{replay}
+use Rattle.ws_durable.specs.Saved.{Saved}
+use Rattle.save_history.specs.Kept.{Keeper, points_at}
+use Rattle.save_history.specs.Points.{Points, with_ended, with_step}
 use Rattle.save_history.specs.Rounds.{Begun, HadSave, Rounds, Save, ended_as, rounds_after, rounds_of}
-use Rattle.save_history.specs.Steps.{Ends, failure, failures, step_of, steps_of}
+use Rattle.save_history.specs.Steps.{Ends, failure, step_of}
 use Rattle.save_history.proofs.Rounds.{rounds_on}
-use Rattle.save_history.proofs.Safe.{kept_tried}
+use Rattle.save_history.proofs.Safe.{kept_idle}
 use Rattle.pass_history.specs.Served.{Served, services_of, was_done}
 use Rattle.ws_locked.specs.Fits.{EndsIdle, Fits, HadEach, Told, WasIdle, session}
 use Rattle.ws_locked.specs.Moved.{ComesHome, checkin}
@@ -34,23 +34,14 @@ pub had_each_more : (saves : List Save) (save : Save) (a b c : List PartTold) �
 had_each_more [] save a b c had one = (c, subst (λ x. HadSave save x c ⊎ (WasIdle save × (c ≡ x))) had one, refl)
 had_each_more (s ∷ saves) save a b c had one = (had.0, had.1, had_each_more saves save had.0 b c had.2 one)
 
-module _ {D : Type 0} (moment : D → ℕ) (left_since : D → ℕ → Contents → Type 0) (may_leave : D → Contents → Type 0) (faults : D → ℕ) where
-  -- where nothing was written
-  untried : (f : WriteFault) → failure (outcome_of (Err f)) ≡ 0 → (x : Session) (keeper : Keeper D) → IsKept moment left_since may_leave faults x keeper → IsTried moment left_since may_leave faults (Err f) x keeper
-  untried f none x keeper kept = record {
-    stands = kept.safe;
-    counted = subst (λ n. HasRisenBy (failures (steps_of x.history) + n) (faults (first_disk keeper)) (faults (disk_of keeper))) (sym none)
-        (subst (λ n. HasRisenBy n (faults (first_disk keeper)) (faults (disk_of keeper))) (omega arith) kept.counted);
-  }
-
--- the fault behind such an end
-fault_of : (a : SaveAnswer) → EndsIdle a → (f : WriteFault) × (a ≡ outcome_of (Err f)) × (failure (outcome_of (Err f)) ≡ 0)
-fault_of answer.Saved idle = absurd idle
-fault_of answer.SaveFailed idle = absurd idle
-fault_of (answer.ParticipantFailed name) idle = absurd idle
-fault_of answer.SaveTooLarge idle = (fault.TooLarge, refl, refl)
-fault_of answer.SaveNumbers idle = (fault.NumbersUsed, refl, refl)
-fault_of answer.NoMemory idle = (fault.Memory, refl, refl)
+-- such an end acknowledges nothing
+ends_idle : (d : Saved) (a : SaveAnswer) (p : Points) → EndsIdle a → (with_step d (Some (Ends a)) p ≡ with_ended p) × (failure a ≡ 0)
+ends_idle d answer.Saved p idle = absurd idle
+ends_idle d answer.SaveFailed p idle = absurd idle
+ends_idle d (answer.ParticipantFailed name) p idle = absurd idle
+ends_idle d answer.SaveTooLarge p idle = (refl, refl)
+ends_idle d answer.SaveNumbers p idle = (refl, refl)
+ends_idle d answer.NoMemory p idle = (refl, refl)
 
 module _ {D : Type 0} (moment : D → ℕ) (left_since : D → ℕ → Contents → Type 0) (may_leave : D → Contents → Type 0) (faults : D → ℕ)
     (vow : Opened → List BuilderTold → List Served → Type 0) (vows : Vows vow) (o : Opened) (began : Keeper D) where
@@ -59,7 +50,7 @@ module _ {D : Type 0} (moment : D → ℕ) (left_since : D → ℕ → Contents 
       → ComesHome (λ l. Fits moment left_since may_leave faults vow o began l t) n (outcomes.Save a) h
   idle_home n a kind h t idle under fit r done =
       let x : Entry = record { pass = n; event = checkin (outcomes.Save a); reply = r } in
-      let f = fault_of a idle in
+      let quiet = ends_idle (durable_of (replay o.state (h ++ x ∷ []))) a (points_at (session o.state h) t.keeper) idle in
       let made : step_of x.event x.reply.answer ≡ Some (Ends a) = ap (λ z. step_of (checkin (outcomes.Save a)) z) done in
       let rounds : rounds_of (h ++ x ∷ []) ≡ rounds_after (rounds_of h) (Ends a ∷ []) = rounds_on h (h ++ x ∷ []) (x ∷ []) (Ends a ∷ []) refl (steps_one x (Some (Ends a)) made) in
       let begun : Begun = record { kind = kind; kept = None } in
@@ -67,8 +58,7 @@ module _ {D : Type 0} (moment : D → ℕ) (left_since : D → ℕ → Contents 
       ap (λ (z : Rounds). z.ended) rounds ∙ ap (λ u. (rounds_of h).ended ++ option_to_list (option_map (ended_as a) u)) under in (
         record {
           same_store = fit.same_store;
-          kept = kept_tried moment left_since may_leave faults t.keeper (session o.state h) (session o.state (h ++ x ∷ [])) refl refl x refl (replay_append o.state h (x ∷ [])) (Err f.0)
-              (made ∙ ap (λ z. Some (Ends z)) f.1) (untried moment left_since may_leave faults f.0 f.2 (session o.state h) t.keeper fit.kept);
+          kept = kept_idle moment left_since may_leave faults t.keeper (session o.state h) (session o.state (h ++ x ∷ [])) refl refl x refl (replay_append o.state h (x ∷ [])) a quiet.0 quiet.1 made fit.kept;
           had = subst (λ l. HadEach l o.participants t.participants) (sym ended)
               (had_each_more (rounds_of h).ended (record { begun = begun; answer = a }) o.participants t.participants t.participants fit.had (inr ((refl, idle), refl)));
           vowed = subst (vow o t.builders) (sym (served_one o.state h x (CheckIn (outcomes.Save a)) refl (ap was_done done)))

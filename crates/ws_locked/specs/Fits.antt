@@ -43,8 +43,8 @@ HadEach [] old new = new ≡ old
 HadEach (save ∷ saves) old new = (then : List PartTold) × (HadSave save old then ⊎ (WasIdle save × (then ≡ old))) × HadEach saves then new
 
 -- The store is kept for the history: each crash image since it was opened holds a point of it, and now that of the save that
--- was acknowledged last or of one begun after it. The participants had the calls of the saves that ended, and no others. The
--- builders are as was vowed.
+-- was acknowledged last or of one begun after it, and its greatest save number rose by no more than one for each save that was
+-- begun. The participants had the calls of the saves that ended, and no others. The builders are as was vowed.
 pub record Fits {D : Type 0} (moment : D → ℕ) (left_since : D → ℕ → Contents → Type 0) (may_leave : D → Contents → Type 0) (faults : D → ℕ)
     (vow : Opened → List BuilderTold → List Served → Type 0) (o : Opened) (began : Keeper D) (h : List Entry) (s : Told D) : Type 0 where
   pub same_store : s.keeper.began ≡ began.began

@@ -2,6 +2,7 @@ pub mod Coming
 pub mod Courses
 pub mod Stages
 pub mod Ending
+pub mod Reasons
 pub mod Beginning
 pub mod Whole
 pub mod Holding

@@ -6,10 +6,13 @@ use Rattle.save_kind.specs.declared.kind.SaveKind.{SaveKind}
 use Rattle.save_run.specs.declared.command.Saved.TheVariants.{Ended}
 use Rattle.save_run.specs.Books.{EndsUnkept}
 use Rattle.core_event.specs.declared.entry.Entry.{Entry}
+use Rattle.save_history.specs.Causes.{MayEndSo}
+use Rattle.save_history.specs.Kept.{points_at}
 use Rattle.save_history.specs.Saves.{IsDone, IsSaveOf, beginning, ending}
 use Rattle.ws_turn.specs.Lists.{StartsWith}
 use Rattle.pass_turns.specs.Turns.{Knows, TookTurn}
 use Rattle.pass_turns.proofs.Waited.{starts_on}
+use Rattle.ws_locked.specs.Fits.{session}
 use Rattle.ws_locked.specs.Halls.{state_in}
 use Rattle.ws_locked.specs.declared.services.Opening.{Opening}
 use Rattle.ws_shared.specs.Calls.{legal_from, pass_of}
@@ -31,8 +34,8 @@ module _ {D B P : Type 0} (kind : SaveKind) (o : Opening D B P) (a : SaveAnswer)
   -- the save came to its end, which the pass then told in a turn
   pub has_ended : {A : Type 0} (did : Opening D B P → ℕ → List Entry → List Entry → A → Type 0) (answer : A) (k j i : Knows Entry) (kept : Option States) (entries : List Entry) (last : Entry) → StartsWith j.seen k.seen → j.number ≡ k.number → j.lost ≡ k.lost
       → j.mine ≡ k.mine ++ entries → AreAdded k.number kept entries → (kept ≡ None → EndsUnkept a) → (t : TookTurn pass_of legal_from did o answer j i) → t.added ≡ last ∷ [] → IsDone j.number (ending a) last
-      → HasEndedSo kind o a k i
-  has_ended did answer k j i kept entries last begins number lost mine added unkept t one is =
+      → MayEndSo a (points_at (session (state_in o) i.seen) o.keeper.value) o.keeper.value.began.areas.top → HasEndedSo kind o a k i
+  has_ended did answer k j i kept entries last begins number lost mine added unkept t one is reason =
       let done = subst (λ n. IsDone n (ending a) last) number is in
       let seen = t.seen ∙ ap (λ l. t.found ++ l) one in
       record {
@@ -41,6 +44,7 @@ module _ {D B P : Type 0} (kind : SaveKind) (o : Opening D B P) (a : SaveAnswer)
         lost = t.lost ∙ lost;
         made = (kept, entries, last, t.mine ∙ (ap (λ l. j.mine ++ l) one ∙ (ap (λ l. l ++ last ∷ []) mine ∙ append_assoc k.mine entries (last ∷ []))), added, done, unkept);
         ends = (t.found, last, seen, done);
+        reason = reason;
         legal_seen = t.legal_seen;
         faithful = t.faithful;
       }
@@ -64,6 +68,7 @@ module _ {D B P : Type 0} (kind : SaveKind) (o : Opening D B P) (a : SaveAnswer)
           whole_save k.number kind a kept b.entry last entries b.is (subst (λ z. AreAdded z kept entries) n m.4) (subst (λ z. IsDone z (ending a) last) n m.5) m.6,
         );
         ends = (e.ends.0, e.ends.1, e.ends.2, subst (λ z. IsDone z (ending a) e.ends.1) n e.ends.3);
+        reason = e.reason;
         nothing = tt;
         legal_seen = e.legal_seen;
         faithful = e.faithful;

@@ -230,8 +230,10 @@ impl<D: Disk, B: Builder, P: Participant, V: Vow> Workspace<D, B, P, V> {
     /// The pass makes a save of the kind, of the whole workspace or of what changed since the last one (`IWorkspace.save`),
     /// once no other pass has the services. Other passes go on meanwhile: what is written is what lasts of the workspace at
     /// the entry by which the participants' states are kept, and it is written while no pass waits for it. Answers how the save
-    /// ended, as `save` of save_run does; `NoMemory` where memory wants before it began. A pass that has the services itself
-    /// waits for ever.
+    /// ended, as `save` of save_run does; `NoMemory` where memory wants before it began. SaveTooLarge comes only where each
+    /// image of what is to be written passes 1,073,741,824 bytes with its header and its gate, and SaveNumbers only where the
+    /// save number that was the greatest as the workspace was opened and one for each save since then that kept states pass
+    /// 2^63 - 1. A pass that has the services itself waits for ever.
     pub fn save<R: Wait>(
         &self,
         rt: &R,

@@ -13,6 +13,7 @@ use Rattle.ws_core.specs.Sessions.{Session}
 use Rattle.ws_core.specs.Durables.{durable_of}
 use Rattle.save_history.specs.Steps.{SaveStep, Begins, Keeps, Ends, step_in}
 use Rattle.save_history.specs.Points.{IsAsked}
+use Rattle.save_history.specs.Causes.{MayEndSo}
 use Rattle.save_history.specs.Kept.{Keeper, IsKept, IsTried, points_at}
 use Rattle.save_history.specs.Stages.{HasBegun, HasEnded, HasKept, WasRefused, number_of}
 use Rattle.save_host.specs.declared.host.Try.{Try}
@@ -60,7 +61,7 @@ pub data IsAt {D : Type 0} (moment : D → ℕ) (left_since : D → ℕ → Cont
       → IsKept moment left_since may_leave faults y keeper → IsAt moment left_since may_leave faults k x y keeper written
   -- it ended as the write said
   IsThrough : (kind : SaveKind) (states : List (List ℕ × PartState)) (a b : Session) (t : Try) → HasBegun k kind x a → HasKept k states a b → HasEnded k (outcome_of t.result) b y → written ≡ Some t
-      → IsKept moment left_since may_leave faults y keeper → IsAt moment left_since may_leave faults k x y keeper written
+      → IsKept moment left_since may_leave faults y keeper → MayEndSo (outcome_of t.result) (points_at y keeper) keeper.began.areas.top → IsAt moment left_since may_leave faults k x y keeper written
 
 -- the pass has entered, and its save has come so far
 pub record IsReady {D : Type 0} (moment : D → ℕ) (left_since : D → ℕ → Contents → Type 0) (may_leave : D → Contents → Type 0) (faults : D → ℕ)

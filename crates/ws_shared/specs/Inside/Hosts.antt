@@ -18,6 +18,7 @@ use Rattle.ws_core.specs.States.{Moment}
 use Rattle.ws_core.specs.Histories.{Legal, replay}
 use Rattle.ws_core.specs.Sessions.{Session}
 use Rattle.save_history.specs.Points.{IsAsked}
+use Rattle.save_history.specs.Causes.{MayEndSo}
 use Rattle.save_history.specs.Kept.{Keeper, IsKept, IsTried, points_at}
 use Rattle.save_history.specs.Rounds.{Begun, kept_in, rounds_of}
 use Rattle.save_history.specs.Saves.{IsDone, ending}
@@ -117,6 +118,7 @@ pub record HasEndedSo {D B P : Type 0} (kind : SaveKind) (o : Opening D B P) (an
   pub made : (kept : Option States) × (entries : List Entry) × (last : Entry) × (j.mine ≡ k.mine ++ (entries ++ last ∷ [])) × AreAdded k.number kept entries × IsDone k.number (ending answer) last
       × (kept ≡ None → EndsUnkept answer)
   pub ends : (before : List Entry) × (x : Entry) × (j.seen ≡ before ++ x ∷ []) × IsDone k.number (ending answer) x
+  pub reason : MayEndSo answer (points_at (session (state_in o) j.seen) o.keeper.value) o.keeper.value.began.areas.top
   pub legal_seen : Legal (state_in o) j.seen
   pub faithful : IsFaithful pass_of j
 

@@ -1,4 +1,4 @@
-use Rattle.std.proofs.Common.{◌≡◌, List, refl, sym, ap, ◌∙◌, subst, map, true≢false}
+use Rattle.std.proofs.Common.{◌≡◌, ◌++◌, List, refl, sym, ap, ◌∙◌, subst, map, true≢false}
 use Rattle.std.specs.Prelude.{Ok, Err, IsOk}
 use Rattle.core_event.specs.declared.entry.Entry.{Entry}
 use Rattle.core_event.specs.declared.service.Outcomes.TheVariants as outcomes
@@ -12,6 +12,7 @@ use Rattle.ws_locked.specs.Moved.{ComesHome, WasBrought, checkin}
 use Rattle.ws_shared.specs.Calls.{opening_of}
 use Rattle.ws_shared.proofs.Stages.{at_begun}
 use Rattle.ws_shared.proofs.Ending.{checks_in, given_entry, through_home, unkept_where}
+use Rattle.ws_shared.proofs.Reasons.{reason}
 use Rattle.ws_shared.proofs.Whole.{has_ended}
 use Rattle.ws_shared.proofs.workspace.Workspace.save_with.Goals as goal
 
@@ -47,11 +48,15 @@ unreachable-requires g c =
 
 pub returns-clause-ended : goal.returns-clause-ended
 returns-clause-ended g c =
+    let d = g.D.Disk in
     let o = opening_of c.args.self.now in
     let e = c.hosted-answer.ensures in
     let w = e.through in
     let b = c.in-Ok.ensures.brought in
     let j = knows c.hosted-answer.new.pass in
     let x = given_entry (state_in o) j.number c.hosted-answer.result.1 _ b.found b.added (Ok c.in-Ok.field-0) refl b.did_it in
+    let done = subst (λ a. IsDone j.number (ending a) x.0) e.same x.2 in
     has_ended c.args.kind o c.hosted-answer.result.0 _ (Ok c.in-Ok.field-0) (knows c.args.pass.now) j (knows c.check_in.new.pass) w.kept w.at.added.0 x.0 w.at.begins w.at.number w.at.lost w.at.added.1 w.at.added.2
-    (unkept_where w.kept w.written c.hosted-answer.result.0 w.ends) b x.1 (subst (λ a. IsDone j.number (ending a) x.0) e.same x.2)
+    (unkept_where w.kept w.written c.hosted-answer.result.0 w.ends) b x.1 done
+    (reason d.moment d.left_since d.may_leave d.faults (state_in o) (knows c.args.pass.now) j c.hosted-answer.new.keeper o.keeper.value (e.began ∙ c.requires.fits.same_store) c.args.kind c.hosted-answer.result.0
+    (map (λ p. g.P.Participant.tells p) c.args.services.participants) (map (λ p. g.P.Participant.tells p) c.hosted-answer.new.parts) w b.found (knows c.check_in.new.pass).seen b.begins b.own_found b.legal_found x.0 done (b.seen ∙ ap (λ l. b.found ++ l) x.1))
