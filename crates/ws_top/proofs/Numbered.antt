@@ -1,5 +1,5 @@
 -- The number that a word is in decimal.
-use Rattle.std.proofs.Common.{◌≡◌, ℕ, ◌^◌, ◌<◌, Bool, true, ◌&&◌, nat_lt, List, Some, None, Result, Ok, decimal, sym, ◌∙◌, ap, arith}
+use Rattle.std.proofs.Common.{◌≡◌, ℕ, ◌<◌, Bool, ◌&&◌, nat_lt, List, Some, None, Result, Ok, decimal, sym, ◌∙◌, ap, arith}
 use Rattle.std.specs.Bool.{Decides}
 use Rattle.std.specs.Str.{bytes_eq}
 use Rattle.std.specs.Str.Parse.{digits_value, ParsesUnsigned}
@@ -26,9 +26,9 @@ number_told word n small is =
 -- a word that is the decimal of none has none
 pub number_none : (word : List ℕ) → ((n : ℕ) → n < 1000000000 → word ≡ decimal n → ⊥) → number_of word ≡ None
 unfolding number_of
-number_none word no =
+number_none word never =
     let v = digits_value 10 word in
-    cond-false (is_decimal word v) (Some v) None (false_from_ne_true (is_decimal word v) (λ e. let is = (decimal_decides word v).0 e in no v is.1 is.0))
+    cond-false (is_decimal word v) (Some v) None (false_from_ne_true (is_decimal word v) (λ e. let is = (decimal_decides word v).0 e in never v is.1 is.0))
 
 -- what `parse` reads of a number's decimal
 pub number_read : {E : Type 0} (word : List ℕ) (result : Result ℕ E) (n : ℕ) → ParsesUnsigned 32 10 word result → n < 1000000000 → word ≡ decimal n → result ≡ Ok n
