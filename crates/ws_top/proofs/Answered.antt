@@ -17,18 +17,18 @@ use Rattle.ws_core.specs.States.{Moment}
 use Rattle.ws_top.specs.declared.reading.Unread.{Unread}
 use Rattle.ws_top.specs.declared.reading.Unread.TheVariants.{Fault, TooLong, Memory}
 use Rattle.ws_top.specs.declared.words.Form.{Form}
-use Rattle.ws_top.specs.declared.words.Form.TheVariants.{Run, Check, Help, Version}
+use Rattle.ws_top.specs.declared.words.Form.TheVariants.{Run, Check, Generate, Help, Version}
 use Rattle.ws_opening.specs.Opened.{opened_state}
 use Rattle.ws_top.specs.Areas.{IsDamage, AreUndamaged, FindsDamage, TellsDiskFault}
 use Rattle.ws_top.specs.Forms.{Touches, help_text, version_text}
 use Rattle.ws_top.specs.Inside.Parts.{unread_status, IsUnreadCause, IsUnreadLength, IsUnopenedFor, Responds, EndsRun}
 use Rattle.ws_top.specs.Limits.{longest, Reads, ReadsAll, ReadsShort}
-use Rattle.ws_top.specs.Outcomes.{IsStatus, WasRead, WasRun, WasIdle, WasUnopened, TellsWriteFault, TellsState, TellsUnopened, Shuffle, CutShuffle, StoppedShuffle, Spelled, Ran, WasStopped, Writes, ReadsNoMore, RunsScript, Tells, TellsFound, Checks, DoesNothing, EndsProgram}
-use Rattle.ws_top.specs.Texts.{status_line, cut_text, check_text}
+use Rattle.ws_top.specs.Outcomes.{IsStatus, WasRead, WasRun, WasIdle, WasUnopened, TellsWriteFault, TellsState, TellsUnopened, Shuffle, CutShuffle, StoppedShuffle, Spelled, Ran, WasStopped, Writes, ReadsNoMore, RunsScript, Tells, TellsOrWants, TellsScript, TellsFound, Checks, DoesNothing, EndsProgram}
+use Rattle.ws_top.specs.Texts.{status_line, cut_text, check_text, generated_text}
 use Rattle.ws_top.proofs.Fronts.{front_of_writes}
-use Rattle.ws_top.proofs.Opened.{disk_calm, unopened_never, told_status, told_unopened}
+use Rattle.ws_top.proofs.Opened.{disk_calm, unopened_never, told_status, said_status, said_unopened}
 use Rattle.ws_top.proofs.Performed.{right_of, thread_none, calm_none}
-use Rattle.ws_top.proofs.Statuses.{apart, not_2, not_3, not_6, not_9, not_unread, not_idle, is_performed, was_run, well_of, not_refused, refused_unread, refused_idle, refused_0, refused_4, refused_5, refused_run, refused_8, is_refused, some_not_none, unrun, told_other, is_told}
+use Rattle.ws_top.proofs.Statuses.{apart, not_2, not_3, not_6, not_9, not_unread, not_idle, is_performed, was_run, well_of, not_refused, refused_unread, refused_idle, refused_0, refused_4, refused_5, refused_run, refused_8, is_refused, some_not_none, unrun, told_other, is_told, said_other, is_said}
 use Rattle.ws_top.proofs.Taken.{takes_none}
 
 -- what was taken to the end is all that there was
@@ -258,6 +258,18 @@ run_not_help e = let no : Run ≡ Help = e in cc
 run_not_version : Run ≡ Version → ⊥
 run_not_version e = let no : Run ≡ Version = e in cc
 
+run_not_generate : (number : ℕ) → Run ≡ Generate number → ⊥
+run_not_generate number e = let no : Run ≡ Generate number = e in cc
+
+check_not_generate : (number : ℕ) → Check ≡ Generate number → ⊥
+check_not_generate number e = let no : Check ≡ Generate number = e in cc
+
+help_not_generate : (number : ℕ) → Help ≡ Generate number → ⊥
+help_not_generate number e = let no : Help ≡ Generate number = e in cc
+
+version_not_generate : (number : ℕ) → Version ≡ Generate number → ⊥
+version_not_generate number e = let no : Version ≡ Generate number = e in cc
+
 check_not_help : Check ≡ Help → ⊥
 check_not_help e = let no : Check ≡ Help = e in cc
 
@@ -267,7 +279,11 @@ check_not_version e = let no : Check ≡ Version = e in cc
 help_not_version : Help ≡ Version → ⊥
 help_not_version e = let no : Help ≡ Version = e in cc
 
--- words that ask for a text of the program's own don't touch the areas
+-- words give one number
+one_number : (form : Option Form) (m n : ℕ) → form ≡ Some (Generate m) → form ≡ Some (Generate n) → m ≡ n
+one_number form m n e k = let same : Some (Generate m) ≡ Some (Generate n) = sym e ∙ k in cc
+
+-- words that ask for a text alone don't touch the areas
 no_touch : {A : Type 0} (form : Option Form) (kind : Form) → form ≡ Some kind → (Run ≡ kind → ⊥) → (Check ≡ kind → ⊥) → Touches form → A
 no_touch form kind e run check (inl k) = two_forms form Run kind k e run
 no_touch form kind e run check (inr k) = two_forms form Check kind k e check
@@ -302,6 +318,7 @@ program_run ms kept told parts form l m x y i j seen p q a b f g n h is r fault 
   line = r.line;
   unopened = unopened;
   checks = λ k. two_forms form Run Check is k run_not_check;
+  generates = λ number k. two_forms form Run (Generate number) is k (run_not_generate number);
   help = λ k. two_forms form Run Help is k run_not_help;
   version = λ k. two_forms form Run Version is k run_not_version;
   unread = λ no. absurd (no is);
@@ -346,6 +363,7 @@ program_usage ms kept told parts form l x i seen p q a b f g n h is same none e 
   line = λ _. subst (λ (k : ℕ). Writes a b f g (status_line k)) (sym e) w;
   unopened = unopened_never kept seen a b f g n 2 h e (λ k. omega (arith, k)) (λ k. omega (arith, k)) (λ k. omega (arith, k));
   checks = λ k. not_none form Check k is;
+  generates = λ number k. not_none form (Generate number) k is;
   help = λ k. not_none form Help k is;
   version = λ k. not_none form Version k is;
   unread = λ _. does_nothing l x i h z;
@@ -362,27 +380,40 @@ told_write text kept a b f g n W w (inr (e, _, rose)) = record {
   calm_or_later_at_8 = λ _. inr w;
 }
 
--- they ask for a text of the program's own
+wanted_write : (kept : Option Durable) (f g n : ℕ) (W : Type 0) → W → n ≡ 8 → TellsWriteFault kept f g n W
+wanted_write kept f g n W w e = record {
+  rose_at_4 = λ k. apart n 8 4 e k (λ k. omega (arith, k));
+  calm_at_0 = λ k. apart n 8 0 e k (λ k. omega (arith, k));
+  calm_at_5 = λ k some. apart n 8 5 e k (λ k. omega (arith, k));
+  calm_or_later_at_8 = λ _. inr w;
+}
+
+said_write : (text : List ℕ) (kept : Option Durable) (a b : Option (List ℕ)) (f g n : ℕ) (W : Type 0) → W → TellsOrWants text a b f g n → TellsWriteFault kept f g n W
+said_write text kept a b f g n W w (inl t) = told_write text kept a b f g n W w t
+said_write text kept a b f g n W w (inr (e, _)) = wanted_write kept f g n W w e
+
+-- they ask for a text alone
 program_text : (ms : Meanings) (kept : Option Durable) (told : List Told) (parts : List PartTold) (form : Option Form) (kind : Form) (text : List ℕ) (l : Option (List ℕ)) (x : Option ℕ) (i : ℕ) (seen : Option Contents) (p q : ℕ) (a b : Option (List ℕ)) (f g n : ℕ) (h : List Entry)
-    → form ≡ Some kind → (Run ≡ kind → ⊥) → (Check ≡ kind → ⊥) → (form ≡ Some Help → Tells help_text a b f g n) → (form ≡ Some Version → Tells version_text a b f g n)
-    → q ≡ p → kept ≡ None → Tells text a b f g n → h ≡ [] → EndsProgram ms kept told parts form l l x x i i seen p q a b f g n h
-program_text ms kept told parts form kind text l x i seen p q a b f g n h is run check help version same none t z = let c = told_status text a b f g n t in record {
-  ends = is_told n c;
-  usage = (λ e. absurd (told_other n 2 c (λ k. omega (arith, k)) (λ k. omega (arith, k)) e), λ k. not_none form kind is k);
-  read_fault = record { rose_at_3 = λ e. absurd (told_other n 3 c (λ k. omega (arith, k)) (λ k. omega (arith, k)) e); calm_else = λ _. refl };
-  disk_fault = disk_calm p q n n refl (told_other n 5 c (λ k. omega (arith, k)) (λ k. omega (arith, k))) same;
-  write_fault = told_write text kept a b f g n (WasStopped ms (opened_state kept told) l l h) (inl z) t;
+    → form ≡ Some kind → (Run ≡ kind → ⊥) → (Check ≡ kind → ⊥) → ((number : ℕ) → form ≡ Some (Generate number) → TellsScript number a b f g n) → (form ≡ Some Help → Tells help_text a b f g n) → (form ≡ Some Version → Tells version_text a b f g n)
+    → q ≡ p → kept ≡ None → TellsOrWants text a b f g n → h ≡ [] → EndsProgram ms kept told parts form l l x x i i seen p q a b f g n h
+program_text ms kept told parts form kind text l x i seen p q a b f g n h is run check generates help version same none t z = let c = said_status text a b f g n t in record {
+  ends = is_said n c;
+  usage = (λ e. absurd (said_other n 2 c (λ k. omega (arith, k)) (λ k. omega (arith, k)) (λ k. omega (arith, k)) e), λ k. not_none form kind is k);
+  read_fault = record { rose_at_3 = λ e. absurd (said_other n 3 c (λ k. omega (arith, k)) (λ k. omega (arith, k)) (λ k. omega (arith, k)) e); calm_else = λ _. refl };
+  disk_fault = disk_calm p q n n refl (said_other n 5 c (λ k. omega (arith, k)) (λ k. omega (arith, k)) (λ k. omega (arith, k))) same;
+  write_fault = said_write text kept a b f g n (WasStopped ms (opened_state kept told) l l h) (inl z) t;
   damaged = λ k. no_touch form kind is run check k;
   complete = λ k. two_forms form Run kind k is run;
-  reads = reads_nothing l x n (told_other n 9 c (λ k. omega (arith, k)) (λ k. omega (arith, k)));
+  reads = reads_nothing l x n (said_other n 9 c (λ k. omega (arith, k)) (λ k. omega (arith, k)) (λ k. omega (arith, k)));
   opens = λ k. two_forms form Run kind k is run;
   none = λ _. none;
   thread = thread_none kept told h z;
   runs = λ k. two_forms form Run kind k is run;
   calm = λ _. calm_none h z;
-  line = not_unread n (told_other n 2 c (λ k. omega (arith, k)) (λ k. omega (arith, k))) (told_other n 3 c (λ k. omega (arith, k)) (λ k. omega (arith, k))) (told_other n 9 c (λ k. omega (arith, k)) (λ k. omega (arith, k)));
-  unopened = told_unopened text kept seen a b f g n h t;
+  line = not_unread n (said_other n 2 c (λ k. omega (arith, k)) (λ k. omega (arith, k)) (λ k. omega (arith, k))) (said_other n 3 c (λ k. omega (arith, k)) (λ k. omega (arith, k)) (λ k. omega (arith, k))) (said_other n 9 c (λ k. omega (arith, k)) (λ k. omega (arith, k)) (λ k. omega (arith, k)));
+  unopened = said_unopened text kept seen a b f g n h z t;
   checks = λ k. two_forms form Check kind k is check;
+  generates = generates;
   help = help;
   version = version;
   unread = λ _. does_nothing l x i h z;
@@ -391,12 +422,19 @@ program_text ms kept told parts form kind text l x i seen p q a b f g n h is run
 pub program_help : (ms : Meanings) (kept : Option Durable) (told : List Told) (parts : List PartTold) (form : Option Form) (l : Option (List ℕ)) (x : Option ℕ) (i : ℕ) (seen : Option Contents) (p q : ℕ) (a b : Option (List ℕ)) (f g n : ℕ) (h : List Entry)
     → form ≡ Some Help → q ≡ p → kept ≡ None → Tells help_text a b f g n → h ≡ [] → EndsProgram ms kept told parts form l l x x i i seen p q a b f g n h
 program_help ms kept told parts form l x i seen p q a b f g n h is same none t z =
-    program_text ms kept told parts form Help help_text l x i seen p q a b f g n h is run_not_help check_not_help (λ _. t) (λ k. two_forms form Help Version is k help_not_version) same none t z
+    program_text ms kept told parts form Help help_text l x i seen p q a b f g n h is run_not_help check_not_help (λ number k. two_forms form Help (Generate number) is k (help_not_generate number)) (λ _. t) (λ k. two_forms form Help Version is k help_not_version) same none (inl t) z
 
 pub program_version : (ms : Meanings) (kept : Option Durable) (told : List Told) (parts : List PartTold) (form : Option Form) (l : Option (List ℕ)) (x : Option ℕ) (i : ℕ) (seen : Option Contents) (p q : ℕ) (a b : Option (List ℕ)) (f g n : ℕ) (h : List Entry)
     → form ≡ Some Version → q ≡ p → kept ≡ None → Tells version_text a b f g n → h ≡ [] → EndsProgram ms kept told parts form l l x x i i seen p q a b f g n h
 program_version ms kept told parts form l x i seen p q a b f g n h is same none t z =
-    program_text ms kept told parts form Version version_text l x i seen p q a b f g n h is run_not_version check_not_version (λ k. two_forms form Help Version k is help_not_version) (λ _. t) same none t z
+    program_text ms kept told parts form Version version_text l x i seen p q a b f g n h is run_not_version check_not_version (λ number k. two_forms form Version (Generate number) is k (version_not_generate number)) (λ k. two_forms form Help Version k is help_not_version) (λ _. t) same none (inl t) z
+
+-- they ask for the script that a number gives
+pub program_generate : (ms : Meanings) (kept : Option Durable) (told : List Told) (parts : List PartTold) (form : Option Form) (number : ℕ) (l : Option (List ℕ)) (x : Option ℕ) (i : ℕ) (seen : Option Contents) (p q : ℕ) (a b : Option (List ℕ)) (f g n : ℕ) (h : List Entry)
+    → form ≡ Some (Generate number) → q ≡ p → kept ≡ None → TellsScript number a b f g n → h ≡ [] → EndsProgram ms kept told parts form l l x x i i seen p q a b f g n h
+program_generate ms kept told parts form number l x i seen p q a b f g n h is same none t z =
+    program_text ms kept told parts form (Generate number) (generated_text number) l x i seen p q a b f g n h is (run_not_generate number) (check_not_generate number) (λ other k. subst (λ m. TellsScript m a b f g n) (one_number form number other is k) t)
+    (λ k. two_forms form Help (Generate number) k is (help_not_generate number)) (λ k. two_forms form Version (Generate number) k is (version_not_generate number)) same none t.told z
 
 -- ---- what the areas hold
 
@@ -418,12 +456,7 @@ checked_write kept seen a b f g n W none w (inr (inl u)) = record {
   calm_at_5 = λ _ some. some_not_none kept some none;
   calm_or_later_at_8 = λ _. inr w;
 }
-checked_write kept seen a b f g n W none w (inr (inr e)) = record {
-  rose_at_4 = λ k. apart n 8 4 e k (λ k. omega (arith, k));
-  calm_at_0 = λ k. apart n 8 0 e k (λ k. omega (arith, k));
-  calm_at_5 = λ _ some. some_not_none kept some none;
-  calm_or_later_at_8 = λ _. inr w;
-}
+checked_write kept seen a b f g n W none w (inr (inr e)) = wanted_write kept f g n W w e
 
 -- the words ask what the areas hold
 pub program_check : (ms : Meanings) (kept : Option Durable) (told : List Told) (parts : List PartTold) (form : Option Form) (l : Option (List ℕ)) (x : Option ℕ) (i : ℕ) (seen : Option Contents) (p q : ℕ) (a b : Option (List ℕ)) (f g n : ℕ) (h : List Entry)
@@ -445,6 +478,7 @@ program_check ms kept told parts form l x i seen p q a b f g n h is fault unopen
   line = not_unread n (checked_other seen a b f g n 2 t.tells (λ k. omega (arith, k)) (λ k. omega (arith, k)) (λ k. omega (arith, k)) (λ k. omega (arith, k)) (λ k. omega (arith, k))) (checked_other seen a b f g n 3 t.tells (λ k. omega (arith, k)) (λ k. omega (arith, k)) (λ k. omega (arith, k)) (λ k. omega (arith, k)) (λ k. omega (arith, k))) (checked_other seen a b f g n 9 t.tells (λ k. omega (arith, k)) (λ k. omega (arith, k)) (λ k. omega (arith, k)) (λ k. omega (arith, k)) (λ k. omega (arith, k)));
   unopened = unopened;
   checks = λ _. t;
+  generates = λ number k. two_forms form Check (Generate number) is k (check_not_generate number);
   help = λ k. two_forms form Check Help is k check_not_help;
   version = λ k. two_forms form Check Version is k check_not_version;
   unread = λ _. does_nothing l x i h z;

@@ -1,4 +1,5 @@
 pub mod Lines
+pub mod Numbered
 pub mod Fronts
 pub mod Taken
 pub mod Told

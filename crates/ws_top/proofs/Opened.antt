@@ -27,9 +27,9 @@ use Rattle.ws_top.specs.Areas.{EndsDamaged, FindsDamage, IsHeld, KeepsAreas, Lea
 use Rattle.ws_top.specs.Inside.Opening.{HasFault, Opens, Refuses, TellsHeld, RunsFrom, LeavesAreas, OpensAreas}
 use Rattle.ws_top.specs.Inside.Parts.{SaysBadLine, unread_status}
 use Rattle.ws_top.specs.Inside.Running.{KeepsStore, LeavesStore, end_status}
-use Rattle.ws_top.specs.Outcomes.{IsUnwritten, WasRun, WasIdle, WasUnopened, TellsState, TellsUnopened, Tells, Writes}
+use Rattle.ws_top.specs.Outcomes.{IsUnwritten, WasRun, WasIdle, WasUnopened, TellsState, TellsUnopened, Tells, TellsOrWants, Writes}
 use Rattle.ws_top.specs.Texts.{status_line, check_text}
-use Rattle.ws_top.proofs.Statuses.{WasTold, apart, not_7, not_idle, not_unopened, refused_idle, refused_run, run_of_unwritten, some_at_5, some_not_none, told_idle, told_other, unrun}
+use Rattle.ws_top.proofs.Statuses.{WasTold, WasSaid, apart, not_7, not_idle, not_unopened, refused_idle, refused_run, run_of_unwritten, some_at_5, some_not_none, told_idle, told_other, unrun}
 
 -- ---- options
 
@@ -67,6 +67,19 @@ told_status text a b f g n (inr (e, _, _)) = inr e
 pub told_unopened : (text : List ℕ) (kept : Option Durable) (seen : Option Contents) (a b : Option (List ℕ)) (f g n : ℕ) (h : List Entry) → Tells text a b f g n → TellsUnopened kept seen a b f g n h
 told_unopened text kept seen a b f g n h (inl (e, _, _)) = unopened_never kept seen a b f g n 0 h e (λ k. omega (arith, k)) (λ k. omega (arith, k)) (λ k. omega (arith, k))
 told_unopened text kept seen a b f g n h (inr (e, _, _)) = unopened_never kept seen a b f g n 4 h e (λ k. omega (arith, k)) (λ k. omega (arith, k)) (λ k. omega (arith, k))
+
+pub said_status : (text : List ℕ) (a b : Option (List ℕ)) (f g n : ℕ) → TellsOrWants text a b f g n → WasSaid n
+said_status text a b f g n (inl t) = inl (told_status text a b f g n t)
+said_status text a b f g n (inr (eight, _)) = inr eight
+
+pub said_unopened : (text : List ℕ) (kept : Option Durable) (seen : Option Contents) (a b : Option (List ℕ)) (f g n : ℕ) (h : List Entry) → h ≡ [] → TellsOrWants text a b f g n → TellsUnopened kept seen a b f g n h
+said_unopened text kept seen a b f g n h z (inl t) = told_unopened text kept seen a b f g n h t
+said_unopened text kept seen a b f g n h z (inr (eight, line)) = record {
+  nothing = λ _. z;
+  line_at_5 = λ _ k. apart n 8 5 eight k (λ d. omega (arith, d));
+  damage_at_7 = λ k. apart n 8 7 eight k (λ d. omega (arith, d));
+  line_at_8 = λ _ _. line;
+}
 
 refused_ends : (kept : Option Durable) (e : OpenFault) (a b : Option (List ℕ)) (f g n : ℕ) → kept ≡ None → Refuses e a b f g n → WasUnopened kept n ⊎ (n ≡ 8)
 refused_ends kept Disk a b f g n none (five, w) = inl (inl (five, none))

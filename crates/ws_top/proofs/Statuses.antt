@@ -142,3 +142,16 @@ is_told n (inr e) = inr (inr (inr (inl e)))
 pub told_idle : {A : Type 0} (n : ℕ) → WasTold n → WasIdle n → A
 told_idle n t (inl u) = not_unread n (told_other n 2 t (λ e. omega (arith, e)) (λ e. omega (arith, e))) (told_other n 3 t (λ e. omega (arith, e)) (λ e. omega (arith, e))) (told_other n 9 t (λ e. omega (arith, e)) (λ e. omega (arith, e))) u
 told_idle n t (inr e) = absurd (told_other n 6 t (λ k. omega (arith, k)) (λ k. omega (arith, k)) e)
+
+-- ---- of a text that was told, or for which memory wanted
+
+abbrev pub WasSaid : ℕ → Type 0
+WasSaid n = WasTold n ⊎ (n ≡ 8)
+
+pub said_other : (n t : ℕ) → WasSaid n → (0 ≡ t → ⊥) → (4 ≡ t → ⊥) → (8 ≡ t → ⊥) → n ≢ t
+said_other n t (inl c) z f e k = told_other n t c z f k
+said_other n t (inr c) z f e k = e (sym c ∙ k)
+
+pub is_said : (n : ℕ) → WasSaid n → IsStatus n
+is_said n (inl c) = is_told n c
+is_said n (inr e) = inr (inr (inr (inr (inr (inl e)))))

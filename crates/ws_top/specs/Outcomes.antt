@@ -13,6 +13,7 @@ use Rattle.save_store.specs.Looks.{IsLookedAt}
 use Rattle.area_text.specs.Damages.{damage_line}
 use Rattle.script_lang.specs.declared.script.Script.{Script}
 use Rattle.script_lang.specs.Scripts.{IsScript, IsFirstBad}
+use Rattle.script_gen.specs.Generated.{generated}
 use Rattle.core_event.specs.declared.entry.Entry.{Entry}
 use Rattle.builder_api.specs.Meanings.{Meanings}
 use Rattle.builder_api.specs.Told.{Told}
@@ -28,12 +29,12 @@ use Rattle.save_parts.specs.Heard.{Heard, HeardMore}
 use Rattle.phase_run.specs.Calm.{IsCalm}
 use Rattle.phase_run.specs.Plans.{Made, phases_plan}
 use Rattle.ws_top.specs.declared.words.Form.{Form}
-use Rattle.ws_top.specs.declared.words.Form.TheVariants.{Help, Version}
+use Rattle.ws_top.specs.declared.words.Form.TheVariants.{Generate, Help, Version}
 use Rattle.ws_opening.specs.Opened.{opened_state}
 use Rattle.ws_top.specs.Areas.{IsHeld, IsDamage, AreUndamaged, FindsDamage, TellsDiskFault}
 use Rattle.ws_top.specs.Forms.{IsRun, IsCheck, Touches, help_text, version_text}
 use Rattle.ws_top.specs.Limits.{longest, Reads, ReadsAll, ReadsShort, ReadsLong}
-use Rattle.ws_top.specs.Texts.{text, cut_text, status_line, bad_line, check_text}
+use Rattle.ws_top.specs.Texts.{text, cut_text, status_line, bad_line, check_text, generated_text}
 
 -- ---- statuses
 
@@ -236,6 +237,15 @@ pub record RunsScript (ms : Meanings) (kept : Option Durable) (parts : List Part
 abbrev pub Tells : List ℕ → Option (List ℕ) → Option (List ℕ) → ℕ → ℕ → ℕ → Type 0
 Tells text old new before after status = ((status ≡ 0) × Gains old text new × (after ≡ before)) ⊎ ((status ≡ 4) × GainsFront old text new × Rose before after)
 
+-- the text was told, as above, or memory wanted for it
+abbrev pub TellsOrWants : List ℕ → Option (List ℕ) → Option (List ℕ) → ℕ → ℕ → ℕ → Type 0
+TellsOrWants text old new before after status = Tells text old new before after status ⊎ ((status ≡ 8) × Writes old new before after (status_line 8))
+
+-- What `gen` tells: the text of the script that the number gives, which spells that script; or memory wanted for it.
+pub record TellsScript (number : ℕ) (old new : Option (List ℕ)) (before after status : ℕ) : Type 0 where
+  pub told : TellsOrWants (generated_text number) old new before after status
+  pub spelled : status ≢ 8 → IsScript (generated_text number) (generated number)
+
 -- both areas were looked at, and what they hold was told
 pub record TellsFound (seen : Option Contents) (old new : Option (List ℕ)) (before after status : ℕ) : Type 0 where
   pub found : Found
@@ -274,6 +284,7 @@ pub record EndsProgram (ms : Meanings) (kept : Option Durable) (told : List Told
   pub line : WasUnread status → Writes old new before after (status_line status)
   pub unopened : TellsUnopened kept seen old new before after status h
   pub checks : IsCheck form → Checks seen disk_before disk_after old new before after status
+  pub generates : (number : ℕ) → form ≡ Some (Generate number) → TellsScript number old new before after status
   pub help : form ≡ Some Help → Tells help_text old new before after status
   pub version : form ≡ Some Version → Tells version_text old new before after status
   pub unread : (IsRun form → ⊥) → DoesNothing left after_reading reads_before reads_after reads_failed reads_fail h

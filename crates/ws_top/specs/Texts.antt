@@ -9,6 +9,8 @@ use Rattle.ws_core.specs.Durables.{kept_since}
 use Rattle.ws_durable.specs.declared.durable.Durable.{Durable}
 use Rattle.save_store.specs.declared.look.Found.{Found}
 use Rattle.area_text.specs.Looks.{found_text}
+use Rattle.script_lang.specs.Scripts.{script_text}
+use Rattle.script_gen.specs.Generated.{generated}
 use Rattle.delta_kind.specs.Deltas.{delta}
 use Rattle.core_event.specs.declared.entry.Entry.{Entry}
 use Rattle.report_text.specs.Deltas.{delta_lines}
@@ -63,3 +65,7 @@ bad_line line = codes "status " ++ decimal 6 ++ codes " line " ++ decimal line +
 -- the text of what was found in both areas
 abbrev pub check_text : Found → List ℕ
 check_text found = found_text found ++ status_line 0
+
+-- the text of the script that a number gives
+unfoldable pub generated_text : ℕ → List ℕ
+generated_text number = script_text (generated number)

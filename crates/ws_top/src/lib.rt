@@ -10,10 +10,12 @@
 //! - `response`: a script is read, the areas are opened, and it is run on what they hold.
 //! - `report`: what was given back, what was done, and what changed since the start, is written.
 //! - `checking`: what the areas hold is told.
+//! - `generating`: the script that a number gives is told.
 //! - `refusal`: why the areas couldn't be read is told.
 #![tactic(auto)]
 
 mod checking;
+mod generating;
 mod kit;
 mod opening;
 mod program;

@@ -1,5 +1,5 @@
 //! The one call of the program.
-ghost use Rattle.std.specs.Prelude.{◌≡◌, ◌↔◌, ◌⊎◌, ◌≢◌, [], map, string_bytes, Some, None, IfOk, IfErr, IfSome};
+ghost use Rattle.std.specs.Prelude.{◌≡◌, ◌↔◌, ◌⊎◌, ◌≢◌, ℕ, [], map, string_bytes, Some, None, IfOk, IfErr, IfSome};
 ghost use Rattle.builder_api.specs.Told.{HaveMeanings};
 ghost use Rattle.phase_run.specs.Calm.{IsCalm};
 ghost use Rattle.save_history.specs.Steps.{steps_of};
@@ -10,11 +10,12 @@ ghost use Rattle.ws_top.specs.Builds.{MakesBuilds};
 ghost use Rattle.ws_top.specs.Forms.{form_of, IsRun, IsCheck, Touches, help_text, version_text};
 ghost use Rattle.ws_top.specs.Inside.Opening.{OpensAreas};
 ghost use Rattle.ws_top.specs.Inside.Parts.{unread_status, EndsRun};
-ghost use Rattle.ws_top.specs.Outcomes.{IsStatus, TellsReadFault, TellsWriteFault, TellsState, TellsUnopened, WasStopped, Completes, ReadsNoMore, IsOneThread, HaveTakenPart, HearsNotices, RunsScript, WasUnread, WasIdle, Checks, Writes, Tells, DoesNothing, EndsProgram};
+ghost use Rattle.ws_top.specs.Outcomes.{IsStatus, TellsReadFault, TellsWriteFault, TellsState, TellsUnopened, WasStopped, Completes, ReadsNoMore, IsOneThread, HaveTakenPart, HearsNotices, RunsScript, WasUnread, WasIdle, Checks, Writes, Tells, TellsScript, DoesNothing, EndsProgram};
 ghost use Rattle.ws_top.specs.Texts.{status_line};
 
 use crate::NoMemory;
 use crate::checking::check;
+use crate::generating::tell_script;
 use crate::kit::{Areas, Kit};
 use crate::reading::{Unread, read_all};
 use crate::response::{Outcome, respond, stop, tell, want};
@@ -26,14 +27,14 @@ use std::alloc::Global;
 use ws_outside::{Disk, Sink, Source};
 
 const HELP: &str =
-    "wsrun run A B\n\nRuns the script on standard input, on the workspace that the area files A and B hold, and prints what was done. A save goes into these files.\n\nwsrun check A B\n\nPrints what the area files A and B hold.\n";
+    "wsrun run A B\n\nRuns the script on standard input, on the workspace that the area files A and B hold, and prints what was done. A save goes into these files.\n\nwsrun check A B\n\nPrints what the area files A and B hold.\n\nwsrun gen N\n\nPrints the script that the number N gives, which has at most nine digits.\n";
 
 const VERSION: &str = "wsrun 0.1.0\n";
 
 /// Runs the program: reads the script from the source, opens the areas, gives the kit's participants back what they kept,
 /// runs the script on the workspace that the areas hold by one worker, whose builds call the kit's builders and whose saves
 /// go into the areas, tells the listeners after each phase what it changed, and writes to the sink what was given back,
-/// asked, answered and told. Or tells what the areas hold.
+/// asked, answered and told. Or tells what the areas hold, or the script that a number gives.
 ///
 /// The one condition: of the kit's builders, the first of each name for which `M` has a meaning has that meaning. A caller
 /// that claims nothing of its builders picks `Silent`.
@@ -74,15 +75,18 @@ pub fn top<S: Source, K: Sink, D: Disk, L: Listener, B: Builder, P: Participant,
     ensures untouched { (Touches (form_of (map string_bytes words.now)) → ⊥) ⊎ WasIdle result.status → result.areas.disk ≡ areas.disk }
     // the other forms write their text and do nothing else
     ensures checks { IsCheck (form_of (map string_bytes words.now)) → Checks (D.seen areas.disk) (D.faults areas.disk) (D.faults result.areas.disk) (K.written sink.old) (K.written sink.new) (K.faults sink.old) (K.faults sink.new) result.status }
+    ensures generates { (number : ℕ) → form_of (map string_bytes words.now) ≡ Some (Form.Generate number) → TellsScript number (K.written sink.old) (K.written sink.new) (K.faults sink.old) (K.faults sink.new) result.status }
     ensures help { form_of (map string_bytes words.now) ≡ Some Form.Help → Tells help_text (K.written sink.old) (K.written sink.new) (K.faults sink.old) (K.faults sink.new) result.status }
     ensures version { form_of (map string_bytes words.now) ≡ Some Form.Version → Tells version_text (K.written sink.old) (K.written sink.new) (K.faults sink.old) (K.faults sink.new) result.status }
     ensures unread { (IsRun (form_of (map string_bytes words.now)) → ⊥) → DoesNothing (S.left source.old) (S.left source.new) (S.reads source.old) (S.reads source.new) (S.faults source.old) (S.faults source.new) result.history }
+    ensures uncalled { (IsRun (form_of (map string_bytes words.now)) → ⊥) → result.kit ≡ kit }
 {
     match words::form_of(words) {
         None => stop(alloc, sink, areas, kit, 2, b"status 2\n"),
         Some(Form::Help) => tell(alloc, sink, areas, kit, HELP.as_bytes()),
         Some(Form::Version) => tell(alloc, sink, areas, kit, VERSION.as_bytes()),
         Some(Form::Check) => check(alloc, sink, areas, kit),
+        Some(Form::Generate(number)) => tell_script(alloc, sink, areas, kit, number),
         Some(Form::Run) => run::<S, K, D, L, B, P, M>(alloc, source, sink, areas, kit),
     }
 }
@@ -107,11 +111,13 @@ pub fn answer<S: Source, K: Sink, D: Disk, L: Listener, B: Builder, P: Participa
     ensures unsaved { steps_of result.history ≡ [] → D.seen result.areas.disk ≡ D.seen areas.disk }
     ensures unfailed { result.kept ≡ None → result.status ≢ 5 → D.faults result.areas.disk ≡ D.faults areas.disk }
     ensures untouched { IfOk words (λ given. (Touches (form_of (map string_bytes given.items)) → ⊥) ⊎ WasIdle result.status → result.areas.disk ≡ areas.disk) }
+    ensures uncalled { IfOk words (λ given. (IsRun (form_of (map string_bytes given.items)) → ⊥) → result.kit ≡ kit) }
     // where memory wanted for the words
     ensures memory { IfErr words (λ _. result.status ≡ 8) }
     ensures unread { IfErr words (λ _. DoesNothing (S.left source.old) (S.left source.new) (S.reads source.old) (S.reads source.new) (S.faults source.old) (S.faults source.new) result.history) }
     ensures line { IfErr words (λ _. Writes (K.written sink.old) (K.written sink.new) (K.faults sink.old) (K.faults sink.new) (status_line 8)) }
     ensures areas { IfErr words (λ _. result.areas.disk ≡ areas.disk) }
+    ensures kit { IfErr words (λ _. result.kit ≡ kit) }
     ensures none { IfErr words (λ _. result.kept ≡ None) }
 {
     match words {

@@ -1,6 +1,8 @@
 //! The forms of words that the program takes.
-ghost use Rattle.std.specs.Prelude.{◌≡◌, ◌∷◌, [], map, string_bytes};
-ghost use Rattle.ws_top.specs.Forms.{areas_form, form_of};
+ghost use Rattle.std.specs.Prelude.{◌≡◌, ◌<◌, ◌↔◌, ◌∷◌, [], map, string_bytes, decimal, IsTrue};
+ghost use Rattle.ws_top.specs.Forms.{areas_form, form_of, number_of};
+
+use itoa::Buffer;
 
 /// A form of words.
 #[derive(Clone, Copy, Debug, PartialEq, Eq)]
@@ -9,6 +11,8 @@ pub enum Form {
     Run,
     /// `check A B` with two names that differ.
     Check,
+    /// `gen N`, with the number N.
+    Generate(u32),
     /// `--help` alone.
     Help,
     /// `--version` alone.
@@ -21,6 +25,7 @@ pub fn form_of(words: &[String]) -> Option<Form>
 {
     match words {
         [word] => of_one(word.as_str()),
+        [word, number] => of_two(word.as_str(), number.as_str()),
         [word, left, right] => of_three(word.as_str(), left.as_str(), right.as_str()),
         _ => None,
     }
@@ -36,6 +41,37 @@ fn of_one(word: &str) -> Option<Form>
         return Some(Form::Version);
     }
     None
+}
+
+fn of_two(word: &str, number: &str) -> Option<Form>
+    ensures { result ≡ form_of (word.now ∷ number.now ∷ []) }
+{
+    if word == "gen" {
+        return Some(Form::Generate(number_of(number)?));
+    }
+    None
+}
+
+/// The number that the word is in decimal: of at most nine digits, and without a leading zero but in `0` itself.
+fn number_of(word: &str) -> Option<u32>
+    ensures { result ≡ number_of word.now }
+{
+    let Ok(number) = word.parse::<u32>() else {
+        return None;
+    };
+    if is_number(word, number) {
+        Some(number)
+    } else {
+        None
+    }
+}
+
+/// Whether the word is this number in decimal, and has at most nine digits.
+fn is_number(word: &str, number: u32) -> bool
+    ensures { IsTrue result ↔ ((number < 1000000000) × (word.now ≡ decimal number)) }
+{
+    let mut buffer = Buffer::new();
+    number < 1_000_000_000 && word == buffer.format(number)
 }
 
 fn of_three(word: &str, left: &str, right: &str) -> Option<Form>

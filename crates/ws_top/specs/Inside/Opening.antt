@@ -13,7 +13,7 @@ use Rattle.core_event.specs.declared.entry.Entry.{Entry}
 use Rattle.area_text.specs.Damages.{damage_line}
 use Rattle.ws_core.specs.States.{Moment}
 use Rattle.ws_top.specs.Areas.{FindsDamage, StaysAsItWas, LeavesAreasOf, TellsDiskFault}
-use Rattle.ws_top.specs.Outcomes.{WasIdle, TellsState, TellsUnopened, Tells, Writes}
+use Rattle.ws_top.specs.Outcomes.{WasIdle, TellsState, TellsUnopened, TellsOrWants, Writes}
 use Rattle.ws_top.specs.Texts.{status_line, check_text}
 
 -- Why the areas couldn't be read: it is their damage where that is told, and the count of faults of the disk rose where it
@@ -39,7 +39,7 @@ Refuses Memory old new before after status = (status ≡ 8) × Writes old new be
 
 -- what was found was told, or memory wanted
 abbrev pub TellsHeld : Found → Option (List ℕ) → Option (List ℕ) → ℕ → ℕ → ℕ → Type 0
-TellsHeld found old new before after status = Tells (check_text found) old new before after status ⊎ ((status ≡ 8) × Writes old new before after (status_line 8))
+TellsHeld found = TellsOrWants (check_text found)
 
 -- a run was made from this state; or memory wanted before it, and nothing was done
 abbrev pub RunsFrom : Option Durable → Option Durable → Option (List ℕ) → Option (List ℕ) → ℕ → ℕ → ℕ → List Entry → Type 0

@@ -3,7 +3,7 @@ use Rattle.std.specs.Prelude.{string_bytes}
 use Rattle.ws_opening.specs.Opened.{opened_state}
 use Rattle.ws_top.specs.Forms.{form_of}
 use Rattle.ws_top.specs.Outcomes.{Tells}
-use Rattle.ws_top.proofs.Answered.{program_run, program_usage, program_help, program_version, program_check, touched_idle}
+use Rattle.ws_top.proofs.Answered.{program_run, program_usage, program_help, program_version, program_check, program_generate, touched_idle}
 use Rattle.ws_top.proofs.Built.{builds_nothing}
 use Rattle.ws_top.proofs.Lines.{line_2}
 use Rattle.ws_top.proofs.Opened.{leaves_same, unsaved_of}
@@ -38,9 +38,11 @@ returns-in-None g c =
       line = p.line;
       unopened = p.unopened;
       checks = p.checks;
+      generates = p.generates;
       help = p.help;
       version = p.version;
       unread = p.unread;
+      uncalled = λ _. out.ensures.kit;
       heard = hears_nothing (opened_state c.stop.result.kept (map (λ b. g.B.Builder.tells b) c.args.kit.builders)) c.stop.result.status c.stop.result.history (map (λ l. g.L.Listener.heard l) c.args.kit.listeners) (map (λ l. g.L.Listener.heard l) c.stop.result.kit.listeners) c.stop.ensures.nothing (ap (λ kit. map (λ l. g.L.Listener.heard l) kit.listeners) c.stop.ensures.kit);
       builds = builds_nothing g.M.Meanings.meaning (opened_state c.stop.result.kept (map (λ b. g.B.Builder.tells b) c.args.kit.builders)) c.stop.result.history (map (λ b. g.B.Builder.tells b) c.args.kit.builders) (map (λ b. g.B.Builder.tells b) c.stop.result.kit.builders) c.stop.ensures.nothing (ap (λ kit. map (λ b. g.B.Builder.tells b) kit.builders) c.stop.ensures.kit);
       participants = taken_none c.stop.result.kept (opened_state c.stop.result.kept (map (λ b. g.B.Builder.tells b) c.args.kit.builders)) c.stop.result.status c.stop.result.history (map (λ p. g.P.Participant.tells p) c.args.kit.participants) (map (λ p. g.P.Participant.tells p) c.stop.result.kit.participants) c.stop.ensures.none (ap (λ kit. map (λ p. g.P.Participant.tells p) kit.participants) c.stop.ensures.kit);
@@ -73,13 +75,52 @@ returns-in-Some-Help g c =
       line = p.line;
       unopened = p.unopened;
       checks = p.checks;
+      generates = p.generates;
       help = p.help;
       version = p.version;
       unread = p.unread;
+      uncalled = λ _. out.ensures.kit;
       heard = hears_nothing (opened_state c.tell.result.kept (map (λ b. g.B.Builder.tells b) c.args.kit.builders)) c.tell.result.status c.tell.result.history (map (λ l. g.L.Listener.heard l) c.args.kit.listeners) (map (λ l. g.L.Listener.heard l) c.tell.result.kit.listeners) c.tell.ensures.nothing (ap (λ kit. map (λ l. g.L.Listener.heard l) kit.listeners) c.tell.ensures.kit);
       builds = builds_nothing g.M.Meanings.meaning (opened_state c.tell.result.kept (map (λ b. g.B.Builder.tells b) c.args.kit.builders)) c.tell.result.history (map (λ b. g.B.Builder.tells b) c.args.kit.builders) (map (λ b. g.B.Builder.tells b) c.tell.result.kit.builders) c.tell.ensures.nothing (ap (λ kit. map (λ b. g.B.Builder.tells b) kit.builders) c.tell.ensures.kit);
       participants = taken_none c.tell.result.kept (opened_state c.tell.result.kept (map (λ b. g.B.Builder.tells b) c.args.kit.builders)) c.tell.result.status c.tell.result.history (map (λ p. g.P.Participant.tells p) c.args.kit.participants) (map (λ p. g.P.Participant.tells p) c.tell.result.kit.participants) c.tell.ensures.none (ap (λ kit. map (λ p. g.P.Participant.tells p) kit.participants) c.tell.ensures.kit);
       leaves = leaves_same g.D.Disk.moment g.D.Disk.left_since g.D.Disk.may_leave g.D.Disk.seen g.D.Disk.faults g.met.D.Disk.only_now c.args.areas.disk out.result.areas.disk out.result.kept (opened_state c.tell.result.kept (map (λ b. g.B.Builder.tells b) c.args.kit.builders)) out.result.history out.ensures.none same;
+      unsaved = λ _. ap g.D.Disk.seen same;
+      untouched = λ _. same;
+    }
+
+pub returns-in-Some-Generate : goal.returns-in-Some-Generate
+returns-in-Some-Generate g c =
+    let out = c.tell_script in
+    let same = ap (λ areas. areas.disk) out.ensures.areas in
+    let p = program_generate g.M.Meanings.meaning out.result.kept (map (λ b. g.B.Builder.tells b) c.args.kit.builders) (map (λ p. g.P.Participant.tells p) c.args.kit.participants) (form_of (map string_bytes c.args.words.now)) c.in-Some-Generate.number (g.S.Source.left c.args.source.now) (g.S.Source.reads c.args.source.now) (g.S.Source.faults c.args.source.now)
+    (g.D.Disk.seen c.args.areas.disk) (g.D.Disk.faults c.args.areas.disk) (g.D.Disk.faults c.tell_script.result.areas.disk) (g.K.Sink.written c.args.sink.now) (g.K.Sink.written c.tell_script.new.sink) (g.K.Sink.faults c.args.sink.now) (g.K.Sink.faults c.tell_script.new.sink) out.result.status out.result.history
+    (sym c.form_of.ensures ∙ c.in-Some-Generate.is ∙ ap Some c.in-Some-Generate.field-0-is) (ap g.D.Disk.faults same) out.ensures.none out.ensures.tells out.ensures.nothing in record {
+      status = p.ends;
+      usage = p.usage;
+      read_fault = p.read_fault;
+      disk_fault = p.disk_fault;
+      unfailed = λ _ _. ap g.D.Disk.faults same;
+      write_fault = p.write_fault;
+      damaged = p.damaged;
+      complete = p.complete;
+      reads = p.reads;
+      opens = p.opens;
+      none = p.none;
+      thread = p.thread;
+      runs = p.runs;
+      calm = p.calm;
+      line = p.line;
+      unopened = p.unopened;
+      checks = p.checks;
+      generates = p.generates;
+      help = p.help;
+      version = p.version;
+      unread = p.unread;
+      uncalled = λ _. out.ensures.kit;
+      heard = hears_nothing (opened_state c.tell_script.result.kept (map (λ b. g.B.Builder.tells b) c.args.kit.builders)) c.tell_script.result.status c.tell_script.result.history (map (λ l. g.L.Listener.heard l) c.args.kit.listeners) (map (λ l. g.L.Listener.heard l) c.tell_script.result.kit.listeners) c.tell_script.ensures.nothing (ap (λ kit. map (λ l. g.L.Listener.heard l) kit.listeners) c.tell_script.ensures.kit);
+      builds = builds_nothing g.M.Meanings.meaning (opened_state c.tell_script.result.kept (map (λ b. g.B.Builder.tells b) c.args.kit.builders)) c.tell_script.result.history (map (λ b. g.B.Builder.tells b) c.args.kit.builders) (map (λ b. g.B.Builder.tells b) c.tell_script.result.kit.builders) c.tell_script.ensures.nothing (ap (λ kit. map (λ b. g.B.Builder.tells b) kit.builders) c.tell_script.ensures.kit);
+      participants = taken_none c.tell_script.result.kept (opened_state c.tell_script.result.kept (map (λ b. g.B.Builder.tells b) c.args.kit.builders)) c.tell_script.result.status c.tell_script.result.history (map (λ p. g.P.Participant.tells p) c.args.kit.participants) (map (λ p. g.P.Participant.tells p) c.tell_script.result.kit.participants) c.tell_script.ensures.none (ap (λ kit. map (λ p. g.P.Participant.tells p) kit.participants) c.tell_script.ensures.kit);
+      leaves = leaves_same g.D.Disk.moment g.D.Disk.left_since g.D.Disk.may_leave g.D.Disk.seen g.D.Disk.faults g.met.D.Disk.only_now c.args.areas.disk out.result.areas.disk out.result.kept (opened_state c.tell_script.result.kept (map (λ b. g.B.Builder.tells b) c.args.kit.builders)) out.result.history out.ensures.none same;
       unsaved = λ _. ap g.D.Disk.seen same;
       untouched = λ _. same;
     }
@@ -108,9 +149,11 @@ returns-in-Some-Version g c =
       line = p.line;
       unopened = p.unopened;
       checks = p.checks;
+      generates = p.generates;
       help = p.help;
       version = p.version;
       unread = p.unread;
+      uncalled = λ _. out.ensures.kit;
       heard = hears_nothing (opened_state c.tell-in-Some-Version.result.kept (map (λ b. g.B.Builder.tells b) c.args.kit.builders)) c.tell-in-Some-Version.result.status c.tell-in-Some-Version.result.history (map (λ l. g.L.Listener.heard l) c.args.kit.listeners) (map (λ l. g.L.Listener.heard l) c.tell-in-Some-Version.result.kit.listeners) c.tell-in-Some-Version.ensures.nothing (ap (λ kit. map (λ l. g.L.Listener.heard l) kit.listeners) c.tell-in-Some-Version.ensures.kit);
       builds = builds_nothing g.M.Meanings.meaning (opened_state c.tell-in-Some-Version.result.kept (map (λ b. g.B.Builder.tells b) c.args.kit.builders)) c.tell-in-Some-Version.result.history (map (λ b. g.B.Builder.tells b) c.args.kit.builders) (map (λ b. g.B.Builder.tells b) c.tell-in-Some-Version.result.kit.builders) c.tell-in-Some-Version.ensures.nothing (ap (λ kit. map (λ b. g.B.Builder.tells b) kit.builders) c.tell-in-Some-Version.ensures.kit);
       participants = taken_none c.tell-in-Some-Version.result.kept (opened_state c.tell-in-Some-Version.result.kept (map (λ b. g.B.Builder.tells b) c.args.kit.builders)) c.tell-in-Some-Version.result.status c.tell-in-Some-Version.result.history (map (λ p. g.P.Participant.tells p) c.args.kit.participants) (map (λ p. g.P.Participant.tells p) c.tell-in-Some-Version.result.kit.participants) c.tell-in-Some-Version.ensures.none (ap (λ kit. map (λ p. g.P.Participant.tells p) kit.participants) c.tell-in-Some-Version.ensures.kit);
@@ -144,9 +187,11 @@ returns-in-Some-Check g c =
       line = p.line;
       unopened = p.unopened;
       checks = p.checks;
+      generates = p.generates;
       help = p.help;
       version = p.version;
       unread = p.unread;
+      uncalled = λ _. out.ensures.kit;
       heard = hears_nothing (opened_state c.check.result.kept (map (λ b. g.B.Builder.tells b) c.args.kit.builders)) c.check.result.status c.check.result.history (map (λ l. g.L.Listener.heard l) c.args.kit.listeners) (map (λ l. g.L.Listener.heard l) c.check.result.kit.listeners) c.check.ensures.nothing (ap (λ kit. map (λ l. g.L.Listener.heard l) kit.listeners) c.check.ensures.kit);
       builds = builds_nothing g.M.Meanings.meaning (opened_state c.check.result.kept (map (λ b. g.B.Builder.tells b) c.args.kit.builders)) c.check.result.history (map (λ b. g.B.Builder.tells b) c.args.kit.builders) (map (λ b. g.B.Builder.tells b) c.check.result.kit.builders) c.check.ensures.nothing (ap (λ kit. map (λ b. g.B.Builder.tells b) kit.builders) c.check.ensures.kit);
       participants = taken_none c.check.result.kept (opened_state c.check.result.kept (map (λ b. g.B.Builder.tells b) c.args.kit.builders)) c.check.result.status c.check.result.history (map (λ p. g.P.Participant.tells p) c.args.kit.participants) (map (λ p. g.P.Participant.tells p) c.check.result.kit.participants) c.check.ensures.none (ap (λ kit. map (λ p. g.P.Participant.tells p) kit.participants) c.check.ensures.kit);
@@ -180,9 +225,11 @@ returns-in-Some-Run g c =
       line = p.line;
       unopened = p.unopened;
       checks = p.checks;
+      generates = p.generates;
       help = p.help;
       version = p.version;
       unread = p.unread;
+      uncalled = λ no. absurd (no is);
       heard = out.ensures.heard;
       builds = out.ensures.builds;
       participants = out.ensures.participants;
