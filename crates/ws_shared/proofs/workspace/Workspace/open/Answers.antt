@@ -46,13 +46,16 @@ returns-in-Ok-clause-stopped g c =
     let state = saved c.in-Ok.fresh.keeper.began.last in
     let names = map (λ b. b.named) (map (λ b. g.B.Builder.tells b) c.args.builders) in
     let old = map (λ p. g.P.Participant.tells p) c.args.participants in
-    if_err c.over.result _ _ (λ x wanted. inr (wanted.0, inr (record {
-      state = state;
-      valid = e.valid;
-      held = e.held;
-      got = subst (λ ps. WereRestored (kept_since (opened_of state names)) old (map (λ p. g.P.Participant.tells p) ps)) (sym wanted.3)
-          (subst (λ (s : Moment). WereRestored (kept_since s) old (map (λ p. g.P.Participant.tells p) c.in-Ok.fresh.participants)) e.opened e.participants);
-    }))) c.over.ensures.err
+    if_err c.over.result _ _ (λ x wanted. inr (
+      wanted.0,
+      inr (record {
+        state = state;
+        valid = e.valid;
+        held = e.held;
+        got = subst (λ ps. WereRestored (kept_since (opened_of state names)) old (map (λ p. g.P.Participant.tells p) ps)) (sym wanted.3)
+            (subst (λ (s : Moment). WereRestored (kept_since s) old (map (λ p. g.P.Participant.tells p) c.in-Ok.fresh.participants)) e.opened e.participants);
+      }),
+    )) c.over.ensures.err
 
 pub returns-in-Err-clause-stopped : goal.returns-in-Err-clause-stopped
 returns-in-Err-clause-stopped g c = widened c.in-Err.ensures.stopped
