@@ -81,13 +81,13 @@ module _ {D : Type 0} (moment : D → ℕ) (left_since : D → ℕ → Contents 
   pub tried : (r : Result (Unit {0}) SaveFault) → new.failed ≡ failed_after old.failed r → IsWritten moment left_since may_leave faults now r old.store new.store → IsTried moment left_since may_leave faults (write_of r) x new
   tried (Ok done) is w = record { stands = ahead w.run w.risen (calm w.cause is) w.stored w.last; counted = counted_same w.cause; cause = tt }
   tried (Err store.Disk) is w = record {
-    stands = safe w.run w.risen (rose w.cause is) w.unsaved w.stays;
+    stands = safe w.run w.risen (rose w.cause is) w.unsaved w.stays.0;
     counted = counted (count + 1) (risen_more count (faults (first_disk old)) (faults (disk_of old)) (faults (disk_of new)) kept.counted w.cause);
     cause = tt;
   }
-  tried (Err store.TooLarge) is w = record { stands = safe w.run w.risen (calm w.cause is) w.unsaved w.stays; counted = counted_same w.cause; cause = too_large w.why }
-  tried (Err store.NumbersUsed) is w = record { stands = safe w.run w.risen (calm w.cause is) w.unsaved w.stays; counted = counted_same w.cause; cause = numbers_used w.why }
-  tried (Err store.Memory) is w = record { stands = safe w.run w.risen (calm w.cause is) w.unsaved w.stays; counted = counted_same w.cause; cause = tt }
+  tried (Err store.TooLarge) is w = record { stands = safe w.run w.risen (calm w.cause is) w.unsaved w.stays.0; counted = counted_same w.cause; cause = too_large w.why }
+  tried (Err store.NumbersUsed) is w = record { stands = safe w.run w.risen (calm w.cause is) w.unsaved w.stays.0; counted = counted_same w.cause; cause = numbers_used w.why }
+  tried (Err store.Memory) is w = record { stands = safe w.run w.risen (calm w.cause is) w.unsaved w.stays.0; counted = counted_same w.cause; cause = tt }
 
 -- where nothing was written
 pub untried : {D : Type 0} (moment : D → ℕ) (left_since : D → ℕ → Contents → Type 0) (may_leave : D → Contents → Type 0) (faults : D → ℕ) (x : Session) (keeper : Keeper D)

@@ -42,7 +42,7 @@ pub record IsWritten {D : Type 0} (moment : D → ℕ) (left_since : D → ℕ �
   pub stored : OnOk result (IsStored may_leave [] new)
   pub unsaved : OnErr result ((begun : List Saved) → IsStored may_leave begun old → IsStored may_leave (begun ++ saved now ∷ []) new)
   pub last : OnOk result (new.last ≡ now)
-  pub stays : OnErr result (new.last ≡ old.last)
+  pub stays : OnErr result ((new.last ≡ old.last) × (new.areas.home ≡ old.areas.home))
   pub risen : new.areas.top ≤ old.areas.top + 1
   pub why : IfErr result (WhyUnwritten now old.areas.top)
   pub cause : MatchResult result (λ _. faults new.areas.disk ≡ faults old.areas.disk) (FaultOf (faults old.areas.disk) (faults new.areas.disk))
