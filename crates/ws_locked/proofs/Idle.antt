@@ -1,5 +1,5 @@
 -- A pass that leaves the services alone may give them back.
-use Rattle.std.proofs.Common.{◌≡◌, ◌⊎◌, inl, inr, ℕ, List, [], ◌∷◌, ◌++◌, refl, sym, ap, ◌∙◌, subst}
+use Rattle.std.proofs.Common.{◌≡◌, ◌⊎◌, inr, ℕ, List, [], ◌∷◌, ◌++◌, refl, sym, ap, ◌∙◌, subst}
 use Rattle.std.specs.Prelude.{Some, None}
 use Rattle.std.specs.Option.{option_map, option_to_list}
 use Rattle.ws_outside.specs.declared.contents.Contents.{Contents}
@@ -11,8 +11,6 @@ use Rattle.save_round.specs.Told.{Told as PartTold}
 use Rattle.core_event.specs.declared.entry.Entry.{Entry}
 use Rattle.core_event.specs.declared.service.Outcomes.TheVariants as outcomes
 use Rattle.core_event.specs.declared.service.ServiceEvent.TheVariants.{CheckIn}
-use Rattle.core_event.specs.declared.reply.Answer.TheVariants.{Done}
-use Rattle.core_event.specs.declared.reply.Reply.{Reply}
 use Rattle.ws_core.proofs.Grown.{replay_append}
 use Rattle.ws_core.specs.Durables.{durable_of}
 use Rattle.ws_core.specs.Histories.{replay}

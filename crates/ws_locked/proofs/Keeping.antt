@@ -1,13 +1,11 @@
 -- States are kept in a save.
 use Rattle.std.proofs.Common.{◌≡◌, inl, inr, ℕ, true, false, List, [], ◌∷◌, ◌++◌, refl, sym, ap, ◌∙◌, subst, append-nil}
-use Rattle.std.specs.Prelude.{Option, Some, None, Result, Ok, Err, IfOk, IfSome, OnOk, OnErr}
+use Rattle.std.specs.Prelude.{Option, Some, None, Result, Ok, Err}
 use Rattle.std.specs.declared.alloc.AllocError.{AllocError}
 use Rattle.core_event.specs.declared.entry.Entry.{Entry}
-use Rattle.core_event.specs.declared.event.Event.{Event}
 use Rattle.core_event.specs.declared.event.Event.TheVariants.{Leave, Service}
 use Rattle.core_event.specs.declared.service.ServiceEvent.{ServiceEvent}
 use Rattle.core_event.specs.declared.service.ServiceEvent.TheVariants.{Saving}
-use Rattle.core_event.specs.declared.reply.Answer.{Answer}
 use Rattle.save_kind.specs.declared.state.PartState.{PartState}
 use Rattle.ws_durable.specs.declared.durable.Durable.{Durable}
 use Rattle.ws_durable.specs.Saved.{saved}
@@ -18,7 +16,6 @@ use Rattle.ws_core.specs.Histories.{after, replay}
 use Rattle.ws_core.specs.Sessions.{Session}
 use Rattle.ws_core.specs.Durables.{durable_of}
 use Rattle.ws_core.proofs.Grown.{replay_append}
-use Rattle.save_history.specs.Saves.{IsDone}
 use Rattle.save_history.specs.Stages.{HasKept, IsUnderWay}
 use Rattle.pass_turns.specs.Adds.{AddsUpToOne}
 use Rattle.pass_history.specs.There.{gives, given_by, is_there}

@@ -1,7 +1,6 @@
 use Rattle.std.proofs.Common.{◌≡◌, true, sym, ap, ◌∙◌, subst}
 use Rattle.pass_history.specs.There.{is_there}
 use Rattle.ws_turn.proofs.Lists.{some_same}
-use Rattle.save_history.specs.Stages.{IsUnderWay}
 use Rattle.ws_locked.specs.Moved.{WereKept}
 use Rattle.ws_locked.proofs.Keeping.{keeps_one, keeps_there}
 use Rattle.ws_locked.proofs.handing.KeepDeedLocked.make.Goals as goal
