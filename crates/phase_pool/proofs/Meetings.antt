@@ -1,5 +1,5 @@
 -- How all passes meet, one after another.
-use Rattle.std.proofs.Common.{◌≡◌, ◌∙◌, ◌⊎◌, inl, inr, ◌<◌, ◌+◌, ℕ, List, [], ◌∷◌, ◌++◌, length, map, take, get_or, refl, sym, ap, subst}
+use Rattle.std.proofs.Common.{◌≡◌, ◌∙◌, ◌⊎◌, inl, inr, ◌<◌, ◌+◌, ℕ, Bool, List, [], ◌∷◌, ◌++◌, length, map, take, get_or, refl, sym, ap, subst}
 use Rattle.std.specs.List.{AllByRecursion}
 use Rattle.std.proofs.lemmas.List.{take_more}
 use Rattle.core_event.specs.declared.entry.Entry.{Entry}
@@ -48,6 +48,12 @@ module _ {W : Type 0} (f : W → Hand) where
       (collects_one k k' k'' (map f (take i ws)) (f (get_or ws i d)) c m)
 
 -- ---- and tells
+
+abbrev as_hand : Known → Bool → Hand
+as_hand k b = record { known = k; stopped = b }
+
+pub same_hand : (k k' : Known) (b : Bool) → k' ≡ k → as_hand k' b ≡ as_hand k b
+same_hand k k' b e = ap (λ z. as_hand z b) e
 
 pub has_seen : (k : Known) (v w : Hand) → Begins v.known.seen k.seen → Meets v.known k w.known → w.stopped ≡ v.stopped → HasSeen k.seen v w
 has_seen k v w b m s = record {

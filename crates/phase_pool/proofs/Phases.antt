@@ -1,5 +1,6 @@
 -- How a phase comes to be whole, or cut.
-use Rattle.std.proofs.Common.{◌≡◌, ◌∙◌, inl, ◌<◌, ◌+◌, ℕ, Bool, true, false, List, [], ◌∷◌, length, map, refl, sym, subst}
+use Rattle.std.proofs.Common.{◌≡◌, ◌∙◌, inl, ◌<◌, ◌+◌, ℕ, zero, suc, Bool, true, false, ◌||◌, true≢false, List, [], ◌∷◌, length, map, refl, sym, subst, arith}
+use Rattle.std.specs.List.{list_any}
 use Rattle.core_event.specs.declared.entry.Entry.{Entry}
 use Rattle.job_queue.specs.Queues.{live}
 use Rattle.job_pool.specs.Workers.{Pairs}
@@ -32,6 +33,15 @@ pub go_on_gathered : (k k' : Known) (vs ws : List Hand) → Gathers k k' vs ws �
 go_on_gathered k k' vs ws g all i lt =
     let there = subst (λ n. i < n) (pairs_len (HasSeen k'.seen) vs ws g.workers) lt in
     (pairs_at (HasSeen k'.seen) vs ws i nobody there g.workers).stopped ∙ all i there
+
+neither : (a b : Bool) → (a || b) ≡ false → (a ≡ false) × (b ≡ false)
+neither false b e = (refl, e)
+neither true b e = absurd (true≢false e)
+
+pub go_on_all : {W : Type 0} (f : W → Hand) (ws : List W) → list_any (λ w. (f w).stopped) ws ≡ false → AllGoOn (map f ws)
+go_on_all f [] e i lt = absurd (omega (arith, lt))
+go_on_all f (w ∷ ws) e zero lt = (neither (f w).stopped (list_any (λ w. (f w).stopped) ws) e).0
+go_on_all f (w ∷ ws) e (suc i) lt = go_on_all f ws (neither (f w).stopped (list_any (λ w. (f w).stopped) ws) e).1 i (omega (arith, lt))
 
 went_on_before : (k k' : Known) (vs ws : List Hand) → Gathers k k' vs ws → AllGoOn ws → AllGoOn vs
 went_on_before k k' vs ws g all i lt =

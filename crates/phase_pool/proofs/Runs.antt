@@ -50,6 +50,34 @@ module _ {C D : Type 0} (Made : Making C) (plan : D → Phase C) (n : ℕ) (s : 
   pub runs_all : (i : ℕ) (g h : List Entry) → length ps ≤ i → Phases Made n s (take i (map plan ps)) g h → Phases Made n s (map plan ps) g h
   runs_all i g h le run = subst (λ l. Phases Made n s l g h) (take_all i (map plan ps) (subst (λ k. k ≤ i) (sym (length-map ps plan)) le)) run
 
+-- ---- what holds of each pass where all have met
+
+-- by the number of a pass, what holds of pass 0 and of each worker
+pub each_pass : {W : Type 0} (Good : ℕ → List Entry → Type 0) (f : W → Hand) (s : Moment) (k : Known) (ws : List W) → Together s k (map f ws) → Good k.number k.seen → AllByRecursion (λ w. Good (f w).known.number (f w).known.seen) ws
+    → (n : ℕ) → n ≤ length ws → Good n k.seen
+each_pass Good f s k ws t zeroth all zero le = subst (λ m. Good m k.seen) t.zeroth zeroth
+each_pass Good f s k ws t zeroth all (suc i) le =
+    let there : i < length (map f ws) = subst (λ m. i < m) (sym (length-map ws f)) (omega (arith, le)) in
+    let one = image_at_place Good f ws i there all in
+    let on : i + 1 ≡ suc i = omega arith in
+    subst (λ m. Good m k.seen) (t.numbers i there ∙ on) (subst (Good (worker_at (map f ws) i).known.number) (t.seen i there) one)
+  where
+    image_at_place : {W : Type 0} (Good : ℕ → List Entry → Type 0) (f : W → Hand) (ws : List W) (i : ℕ) → i < length (map f ws) → AllByRecursion (λ w. Good (f w).known.number (f w).known.seen) ws
+        → Good (worker_at (map f ws) i).known.number (worker_at (map f ws) i).known.seen
+    image_at_place Good f [] i lt all = absurd (omega (arith, lt))
+    image_at_place Good f (w ∷ ws) zero lt all = all.0
+    image_at_place Good f (w ∷ ws) (suc i) lt all = image_at_place Good f ws i (omega (arith, lt)) all.1
+
+-- where each worker has seen what pass 0 has, what holds of what it has seen
+pub each_seen : {W : Type 0} (Q : W → List Entry → Type 0) (f : W → Hand) (h : List Entry) (ws : List W) → ((i : ℕ) → i < length (map f ws) → (worker_at (map f ws) i).known.seen ≡ h)
+    → AllByRecursion (λ w. Q w (f w).known.seen) ws → AllByRecursion (λ w. Q w h) ws
+each_seen Q f h [] e all = tt
+each_seen Q f h (w ∷ ws) e all = (subst (Q w) (e 0 (omega arith)) all.0, each_seen Q f h ws (λ i lt. e (suc i) (omega (arith, lt))) all.1)
+
+pub all_wider : {W : Type 0} (P Q : W → Type 0) → ((w : W) → P w → Q w) → (ws : List W) → AllByRecursion P ws → AllByRecursion Q ws
+all_wider P Q f [] all = tt
+all_wider P Q f (w ∷ ws) all = (f w all.0, all_wider P Q f ws all.1)
+
 -- ---- the first meeting
 
 -- what one of the workers has seen is no more than what pass 0 has

@@ -84,7 +84,7 @@ where
         if worker.stopped {
             return true;
         }
-        self.host.live(rt, self.alloc, &mut worker.pass) == 0
+        self.host.live_jobs(rt, self.alloc, &mut worker.pass) == 0
     }
 
     ghost stays = { λ b w. goes_itself (H.makes b.host.now) (H.plan b.phase.now) w.stopped (H.knows w.pass) };

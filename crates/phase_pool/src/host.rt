@@ -59,9 +59,7 @@ pub trait Host {
 
     ghost here_tells: { (w : Self) (p : Self.Pass) → here w p → tells w p (own (knows p).number (knows p).seen) };
 
-    // a command has entries, and lets no pass in
-    ghost makes_some: { (w : Self) (k : ℕ) (c : Self.Command) → (h : List Entry) × makes w k c h };
-
+    // no command lets a pass in
     ghost lets_none_in: { (w : Self) (k : ℕ) (c : Self.Command) (h : List Entry) → makes w k c h → enters h ≡ 0 };
 
     /// The pass takes the job that comes next, if one may be run now: that is its next entry. Else it makes none, nor where
@@ -94,7 +92,7 @@ pub trait Host {
         ensures cut { OnErr result (Makes (Cut (IsRest (makes self.now) (knows pass.old).number (commands_of (plan phase.now) (name job)))) (knows pass.old) (knows pass.new)) };
 
     /// How many jobs wait or are run, at the end of what the pass has seen then.
-    fn live<R: Wait>(&self, rt: &R, alloc: Global, pass: &mut Self::Pass) -> u64
+    fn live_jobs<R: Wait>(&self, rt: &R, alloc: Global, pass: &mut Self::Pass) -> u64
         requires { here self.now pass.old }
         ensures here { here self.now pass.new }
         ensures looked { LooksOn (knows pass.old) (knows pass.new) }
