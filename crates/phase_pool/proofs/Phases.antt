@@ -59,16 +59,16 @@ gathers_still : (k k' : Known) (vs ws : List Hand) → Gathers k k' vs ws → Ga
 gathers_still k k' vs ws g = record { looks = looks_same k'; workers = met_still k'.seen vs ws g.workers; one = inl refl }
 
 module _ {C : Type 0} (Made : Making C) (quiet : LetsNobodyIn Made) (jobs : Phase C) (s : Moment) where
-  Scheduling : List Entry → Type 0
+  abbrev pub Scheduling : List Entry → Type 0
   Scheduling h = acts h ≡ map scheduled jobs
 
-  Cancelling : Moment → List Entry → Type 0
+  abbrev pub Cancelling : Moment → List Entry → Type 0
   Cancelling m h = acts h ≡ map cancelled (sleepers m jobs)
 
-  Partly : ℕ → List Entry → Type 0
+  abbrev pub Partly : ℕ → List Entry → Type 0
   Partly k h = Cut (Parts Made jobs k) h
 
-  Uncancelled : Moment → List Entry → Type 0
+  abbrev pub Uncancelled : Moment → List Entry → Type 0
   Uncancelled m h = Cut (Cancelling m) h
 
   -- ---- what each worker made

@@ -11,7 +11,7 @@ pub record Hand : Type 0 where
   pub known : Known
   pub stopped : Bool
 
-abbrev pub hand : {H P : Type 0} → (P → Known) → Worker H P → Hand
+abbrev pub hand : {P : Type 0} → (P → Known) → Worker P → Hand
 hand knows w = record { known = knows w.pass; stopped = w.stopped }
 
 -- what stands for a worker where there is none

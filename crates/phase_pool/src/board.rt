@@ -1,5 +1,5 @@
 //! A phase, as the board of its workers.
-ghost use Rattle.std.specs.Prelude.{◌≡◌, false};
+ghost use Rattle.std.specs.Prelude.{◌≡◌, false, true};
 
 use crate::host::Host;
 use crate::worker::Worker;
@@ -20,7 +20,7 @@ pub(crate) struct PhaseBoard<'a, H: Host> {
 
 impl<'a, H: Host> PhaseBoard<'a, H> {
     /// The worker stops, and the board is told, so that the others stop too.
-    fn stop(&self, worker: &mut Worker<H>)
+    fn stop(&self, worker: &mut Worker<H::Pass>)
         ensures pass { worker.new.pass ≡ worker.old.pass }
         ensures stopped { worker.new.stopped ≡ true }
     {
@@ -41,7 +41,7 @@ where
     ghost use Rattle.phase_pool.specs.Inside.Going.{Went};
     ghost use Rattle.phase_pool.specs.Inside.Laws.{goes_itself, goes_further};
 
-    type Worker = Worker<H>;
+    type Worker = Worker<H::Pass>;
 
     type Job = H::Job;
 
@@ -53,7 +53,7 @@ where
 
     ghost over = { λ b w. w.stopped ≡ false → live (replay (H.opened b.host.now) (H.knows w.pass).seen).manager.jobs ≡ 0 };
 
-    fn take<R: Wait>(&self, rt: &R, worker: &mut Worker<H>) -> Option<H::Job> {
+    fn take<R: Wait>(&self, rt: &R, worker: &mut Worker<H::Pass>) -> Option<H::Job> {
         if worker.stopped {
             return None;
         }
@@ -70,7 +70,7 @@ where
         }
     }
 
-    fn run<R: Wait>(&self, rt: &R, worker: &mut Worker<H>, job: H::Job) {
+    fn run<R: Wait>(&self, rt: &R, worker: &mut Worker<H::Pass>, job: H::Job) {
         match self
             .host
             .perform(rt, self.alloc, &mut worker.pass, self.phase, job)
@@ -80,7 +80,7 @@ where
         }
     }
 
-    fn ended<R: Wait>(&self, rt: &R, worker: &mut Worker<H>) -> bool {
+    fn ended<R: Wait>(&self, rt: &R, worker: &mut Worker<H::Pass>) -> bool {
         if worker.stopped {
             return true;
         }

@@ -11,7 +11,7 @@ use crate::host::Host;
 use crate::worker::Worker;
 
 /// Pass 0 has then seen what each of the two had; the worker stays as it is.
-fn collect<H: Host>(host: &H, first: &mut H::Pass, worker: &mut Worker<H>)
+fn collect<H: Host>(host: &H, first: &mut H::Pass, worker: &mut Worker<H::Pass>)
     requires { H.here host.now first.old × H.here host.now worker.old.pass }
     ensures here { H.here host.now first.new × H.here host.now worker.new.pass }
     ensures meets { Meets (H.knows first.old) (H.knows worker.old.pass) (H.knows first.new) }
@@ -21,7 +21,7 @@ fn collect<H: Host>(host: &H, first: &mut H::Pass, worker: &mut Worker<H>)
 }
 
 /// Pass 0 has then seen what each of all passes had; the workers stay as they are.
-fn collect_all<H: Host>(host: &H, first: &mut H::Pass, workers: &mut Vec<Worker<H>>)
+fn collect_all<H: Host>(host: &H, first: &mut H::Pass, workers: &mut Vec<Worker<H::Pass>>)
     requires here { H.here host.now first.old }
     requires workers { AllByRecursion (λ w. H.here host.now w.pass) workers.old.items }
     ensures here { H.here host.now first.new }
@@ -34,7 +34,7 @@ fn collect_all<H: Host>(host: &H, first: &mut H::Pass, workers: &mut Vec<Worker<
 }
 
 /// The worker's pass has then seen what pass 0 has, which stays as it is.
-fn tell<H: Host>(host: &H, first: &mut H::Pass, worker: &mut Worker<H>)
+fn tell<H: Host>(host: &H, first: &mut H::Pass, worker: &mut Worker<H::Pass>)
     requires here { H.here host.now first.old × H.here host.now worker.old.pass }
     requires begins { Begins (H.knows worker.old.pass).seen (H.knows first.old).seen }
     ensures here { H.here host.now first.new × H.here host.now worker.new.pass }
@@ -45,7 +45,7 @@ fn tell<H: Host>(host: &H, first: &mut H::Pass, worker: &mut Worker<H>)
 }
 
 /// Each worker's pass has then seen what pass 0 has, which stays as it is.
-fn tell_all<H: Host>(host: &H, first: &mut H::Pass, workers: &mut Vec<Worker<H>>)
+fn tell_all<H: Host>(host: &H, first: &mut H::Pass, workers: &mut Vec<Worker<H::Pass>>)
     requires here { H.here host.now first.old }
     requires workers { AllByRecursion (λ w. H.here host.now w.pass) workers.old.items }
     requires begin { AllByRecursion (λ v. Begins v.known.seen (H.knows first.old).seen) (map (hand H.knows) workers.old.items) }
@@ -59,7 +59,7 @@ fn tell_all<H: Host>(host: &H, first: &mut H::Pass, workers: &mut Vec<Worker<H>>
 }
 
 /// Pass 0 and each worker's pass meet, both ways.
-pub(crate) fn gather<H: Host>(host: &H, first: &mut H::Pass, workers: &mut Vec<Worker<H>>)
+pub(crate) fn gather<H: Host>(host: &H, first: &mut H::Pass, workers: &mut Vec<Worker<H::Pass>>)
     requires here { H.here host.now first.old }
     requires workers { AllByRecursion (λ w. H.here host.now w.pass) workers.old.items }
     ensures here { H.here host.now first.new }

@@ -23,9 +23,9 @@ fn work<R: Threads + Wait + Sync, H: Host + Sync>(
     rt: &R,
     alloc: Global,
     host: &H,
-    workers: Vec<Worker<H>>,
+    workers: Vec<Worker<H::Pass>>,
     phase: &H::Phase,
-) -> Vec<Worker<H>>
+) -> Vec<Worker<H::Pass>>
 where
     H::Pass: Send,
     H::Phase: Sync,
@@ -43,7 +43,7 @@ where
 }
 
 /// Whether one of the workers has stopped.
-fn has_stopped<H: Host>(workers: &[Worker<H>]) -> bool
+fn has_stopped<P>(workers: &[Worker<P>]) -> bool
     ensures { result ≡ list_any (λ w. w.stopped) workers.now }
 {
     workers.iter().any(|worker| worker.stopped)
@@ -62,9 +62,9 @@ pub fn run_phase<R: Threads + Wait + Sync, H: Host + Sync>(
     alloc: Global,
     host: &H,
     first: &mut H::Pass,
-    workers: Vec<Worker<H>>,
+    workers: Vec<Worker<H::Pass>>,
     phase: &H::Phase,
-) -> (Vec<Worker<H>>, Result<(), NoMemory>)
+) -> (Vec<Worker<H::Pass>>, Result<(), NoMemory>)
 where
     H::Pass: Send,
     H::Phase: Sync,

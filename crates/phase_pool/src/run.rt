@@ -21,9 +21,9 @@ fn run_each<R: Threads + Wait + Sync, H: Host + Sync>(
     alloc: Global,
     host: &H,
     first: &mut H::Pass,
-    workers: Vec<Worker<H>>,
+    workers: Vec<Worker<H::Pass>>,
     phases: &[H::Phase],
-) -> (Vec<Worker<H>>, Result<(), NoMemory>)
+) -> (Vec<Worker<H::Pass>>, Result<(), NoMemory>)
 where
     H::Pass: Send,
     H::Phase: Sync,
@@ -63,9 +63,9 @@ pub fn run_phases<R: Threads + Wait + Sync, H: Host + Sync>(
     alloc: Global,
     host: &H,
     first: &mut H::Pass,
-    workers: Vec<Worker<H>>,
+    workers: Vec<Worker<H::Pass>>,
     phases: &[H::Phase],
-) -> (Vec<Worker<H>>, Result<(), NoMemory>)
+) -> (Vec<Worker<H::Pass>>, Result<(), NoMemory>)
 where
     H::Pass: Send,
     H::Phase: Sync,

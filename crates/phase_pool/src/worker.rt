@@ -1,9 +1,9 @@
 //! A worker.
-use crate::host::Host;
 
 /// A worker: its pass, and whether it has stopped.
-pub struct Worker<H: Host> {
-    pub pass: H::Pass,
+#[derive(Drop)]
+pub struct Worker<P> {
+    pub pass: P,
     /// Memory wanted, for this worker or for another one, and it takes no job any more.
     pub stopped: bool,
 }

@@ -1,4 +1,4 @@
-use Rattle.std.proofs.Common.{◌≡◌, ◌∙◌, sym, subst, map, arith}
+use Rattle.std.proofs.Common.{◌≡◌, ◌∙◌, ◌<◌, length, sym, subst, map, arith}
 use Rattle.std.proofs.lemmas.List.{take_all}
 use Rattle.phase_pool.specs.Passes.{Meets}
 use Rattle.phase_pool.specs.Workers.{hand}
@@ -16,9 +16,11 @@ collect-requires g c =
     let ys = c.loop-at.workers.items in
     let e = c.index_mut.result.now in
     let same = to_len _ c.loop-at.at xs ys c.loop-at.invariant.1 in
-    let is = to_same _ c.loop-at.at xs ys e (omega (arith, c.loop-at-test.true, same, c.len-at-end.ensures, c.args.workers.now.ok.0)) c.loop-at.invariant.1 in
-    (c.loop-at.invariant.2, subst (λ w. g.H.Host.here c.args.host.now w.pass) (sym (c.index_mut.ensures.value ∙ is))
-     (all_at (λ w. g.H.Host.here c.args.host.now w.pass) xs c.loop-at.at e (omega (arith, c.loop-at-test.true, c.len-at-end.ensures, c.args.workers.now.ok.0)) c.requires.workers))
+    let is = to_same _ c.loop-at.at xs ys e (omega (arith, c.loop-at-test.true, same, c.len-at-end.ensures, c.args.workers.now.ok.0)) c.loop-at.invariant.1 in (
+      c.loop-at.invariant.2,
+      subst (λ w. g.H.Host.here c.args.host.now w.pass) (sym (c.index_mut.ensures.value ∙ is))
+          (all_at (λ w. g.H.Host.here c.args.host.now w.pass) xs c.loop-at.at e (omega (arith, c.loop-at-test.true, c.len-at-end.ensures, c.args.workers.now.ok.0)) c.requires.workers),
+    )
 
 pub loop-at-preserved : goal.loop-at-preserved
 loop-at-preserved g c =
@@ -27,7 +29,7 @@ loop-at-preserved g c =
     let ys = c.loop-at.workers.items in
     let e = c.index_mut.result.now in
     let same = to_len _ c.loop-at.at xs ys c.loop-at.invariant.1 in
-    let there = omega (arith, c.loop-at-test.true, same, c.len-at-end.ensures, c.args.workers.now.ok.0) in
+    let there : c.loop-at.at < length ys = omega (arith, c.loop-at-test.true, same, c.len-at-end.ensures, c.args.workers.now.ok.0) in
     let is = to_same _ c.loop-at.at xs ys e there c.loop-at.invariant.1 in
     let meets = subst (λ w. Meets (knows c.loop-at.first) (knows w.pass) (knows c.collect.new.first)) (c.index_mut.ensures.value ∙ is) c.collect.ensures.meets in
     let stays = subst (λ v. g.H.Host.here c.args.host.now c.collect.new.worker.pass × (hand knows c.collect.new.worker ≡ hand knows v)) c.index_mut.ensures.value (c.collect.ensures.here.1, c.collect.ensures.worker) in (
