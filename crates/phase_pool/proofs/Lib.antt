@@ -5,3 +5,4 @@ pub mod Meetings
 pub mod Stages
 pub mod Phases
 pub mod Runs
+pub mod Results

@@ -43,8 +43,8 @@ where
 }
 
 /// Whether one of the workers has stopped.
-fn has_stopped<P>(workers: &[Worker<P>]) -> bool
-    ensures { result ≡ list_any (λ w. w.stopped) workers.now }
+fn has_stopped<P>(workers: &Vec<Worker<P>>) -> bool
+    ensures { result ≡ list_any (λ w. w.stopped) workers.now.items }
 {
     workers.iter().any(|worker| worker.stopped)
 }
@@ -78,9 +78,12 @@ where
     ensures cut { OnErr result.1 (Came (H.opened host.now) (IsCutPhase (H.makes host.now) (length workers.items) (H.plan phase.now) (replay (H.opened host.now) (H.knows first.old).seen)) (H.knows first.old) (map (hand H.knows) workers.items) (H.knows first.new) (map (hand H.knows) result.0.items)) }
 {
     let mut workers = workers;
-    if let Err(error) = host.schedule(rt, alloc, first, phase) {
-        gather(host, first, &mut workers);
-        return (workers, Err(error));
+    match host.schedule(rt, alloc, first, phase) {
+        Ok(()) => {}
+        Err(error) => {
+            gather(host, first, &mut workers);
+            return (workers, Err(error));
+        }
     }
     gather(host, first, &mut workers);
     let mut workers = work(rt, alloc, host, workers, phase);

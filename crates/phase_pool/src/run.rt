@@ -42,8 +42,9 @@ where
     for phase in phases {
         let (back, ran) = run_phase(rt, alloc, host, first, workers, phase);
         workers = back;
-        if let Err(error) = ran {
-            return (workers, Err(error));
+        match ran {
+            Ok(()) => {}
+            Err(error) => return (workers, Err(error)),
         }
     }
     (workers, Ok(()))
