@@ -1,4 +1,4 @@
-use Rattle.std.proofs.Common.{◌<◌, map, sym, subst}
+use Rattle.std.proofs.Common.{◌∙◌, ◌<◌, map, sym, subst}
 use Rattle.std.proofs.lemmas.List.{length-map}
 use Rattle.ws_core.specs.Histories.{replay}
 use Rattle.run_order.specs.Orders.{IsCutPhase, IsPhase}
@@ -7,6 +7,12 @@ use Rattle.phase_pool.specs.Phases.{Came}
 use Rattle.phase_pool.proofs.Phases.{cut_cancelling, cut_scheduling, cut_working, go_on_all, go_on_gathered, whole}
 use Rattle.phase_pool.proofs.Results.{err_on, ok_holds, ok_on}
 use Rattle.phase_pool.proofs.phase.run_phase.Goals as goal
+
+pub schedule-requires-clause-zeroth : goal.schedule-requires-clause-zeroth
+schedule-requires-clause-zeroth g c = c.requires.together.zeroth
+
+pub cancel-cancelled-requires-clause-zeroth : goal.cancel-cancelled-requires-clause-zeroth
+cancel-cancelled-requires-clause-zeroth g c = c.gather-3.ensures.gathers.looks.number ∙ (c.gather-2.ensures.gathers.looks.number ∙ (c.in-Ok.ensures.done.number ∙ c.requires.together.zeroth))
 
 pub returns-in-Err-clause-cut : goal.returns-in-Err-clause-cut
 returns-in-Err-clause-cut g c =
