@@ -1,4 +1,4 @@
-use Rattle.std.proofs.Common.{◌≡◌, ◌∙◌, ◌<◌, map, refl, sym, subst, arith}
+use Rattle.std.proofs.Common.{◌≡◌, ◌∙◌, ◌<◌, length, map, refl, sym, subst, arith}
 use Rattle.std.proofs.lemmas.List.{length-map}
 use Rattle.ws_core.specs.Histories.{replay}
 use Rattle.run_order.specs.Lists.{Grew}
@@ -44,7 +44,7 @@ returns-in-Err-clause-cut g c =
     let came = err_at c.run_phase-back.result.1 _ c.in-Err.is c.run_phase-back.ensures.cut in
     let grew = subst (λ n. Grew (IsCutPhase made n (plan c.phase-item.result) (replay s k.seen)) k.seen k'.seen) c.loop-phase.invariant.3 came.grew in
     runs_cut made plan _ s c.args.phases.now c.loop-phase.phase-index c.phase-item.result (knows c.args.first.now).seen k.seen k'.seen c.loop-phase-test.true c.loop-phase.invariant.5
-    (subst (λ p. Grew (IsCutPhase made _ (plan p) (replay s k.seen)) k.seen k'.seen) c.phase-item.is grew)
+    (subst (λ p. Grew (IsCutPhase made (length c.args.workers.items) (plan p) (replay s k.seen)) k.seen k'.seen) c.phase-item.is grew)
 
 pub loop-phase-preserved : goal.loop-phase-preserved
 loop-phase-preserved g c =
@@ -64,7 +64,7 @@ loop-phase-preserved g c =
       sym (length-map c.run_phase-back.result.0.items f) ∙ (came.len ∙ (length-map c.loop-phase.workers.items f ∙ c.loop-phase.invariant.3)),
       ok_at c.run_phase-back.result.1 _ c.in-Ok.is c.run_phase-back.ensures.all_go_on,
       runs_next made plan _ s c.args.phases.now c.loop-phase.phase-index c.phase-item.result (knows c.args.first.now).seen k.seen k'.seen c.loop-phase-test.true c.loop-phase.invariant.5
-          (subst (λ p. Grew (IsPhase made _ (plan p) (replay s k.seen)) k.seen k'.seen) c.phase-item.is grew),
+          (subst (λ p. Grew (IsPhase made (length c.args.workers.items) (plan p) (replay s k.seen)) k.seen k'.seen) c.phase-item.is grew),
     )
 
 pub returns-clause-whole : goal.returns-clause-whole
