@@ -1,5 +1,5 @@
 -- Lists whose places are related, and such of which those before a place are.
-use Rattle.std.proofs.Common.{◌≡◌, ◌<◌, ◌≤◌, ◌+◌, ℕ, zero, suc, List, [], ◌∷◌, length, map, refl, sym, ap, ◌∙◌, subst, arith, get_or, slice_set}
+use Rattle.std.proofs.Common.{◌≡◌, ◌<◌, ◌≤◌, ◌+◌, ℕ, zero, suc, List, [], ◌∷◌, length, map, refl, ap, ◌∙◌, subst, arith, get_or, slice_set}
 use Rattle.std.specs.List.{AllByRecursion}
 use Rattle.job_pool.specs.Workers.{Pairs}
 

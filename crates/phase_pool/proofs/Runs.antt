@@ -1,19 +1,19 @@
 -- Phases one after another, and what all passes have at the end.
-use Rattle.std.proofs.Common.{◌≡◌, ◌∙◌, ◌⊎◌, inl, inr, ◌<◌, ◌≤◌, ◌+◌, ℕ, zero, suc, Bool, true, false, List, [], ◌∷◌, ◌++◌, length, map, take, drop, get_or, refl, sym, ap, subst, arith}
-use Rattle.std.specs.List.{AllByRecursion, list_any}
+use Rattle.std.proofs.Common.{◌≡◌, ◌∙◌, inl, inr, ◌<◌, ◌≤◌, ◌+◌, ℕ, zero, suc, List, [], ◌∷◌, length, map, take, drop, get_or, sym, subst, arith}
+use Rattle.std.specs.List.{AllByRecursion}
 use Rattle.std.proofs.lemmas.List.{take_all, length-map, get_or-map}
 use Rattle.core_event.specs.declared.entry.Entry.{Entry}
 use Rattle.ws_core.specs.States.{Moment}
 use Rattle.ws_core.specs.Histories.{replay}
-use Rattle.run_order.specs.Lists.{own, Begins, Grew}
+use Rattle.run_order.specs.Lists.{Begins, Grew}
 use Rattle.run_order.specs.Plans.{Phase}
 use Rattle.run_order.specs.Parts.{Making}
 use Rattle.run_order.specs.Fronts.{Front}
 use Rattle.run_order.specs.Orders.{IsCutPhase, IsPhase, Phases}
 use Rattle.run_order.proofs.Counted.{list_at, phases_next}
 use Rattle.phase_pool.specs.Passes.{Known}
-use Rattle.phase_pool.specs.Workers.{AllGoOn, Hand, LetIn, Together, nobody, worker_at}
-use Rattle.phase_pool.specs.Phases.{Came, CutPhases}
+use Rattle.phase_pool.specs.Workers.{Hand, LetIn, Together, nobody, worker_at}
+use Rattle.phase_pool.specs.Phases.{CutPhases}
 use Rattle.phase_pool.specs.Inside.Meeting.{Gathers, HasSeen, IsOfOne}
 use Rattle.phase_pool.proofs.Pairs.{pairs_at, pairs_len}
 use Rattle.phase_pool.proofs.Passes.{begins_both}

@@ -1,5 +1,5 @@
 -- A phase by its stages: pass 0 schedules, all meet, the workers work, all meet, pass 0 looks and cancels, all meet.
-use Rattle.std.proofs.Common.{◌≡◌, ◌∙◌, ◌⊎◌, inl, inr, ◌<◌, ◌+◌, ℕ, zero, suc, List, [], ◌∷◌, length, refl, sym, ap, subst, arith}
+use Rattle.std.proofs.Common.{◌≡◌, ◌∙◌, inl, inr, ◌<◌, ◌+◌, ℕ, suc, List, [], ◌∷◌, length, refl, sym, subst, arith}
 use Rattle.core_event.specs.declared.entry.Entry.{Entry}
 use Rattle.job_queue.specs.Queues.{live}
 use Rattle.ws_core.specs.States.{Moment}
@@ -7,7 +7,7 @@ use Rattle.ws_core.specs.Histories.{replay, Legal}
 use Rattle.run_order.specs.Lists.{own, Begins, Grew}
 use Rattle.run_order.specs.Fronts.{Front, Met}
 use Rattle.run_order.proofs.Lists.{begins_on}
-use Rattle.phase_pool.specs.Passes.{Known, Makes, LooksOn, Finds}
+use Rattle.phase_pool.specs.Passes.{Known, Makes, Finds}
 use Rattle.phase_pool.specs.Workers.{Hand, nobody, worker_at, Together}
 use Rattle.phase_pool.specs.Inside.Meeting.{Gathers, HasSeen, IsOfOne}
 use Rattle.phase_pool.proofs.Pairs.{pairs_at, pairs_len}

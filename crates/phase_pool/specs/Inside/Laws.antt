@@ -1,5 +1,5 @@
 -- Whole parts after whole parts, as a board's laws want them.
-use Rattle.std.proofs.Common.{◌≡◌, ◌∙◌, ℕ, Bool, true, false, List, [], ◌++◌, refl, sym, ap, subst, append-nil}
+use Rattle.std.proofs.Common.{◌∙◌, ℕ, Bool, true, false, List, [], ◌++◌, refl, sym, ap, subst, append-nil}
 use Rattle.core_event.specs.declared.entry.Entry.{Entry}
 use Rattle.run_order.specs.Lists.{own, Grew}
 use Rattle.run_order.specs.Plans.{Phase}

@@ -2,7 +2,6 @@ use Rattle.std.proofs.Common.{sym, subst, map}
 use Rattle.std.specs.List.{AllByRecursion}
 use Rattle.job_pool.specs.Workers.{Pairs}
 use Rattle.run_order.specs.Lists.{Begins}
-use Rattle.phase_pool.specs.Passes.{Known}
 use Rattle.phase_pool.specs.Workers.{Hand, hand}
 use Rattle.phase_pool.specs.Inside.Meeting.{Gathers, HasSeen}
 use Rattle.phase_pool.proofs.Pairs.{pairs_all, pairs_map, pairs_same}

@@ -1,4 +1,4 @@
-use Rattle.std.proofs.Common.{◌≡◌, ◌∙◌, ◌<◌, length, refl, sym, ap, subst, arith}
+use Rattle.std.proofs.Common.{◌∙◌, ◌<◌, length, refl, sym, ap, subst, arith}
 use Rattle.run_order.specs.Lists.{Begins}
 use Rattle.phase_pool.specs.Passes.{Known}
 use Rattle.phase_pool.specs.Workers.{Hand, hand}
