@@ -71,10 +71,14 @@ where
     }
 
     fn run<R: Wait>(&self, rt: &R, worker: &mut Worker<H::Pass>, job: H::Job) {
-        match self
-            .host
-            .perform(rt, self.alloc, &mut worker.pass, self.phase, job)
-        {
+        match self.host.perform(
+            rt,
+            self.alloc,
+            &mut worker.pass,
+            self.phase,
+            job,
+            &self.wanting,
+        ) {
             Ok(()) => {}
             Err(_) => self.stop(worker),
         }

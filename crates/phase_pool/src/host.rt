@@ -14,6 +14,7 @@ ghost use Rattle.phase_pool.specs.Parts.{HasTaken, IsRest, IsTake};
 use crate::NoMemory;
 use std::alloc::Global;
 use std::sync::Wait;
+use std::sync::atomic::AtomicBool;
 
 /// Where phases are run: a workspace that passes share, each of which has seen a beginning of one history. Its calls may wait
 /// for others, but for `meet`, and others may make entries while one of them is made.
@@ -76,7 +77,8 @@ pub trait Host {
         ensures nothing { OnErr result (LooksOn (knows pass.old) (knows pass.new)) };
 
     /// The pass does the commands of the job of the phase that it took, each once and in order, and finishes it. Where memory
-    /// wants it stops where it is.
+    /// wants it stops where it is. So it may where `stop` is set too, since memory wanted for another pass: what it waits for
+    /// may be what that one has.
     fn perform<R: Wait>(
         &self,
         rt: &R,
@@ -84,6 +86,7 @@ pub trait Host {
         pass: &mut Self::Pass,
         phase: &Self::Phase,
         job: Self::Job,
+        stop: &AtomicBool,
     ) -> Result<(), NoMemory>
         requires here { here self.now pass.old }
         requires took { (before : Known) × Makes (IsTake before.number (name job)) before (knows pass.old) }

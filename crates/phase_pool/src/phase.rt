@@ -53,8 +53,8 @@ fn has_stopped<P>(workers: &Vec<Worker<P>>) -> bool
 /// waits or is run, and pass 0 cancels those that sleep. Between these, and at the end, all passes meet, both ways. The
 /// workers are given back, each in its place.
 ///
-/// Where memory wants, pass 0 or the worker for which it does stops where it is, and each other worker before it takes the
-/// next job; then one that waits for what the stopped one is to do waits for ever. The passes have met then too.
+/// Where memory wants, pass 0 or the worker for which it does stops where it is, and each other worker at the latest before it
+/// takes the next job. The passes have met then too.
 ///
 /// Nothing is said of how long it takes, nor that it ends.
 pub fn run_phase<R: Threads + Wait + Sync, H: Host + Sync>(
