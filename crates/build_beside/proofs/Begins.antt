@@ -60,6 +60,7 @@ use Rattle.build_host.proofs.Growing.{mine_grows, since_grows}
 use Rattle.build_host.proofs.Lists.{drop_all}
 use Rattle.build_beside.specs.Turns.{Answered, IsOpening, Made, pass_of, session}
 use Rattle.build_beside.specs.Beside.{book_in}
+use Rattle.build_beside.specs.UnderWay.{HasBegun}
 use Rattle.build_beside.proofs.Batches.{others_batches}
 use Rattle.build_beside.proofs.Books.{mine_aside, since_aside}
 use Rattle.build_beside.proofs.Others.{may_of, others_serve}
@@ -107,7 +108,7 @@ module _ (n : ℕ) (s : Moment) (opening : IsOpening s) where
       since_grows n start e deed (session s (g ++ x.made.between)) (session s h) (omega (arith, le, longer)) (made_steps n e s g h opening x.made) (ap (deed_of e) (sym x.told) ∙ did)
       ∙ ap (λ z. z ++ at (state_of (met e a g h x)) deed ∷ []) (since_aside n start s g x.made.between le x.made.others)
 
-  made_longer : (e : Event) (g h : List Entry) → Made n e s g h → length g ≤ length h
+  pub made_longer : (e : Event) (g h : List Entry) → Made n e s g h → length g ≤ length h
   made_longer e g h m =
       let x = entry_of (replay s (g ++ m.between)) n e in
       let one = ap length m.are ∙ length-append (g ++ m.between) (x ∷ []) in
@@ -266,6 +267,9 @@ module _ (n : ℕ) (s : Moment) (opening : IsOpening s) where
                 (did_since (length g0) (events.Begin root_rule) (books.Begin None) a0 g0 g1 x0 (omega arith) (ap (λ o. Some (books.Begin o)) done))
                 ∙ ap (λ z. ((z ++ at first (books.Begin None) ∷ []) ++ at second books.Batch ∷ []) ++ at (state_of asked) (books.Checkout kind scope (started.Plan p)) ∷ [])
                 (ap (entries_of n (replay s (take (length g0) g0))) (drop_all g0))
+
+            pub begun_entries : HasBegun kind scope s n g0 g3
+            begun_entries = record { first = first; second = second; third = state_of asked; plan = p; are = asked_mine (started.Plan p) is }
 
             pub begins : (i : ℕ) (c told : List Told) → Begins kind scope (book_in s n i c told g0) p (book_in s n (length g0) told told g3)
             begins i c told = record {

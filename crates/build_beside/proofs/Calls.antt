@@ -1,5 +1,5 @@
 -- Builders were called for what the services were asked in a build beside others.
-use Rattle.std.proofs.Common.{◌≡◌, ◌≢◌, ◌⊎◌, inl, inr, ◌<◌, ◌==◌, ℕ, Bool, true, false, if◌then◌else◌, eqb-true, true≢false, List, [], ◌∷◌, ◌++◌, map, Option, Some, None, refl, sym, ap, ◌∙◌, subst, append_assoc, append-nil}
+use Rattle.std.proofs.Common.{◌≡◌, ◌≢◌, ◌⊎◌, inl, inr, ◌<◌, ◌==◌, ℕ, Bool, true, false, if◌then◌else◌, eqb-true, true≢false, List, [], ◌∷◌, ◌++◌, map, Option, Some, None, refl, sym, ap, ◌∙◌, subst, append_assoc, append-nil, arith}
 use Rattle.std.specs.Prelude.{option_and_then, slice_get}
 use Rattle.std.specs.List.{AllByRecursion, flat_map}
 use Rattle.std.specs.Option.{option_map, option_to_list}
@@ -12,7 +12,7 @@ use Rattle.builder_api.specs.Meanings.{Meanings}
 use Rattle.builder_api.specs.Told.{Built, Cleaned, Told}
 use Rattle.build_due.specs.declared.site.Site.{Site}
 use Rattle.build_due.specs.Sites.{site, site_at}
-use Rattle.build_laws.specs.States.{item}
+use Rattle.build_laws.specs.States.{Finds, item}
 use Rattle.build_plan.specs.Descriptions.{desc_at}
 use Rattle.build_run.specs.Books as books
 use Rattle.build_run.specs.Books.{Book}
@@ -30,15 +30,18 @@ use Rattle.core_event.specs.Events.{service_of}
 use Rattle.service_desk.specs.Desks.{is_building}
 use Rattle.service_desk.specs.Sites.{site_in}
 use Rattle.ws_core.specs.States.{Moment}
-use Rattle.ws_core.specs.Histories.{after, replay}
+use Rattle.ws_core.specs.Histories.{Legal, after, replay}
 use Rattle.ws_core.specs.Histories.{entry_of as entry_made}
+use Rattle.ws_core.proofs.Grown.{replay_append}
 use Rattle.ws_core.proofs.ServingPass.{serving_named}
 use Rattle.ws_core.proofs.Stepped.{Concern, OfOperation, OfService, OfManager, concern_of}
 use Rattle.ws_turn.specs.Lists.{of}
 use Rattle.pass_turns.proofs.There.{others}
 use Rattle.pass_history.specs.Served.{Served, served, served_by, services_of, site_named, was_done}
+use Rattle.pass_history.proofs.Given.{replay_next}
 use Rattle.pass_history.proofs.Serving.{IsQuiet, quiet_served}
 use Rattle.pass_history.proofs.Standing.{OthersQuiet, others_stand}
+use Rattle.build_core.specs.States.{state_of}
 use Rattle.build_core.specs.Histories.{entries_of, entry_of, may_build}
 use Rattle.build_core.proofs.Entered.{entries_append, others_add_none}
 use Rattle.build_history.specs.Calls.{NamedCall, WereCalled, calls_for, calls_of, command_at}
@@ -48,12 +51,14 @@ use Rattle.build_history.proofs.Calls.{asked, call_of, calls_read, done_called, 
 use Rattle.build_history.proofs.Keeping.{later_replies}
 use Rattle.build_history.proofs.Lists.{all_append, flat_append, same_rest}
 use Rattle.build_history.proofs.Went.{Works, went_works}
-use Rattle.build_host.specs.Hosts.{StayBuilders}
 use Rattle.build_host.proofs.Handing.{it_serves}
 use Rattle.build_beside.specs.Called.{WereServed, calls_in, event_calls, service_calls}
-use Rattle.build_beside.specs.Beside.{IsAside, MayReturn, check_in}
-use Rattle.build_beside.specs.Turns.{Made, pass_of}
-use Rattle.build_beside.proofs.Ends.{IsLast}
+use Rattle.build_beside.specs.Beside.{IsAside, MayReturn, book_in, check_in}
+use Rattle.build_beside.specs.UnderWay.{CameThrough, HasBegun, IsLast, MayGoOn, WentAside, beginning}
+use Rattle.build_beside.specs.Turns.{IsOpening, Looked, Made, pass_of}
+use Rattle.build_beside.proofs.Books.{finds_on, mine_aside}
+use Rattle.build_beside.proofs.Others.{Keeps}
+use Rattle.build_beside.proofs.Turns.{keeps_between}
 
 -- the entries of the pass in a history, as builds read them
 abbrev mine : ℕ → Moment → List Entry → List books.Entry
@@ -206,48 +211,50 @@ came_called ms kind project b o last came front es none are =
 
 -- ---- the services may be given back
 
-module _ (ms : Meanings) (kind : BuildKind) (project : Option (List ℕ)) (s : Moment) (n : ℕ) (o : BuildOutcome) (k g h : List Entry) (b last : Book) (told : List Told) (came : CameTo ms kind project b o last) (began : b.mine ≡ mine n s k) (is : IsLast n s told h last) where
-  -- the entries of the build, of which the first ones, up to the checkout, ask nothing
-  pub may_return : (since : List Entry) → h ≡ g ++ since → AllByRecursion (IsAside n) since → n < (replay s h).manager.passes.next → may_build (replay s h) n ≡ true → StayBuilders ms b.told told
-      → (front : List books.Entry) → mine n s g ≡ mine n s k ++ front → flat_map asked front ≡ [] → MayReturn ms s n o g h b.told told
-  may_return since are aside below may stays front first none = record {
+module _ (ms : Meanings) (kind : BuildKind) (project : Option (List ℕ)) (s : Moment) (n : ℕ) (o : BuildOutcome) (k g h : List Entry) (old new : List Told) (begun : HasBegun kind project s n k g)
+    (through : CameThrough ms kind project s n o k g h old new) where
+  abbrev since : List Entry
+  since = through.aside.since
+
+  abbrev es : List books.Entry
+  es = entries_of n (replay s g) since
+
+  abbrev front : List books.Entry
+  front = beginning begun.first begun.second begun.third kind project begun.plan
+
+  whole : through.last.mine ≡ mine n s k ++ (front ++ es)
+  whole =
+      through.is_last.mine
+      ∙ (ap (mine n s) through.aside.are
+      ∙ (entries_append n s g since ∙ (ap (λ z. z ++ es) begun.are ∙ append_assoc (mine n s k) front es)))
+
+  called : WereCalled (flat_map asked es) old new
+  called = subst (WereCalled (flat_map asked es) old) through.is_last.told (came_called ms kind project (book_in s n 0 [] old k) o through.last through.came front es refl whole)
+
+  returned : Reply → Entry
+  returned r = record { pass = n; event = check_in o; reply = r }
+
+  all : (r : Reply) → calls_in (services_of (replay s g) (since ++ returned r ∷ [])) ≡ flat_map asked es
+  all r =
+      let u = replay (replay s g) since in
+      aside_calls n (replay s g) (since ++ returned r ∷ []) (all_append (IsAside n) since (returned r ∷ []) through.aside.aside (inl (record { pass = refl; building = refl }), tt))
+      ∙ (ap (flat_map asked) (entries_append n (replay s g) since (returned r ∷ []))
+      ∙ (flat_append asked es (entries_of n u (returned r ∷ []))
+      ∙ (ap (λ z. flat_map asked es ++ flat_map asked z) (append-nil (entry_of n u (returned r)) ∙ own_entry n u (returned r) refl)
+      ∙ append-nil (flat_map asked es))))
+
+  -- builders were called for what the services were asked since the pass took them
+  pub may_return : MayReturn ms s n o g h old new
+  may_return = record {
     since = since;
-    are = are;
-    aside = aside;
-    below = below;
-    may = may;
-    served = λ r done. record { stays = stays; called = subst (λ cs. WereCalled cs b.told told) (sym (all r)) called };
+    are = through.aside.are;
+    aside = through.aside.aside;
+    below = through.goes_on.below;
+    may = through.goes_on.may;
+    served = λ r done. record { stays = through.stays; called = subst (λ cs. WereCalled cs old new) (sym (all r)) called };
   }
-    where
-      es : List books.Entry
-      es = entries_of n (replay s g) since
-
-      whole : last.mine ≡ b.mine ++ (front ++ es)
-      whole =
-          is.mine ∙ (ap (mine n s) are ∙ (entries_append n s g since
-          ∙ (ap (λ z. z ++ es) first ∙ (append_assoc (mine n s k) front es ∙ ap (λ z. z ++ (front ++ es)) (sym began)))))
-
-      called : WereCalled (flat_map asked es) b.told told
-      called = subst (WereCalled (flat_map asked es) b.told) is.told (came_called ms kind project b o last came front es none whole)
-
-      returned : Reply → Entry
-      returned r = record { pass = n; event = check_in o; reply = r }
-
-      all : (r : Reply) → calls_in (services_of (replay s g) (since ++ returned r ∷ [])) ≡ flat_map asked es
-      all r =
-          let u = replay (replay s g) since in
-          aside_calls n (replay s g) (since ++ returned r ∷ []) (all_append (IsAside n) since (returned r ∷ []) aside (inl (record { pass = refl; building = refl }), tt))
-          ∙ (ap (flat_map asked) (entries_append n (replay s g) since (returned r ∷ []))
-          ∙ (flat_append asked es (entries_of n u (returned r ∷ []))
-          ∙ (ap (λ z. flat_map asked es ++ flat_map asked z) (append-nil (entry_of n u (returned r)) ∙ own_entry n u (returned r) refl)
-          ∙ append-nil (flat_map asked es))))
 
 -- ---- the entries of a build while the pass has the services
-
-pub record WentAside (n : ℕ) (g h : List Entry) : Type 0 where
-  pub since : List Entry
-  pub are : h ≡ g ++ since
-  pub aside : AllByRecursion (IsAside n) since
 
 pub aside_none : (n : ℕ) (g : List Entry) → WentAside n g g
 aside_none n g = record { since = []; are = sym (append-nil g); aside = tt }
@@ -269,3 +276,37 @@ made_aside n e s k g h building may m went =
     quiet : OthersQuiet n (replay s g) m.between
     quiet = others_stand (replay s g) n m.between (later_replies s g m.between m.legal_found.replies) m.others
         (serving_named (replay s g).manager.passes (is_building (replay s g).desk.serving) n (it_serves (replay s g) n may))
+
+-- ---- others go on
+
+module _ (n : ℕ) (s : Moment) (opening : IsOpening s) (h j : List Entry) (looked : Looked n s h j) (goes_on : MayGoOn s n h) where
+  kept : Keeps n (replay s h) (replay s (h ++ looked.between))
+  kept = keeps_between n s h looked.between opening goes_on.below goes_on.may (subst (Legal s) looked.are looked.legal) looked.others
+
+  pub looked_goes : MayGoOn s n j
+  looked_goes = subst (MayGoOn s n) (sym looked.are) (record {
+    below =
+        let same = ap (λ (z : Moment). z.manager.passes.next) (replay_append s h looked.between) in
+        let up = replay_next (replay s h) looked.between in
+        let lt = goes_on.below in
+        omega (arith, same, up, lt);
+    may = kept.may;
+  })
+
+  pub looked_last : (told : List Told) (last : Book) → IsLast n s told h last → IsLast n s told j last
+  looked_last told last is = record {
+    mine = is.mine ∙ sym (ap (mine n s) looked.are ∙ mine_aside n s h looked.between looked.others);
+    told = is.told;
+    finds = finds_on last.now (state_of (replay s h)) (state_of (replay s j)) is.finds (subst (λ l. Finds (state_of (replay s h)) (state_of (replay s l))) (sym looked.are) kept.finds);
+  }
+
+  pub looked_aside : (g : List Entry) → WentAside n g h → WentAside n g j
+  looked_aside g went = record {
+    since = went.since ++ looked.between;
+    are = looked.are ∙ (ap (λ z. z ++ looked.between) went.are ∙ append_assoc g went.since looked.between);
+    aside = all_append (IsAside n) went.since looked.between went.aside (quiet_aside n looked.between looked.others quiet.quiet);
+  }
+    where
+      quiet : OthersQuiet n (replay s h) looked.between
+      quiet = others_stand (replay s h) n looked.between (later_replies s h looked.between (subst (Legal s) looked.are looked.legal).replies) looked.others
+          (serving_named (replay s h).manager.passes (is_building (replay s h).desk.serving) n (it_serves (replay s h) n goes_on.may))

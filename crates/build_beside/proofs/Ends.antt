@@ -17,11 +17,12 @@ use Rattle.ws_core.specs.States.{Moment}
 use Rattle.ws_core.specs.Histories.{replay}
 use Rattle.ws_core.specs.Steps.{step}
 use Rattle.build_core.specs.States.{state_of}
-use Rattle.build_core.specs.Histories.{entries_of, may_build}
+use Rattle.build_core.specs.Histories.{entries_of}
 use Rattle.build_core.proofs.Leaves.{check_in_leaves}
 use Rattle.build_host.proofs.Handing.{it_serves}
 use Rattle.build_beside.specs.Turns.{Answered, IsOpening}
 use Rattle.build_beside.specs.Beside.{book_in, check_in}
+use Rattle.build_beside.specs.UnderWay.{IsLast, MayGoOn}
 use Rattle.build_beside.proofs.Begins.{did_mine, met, plain_serves}
 use Rattle.build_beside.proofs.Books.{finds_on}
 use Rattle.build_beside.proofs.Others.{Keeps}
@@ -30,19 +31,13 @@ use Rattle.build_beside.proofs.Turns.{keeps_between, made_steps}
 more : {X : Type 0} (a b c ds : List X) (d : X) → b ≡ a ++ ds → c ≡ b ++ d ∷ [] → c ≡ a ++ (ds ++ d ∷ [])
 more a b c ds d p q = q ∙ ap (λ z. z ++ d ∷ []) p ∙ append_assoc a ds (d ∷ [])
 
--- a book that has the entries of a pass that may build, and the state that they left, but for markers
-pub record IsLast (n : ℕ) (s : Moment) (told : List Told) (g : List Entry) (last : Book) : Type 0 where
-  pub mine : last.mine ≡ entries_of n s g
-  pub told : last.told ≡ told
-  pub finds : Finds last.now (state_of (replay s g))
-
-module _ (n : ℕ) (s : Moment) (opening : IsOpening s) (g h : List Entry) (lt : n < (replay s g).manager.passes.next) (may : may_build (replay s g) n ≡ true)
+module _ (n : ℕ) (s : Moment) (opening : IsOpening s) (g h : List Entry) (goes_on : MayGoOn s n g)
     (o : BuildOutcome) (a : Answer) (x : Answered n (check_in o) s a g h) where
   there : Moment
   there = replay s (g ++ x.made.between)
 
   kept : Keeps n (replay s g) there
-  kept = keeps_between n s g x.made.between opening lt may x.made.legal_found x.made.others
+  kept = keeps_between n s g x.made.between opening goes_on.below goes_on.may x.made.legal_found x.made.others
 
   gone : serves (replay s h).manager.passes n ≡ false
   gone = ap (λ z. serves z.manager.passes n) (made_steps n (check_in o) s g h opening x.made).state

@@ -17,13 +17,17 @@ use Rattle.core_event.specs.declared.event.Event.{Event}
 use Rattle.core_event.specs.declared.event.Event.TheVariants.{Service}
 use Rattle.core_event.specs.declared.reply.Answer.{Answer}
 use Rattle.core_event.specs.declared.service.ServiceEvent.TheVariants as services
+use Rattle.core_event.specs.declared.reply.Refusal.TheVariants.{NoBuild}
+use Rattle.proj_desc.specs.FirstCause.{first_cause}
+use Rattle.service_desk.specs.Refusals.{unrooted}
 use Rattle.ws_core.specs.States.{Moment}
 use Rattle.ws_core.specs.Histories.{replay}
-use Rattle.ws_core.specs.Refusals.{current}
+use Rattle.ws_core.specs.Refusals.{current, edit_cause, no_build}
 use Rattle.build_core.specs.States.{item_of, state_of}
-use Rattle.build_core.specs.Histories.{book_of, given_of, may_build, number_of, taken_of}
+use Rattle.build_core.specs.Histories.{Steps, book_of, given_of, may_build, number_of, taken_of}
+use Rattle.build_core.proofs.Leaves.{refused}
 use Rattle.build_host.proofs.Clearing.{clears}
-use Rattle.build_host.proofs.Handing.{hands}
+use Rattle.build_host.proofs.Handing.{hands, it_serves}
 use Rattle.build_host.proofs.Results.{handed_answered}
 use Rattle.build_host.proofs.Taking.{takes}
 use Rattle.build_beside.specs.Turns.{Answered, IsOpening, Made, session}
@@ -34,6 +38,15 @@ use Rattle.build_beside.proofs.Turns.{keeps_between, made_steps}
 
 longer : (g between : List Entry) (start : ℕ) → start ≤ length g → start ≤ length (g ++ between)
 longer g between start le = let e = length-append g between in omega (arith, e, le)
+
+-- where no command is under way a commit is refused
+idle_commit : (n : ℕ) (s : Moment) (f h : List Entry) (e : Edits) → Steps n (Service (services.Commit e)) (session s f) (session s h) → may_build (replay s f) n ≡ true → current (replay s f) ≡ None → may_build (replay s h) n ≡ may_build (replay s f) n
+idle_commit n s f h e steps may none =
+    let u = replay s f in
+    let left = refused u n (services.Commit e) NoBuild
+    (ap (λ c. first_cause (c ∷ no_build (current u) ∷ unrooted u.manager.passes.rules n ∷ edit_cause u.resources e (current u) ∷ [])) (it_serves u n may)
+    ∙ ap (λ o. first_cause (None ∷ no_build o ∷ unrooted u.manager.passes.rules n ∷ edit_cause u.resources e o ∷ [])) none) in
+    ap (λ z. may_build z n) steps.state ∙ (λ i. may_build (record u { manager = left.manager i; desk = left.desk i }) n)
 
 -- the pass may build, and the event is one of its turns
 module _ (n start : ℕ) (began told : List Told) (s : Moment) (g h : List Entry) (opening : IsOpening s) (lt : n < (replay s g).manager.passes.next) (le : start ≤ length g) (may : may_build (replay s g) n ≡ true) where
@@ -104,17 +117,28 @@ module _ (n start : ℕ) (began told : List Told) (s : Moment) (g h : List Entry
         (subst (λ w. Takes (met (there committing a x)) i e v (record (book_of (session s h) n start began told) { home = w })) (sym (home_same x.made.between (kept committing a x) then))
         (takes_home (not (serves (replay s (there committing a x)).manager.passes n)) (book_of (session s (there committing a x)) n start began told) (book_of (session s h) n start began told) i e v t)))
 
-    pub taken_beside : may_build (replay s h) n ≡ true → IfSome before.under (λ i. Takes before i e v (book_in s n start began told h))
-    taken_beside then = by before.under (ap (λ (z : Book). z.under) (same committing a x)) taken_then
+    -- the pass may go on: the edits were made, or refused for what they are, or since no command is under way
+    pub may_taken : may_build (replay s h) n ≡ true
+    may_taken = by (current (replay s (there committing a x))) refl
       where
-        by : (o : Option Item) → (book_of (session s (there committing a x)) n start began told).under ≡ o
-            → IfSome (book_of (session s (there committing a x)) n start began told).under (λ i. Takes (book_of (session s (there committing a x)) n start began told) i e v (book_of (session s h) n start began told))
-            → IfSome o (λ i. Takes before i e v (book_in s n start began told h))
-        by o is t = go o (subst (λ u. IfSome u (λ i. Takes (book_of (session s (there committing a x)) n start began told) i e v (book_of (session s h) n start began told))) is t)
-          where
-            go : (o : Option Item) → IfSome o (λ i. Takes (book_of (session s (there committing a x)) n start began told) i e v (book_of (session s h) n start began told)) → IfSome o (λ i. Takes before i e v (book_in s n start began told h))
-            go None t = tt
-            go (Some i) t = beside i then t
+        f : List Entry
+        f = there committing a x
+
+        stays : may_build (replay s h) n ≡ may_build (replay s f) n → may_build (replay s h) n ≡ true
+        stays same_may = same_may ∙ (kept committing a x).may
+
+        by : (o : Option Site) → current (replay s f) ≡ o → may_build (replay s h) n ≡ true
+        by None none = stays (idle_commit n s f h e (made_steps n committing s g h opening x.made) (kept committing a x).may none)
+        by (Some site) is_there =
+            let t = subst (λ u. IfSome u (λ i. Takes (book_of (session s f) n start began told) i e v (book_of (session s h) n start began told))) (ap (option_map item_of) is_there) taken_then in
+            takes_serving (book_of (session s f) n start began told) (book_of (session s h) n start began told) (item_of site) e v t ∙ (kept committing a x).may
+
+    pub taken_beside : IfSome before.under (λ i. Takes before i e v (book_in s n start began told h))
+    taken_beside = go before.under (subst (λ u. IfSome u (λ i. Takes (book_of (session s (there committing a x)) n start began told) i e v (book_of (session s h) n start began told))) (ap (λ (z : Book). z.under) (same committing a x)) taken_then)
+      where
+        go : (o : Option Item) → IfSome o (λ i. Takes (book_of (session s (there committing a x)) n start began told) i e v (book_of (session s h) n start began told)) → IfSome o (λ i. Takes before i e v (book_in s n start began told h))
+        go None t = tt
+        go (Some i) t = beside i may_taken t
 
   -- ---- what is cleaned
 

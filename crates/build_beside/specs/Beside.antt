@@ -60,7 +60,7 @@ pub record WasBuilt (ms : Meanings) (kind : BuildKind) (project : Option (List �
   pub made : (entries : List Entry) × (j.mine ≡ k.mine ++ entries) × AllByRecursion (IsOwn k.number) entries
   pub built : IfOk answer (IsBuildBeside ms k.number kind project s k.seen j.seen)
   pub cut : OnErr answer ((h : List Entry) × StartsWith j.seen h × (of pass_of k.number h ≡ j.mine) × IsCutBeside ms k.number kind project s k.seen h)
-  pub legal_seen : Legal s j.seen
+  pub legal_seen : (j.seen ≡ k.seen) ⊎ Legal s j.seen
   pub faithful : IsFaithful pass_of j
 
 -- ---- the services are given back
