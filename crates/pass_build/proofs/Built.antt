@@ -74,18 +74,14 @@ module _ (ms : Meanings) (kind : BuildKind) (project : Option (List ℕ)) (s : M
   pub built_refused : (number : ℕ) → WasRefused kind project s n number k.seen j.seen → WasBuilt ms kind project s (Ok (Stopped number)) k j
   built_refused number x = was_answered (Stopped number) x.grew x.legal (record { told = []; now = []; start = 0; began = []; answered = x.stops 0 0 [] [] [] })
 
-  failed_so : HasFailed kind project s n k.seen j.seen → (between : List Entry) × (of pass_of n between ≡ []) × ((x : HasFailed kind project s n k.seen j.seen) × (j.seen ≡ x.last ++ between))
-  failed_so x = by x.rested
-    where
-      by : HasRested n s x.last j.seen → (between : List Entry) × (of pass_of n between ≡ []) × ((y : HasFailed kind project s n k.seen j.seen) × (j.seen ≡ y.last ++ between))
-      by (inl is) = ([], refl, x, is ∙ sym (append-nil x.last))
-      by (inr looked) = (looked.between, looked.others, x, looked.are)
+  rested_since : (h : List Entry) → HasRested n s h j.seen → (between : List Entry) × (of pass_of n between ≡ []) × (j.seen ≡ h ++ between)
+  rested_since h (inl is) = ([], refl, is ∙ sym (append-nil h))
+  rested_since h (inr looked) = (looked.between, looked.others, looked.are)
 
   pub built_failed : (e : AllocError) → HasFailed kind project s n k.seen j.seen → WasBuilt ms kind project s (Err e) k j
   built_failed e x =
-      let f = failed_so x in
-      let y = f.2.0 in
-      was_cut y.last f.0 y.grew f.1 f.2.1 e y.legal (record { told = []; now = []; start = 0; began = []; unanswered = inl (y.fails 0 0 [] [] []) })
+      let f = rested_since x.last x.rested in
+      was_cut x.last f.0 x.grew f.1 f.2 e x.legal (record { told = []; now = []; start = 0; began = []; unanswered = inl (x.fails 0 0 [] [] []) })
 
   -- ---- the build ended
 

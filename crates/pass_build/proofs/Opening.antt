@@ -48,8 +48,9 @@ module _ (kind : BuildKind) (project : Option (List ℕ)) (s : Moment) (n : ℕ)
         second_grew : Grew n g0 g2
         second_grew = grew_on n g0 g1 g2 first_grew (made_grew n events.Batch s g1 g2 tt x1.made)
 
-        pub failed_batched : (j : List Entry) → Looked n s g2 j → HasFailed kind project s n g0 j
-        failed_batched j looked = record { last = g2; rested = inr looked; fails = λ i l c b told. fails_batched n s opening a0 g0 g1 x0 done a1 g2 x1 kind project i l c b told; grew = second_grew; legal = inr looked.legal }
+        pub failed_batched : (j : List Entry) → HasRested n s g2 j → HasFailed kind project s n g0 j
+        failed_batched j (inl same) = failed_batched j (inr (subst (Looked n s g2) (sym same) (looked_itself n s g2 x1.made.legal)))
+        failed_batched j (inr looked) = record { last = g2; rested = inr looked; fails = λ i l c b told. fails_batched n s opening a0 g0 g1 x0 done a1 g2 x1 kind project i l c b told; grew = second_grew; legal = inr looked.legal }
 
         module _ (a2 : Answer) (g3 : List Entry) (x2 : Answered n (checkout kind project) s a2 g2 g3) where
           third_grew : Grew n g0 g3

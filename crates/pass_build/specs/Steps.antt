@@ -2,8 +2,8 @@
 use Rattle.core_event.specs.declared.event.Event.{Event}
 use Rattle.core_event.specs.declared.event.Event.TheVariants as events
 use Rattle.core_event.specs.declared.service.ServiceEvent.TheVariants as services
-use Rattle.pass_build.specs.declared.pass.Step.{Step}
-use Rattle.pass_build.specs.declared.pass.Step.TheVariants as steps
+use Rattle.pass_build.specs.declared.room.Step.{Step}
+use Rattle.pass_build.specs.declared.room.Step.TheVariants as steps
 
 abbrev pub event_of : Step → Event
 event_of (steps.Begin rule) = events.Begin rule

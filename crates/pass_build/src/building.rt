@@ -11,7 +11,7 @@ ghost use Rattle.pass_build.specs.Inside.Opens.{HasOpened, HasReturned};
 
 use crate::host::PassHost;
 use crate::opening::{Opened, close, open};
-use crate::{BuildPass, BuildServices, NoMemory};
+use crate::{BuildRoom, BuildServices, NoMemory};
 use build_run::{BuildAnswer, build_all, build_project};
 use builder_api::{BuildKind, BuildOutcome, Plan};
 use res_path::Name;
@@ -20,7 +20,7 @@ use std::snapshot::Snapshot;
 use std::sync::Wait;
 
 /// The host makes its build.
-fn made<'a, R: Wait, T: BuildPass>(host: &mut PassHost<'a, R, T>) -> Result<BuildAnswer, NoMemory>
+fn made<'a, R: Wait, T: BuildRoom>(host: &mut PassHost<'a, R, T>) -> Result<BuildAnswer, NoMemory>
     requires of { T.is_of host.old.room.now host.old.pass.now }
     requires opening { IsOpening (T.opened host.old.room.now) }
     requires same { IsSame (T.knows host.old.before.now.value) (T.knows host.old.pass.now) }
@@ -55,13 +55,13 @@ fn made<'a, R: Wait, T: BuildPass>(host: &mut PassHost<'a, R, T>) -> Result<Buil
 }
 
 /// The pass, which has begun its build, goes on with it over what it is lent, up to the outcome, which it answers twice.
-fn hosted<R: Wait, T: BuildPass>(
+fn hosted<R: Wait, T: BuildRoom>(
     rt: &R,
-    room: &T::Room,
+    room: &T,
     alloc: Global,
-    pass: &mut T,
+    pass: &mut T::Pass,
     services: &mut T::Services,
-    before: &Snapshot<T>,
+    before: &Snapshot<T::Pass>,
     plan: Plan,
     kind: BuildKind,
     project: Option<&Name>,
@@ -131,13 +131,13 @@ fn hosted<R: Wait, T: BuildPass>(
 }
 
 /// The pass, which has begun its build, makes it, and gives the services back.
-fn served<R: Wait, T: BuildPass>(
+fn served<R: Wait, T: BuildRoom>(
     rt: &R,
-    room: &T::Room,
+    room: &T,
     alloc: Global,
-    pass: &mut T,
+    pass: &mut T::Pass,
     services: T::Services,
-    before: &Snapshot<T>,
+    before: &Snapshot<T::Pass>,
     plan: Plan,
     kind: BuildKind,
     project: Option<&Name>,
@@ -164,8 +164,8 @@ fn served<R: Wait, T: BuildPass>(
         kind,
         project,
     );
-    let _ = pass.at();
-    let _ = pass.check_in(rt, room, alloc, services, outcome);
+    let _ = room.at(&*pass);
+    let _ = room.check_in(rt, alloc, pass, services, outcome);
     answer
 }
 
@@ -174,11 +174,11 @@ fn served<R: Wait, T: BuildPass>(
 /// other pass has the services. Builders are called between its turns, so no pass waits for them. A build of the kind `Clean`
 /// cleans. Answers as `build_all` and `build_project` of build_run do; `NoMemory` where memory wants before the plan is there,
 /// after a refusal, or after the outcome was told.
-pub fn build<R: Wait, T: BuildPass>(
+pub fn build<R: Wait, T: BuildRoom>(
     rt: &R,
-    room: &T::Room,
+    room: &T,
     alloc: Global,
-    pass: &mut T,
+    pass: &mut T::Pass,
     kind: BuildKind,
     project: Option<&Name>,
 ) -> Result<BuildAnswer, NoMemory>
@@ -187,7 +187,7 @@ pub fn build<R: Wait, T: BuildPass>(
     ensures of { T.is_of room.now pass.new }
     ensures built { WasBuilt T.Told.meaning kind (option_copied project.entry) (T.opened room.now) result (T.knows pass.old) (T.knows pass.new) }
 {
-    let _ = pass.at();
+    let _ = room.at(&*pass);
     let before = Snapshot::of(&*pass);
     match open(rt, room, alloc, pass, kind, project)? {
         Opened::Refused(number) => Ok(BuildAnswer::Stopped(number)),

@@ -8,7 +8,7 @@ ghost use Rattle.pass_build.specs.Inside.Hosts.{IsHosted, shown};
 
 use crate::answers::{given_of, number_of, taken_of};
 use crate::steps::answered;
-use crate::{BuildPass, BuildServices, NoMemory, Step};
+use crate::{BuildRoom, BuildServices, NoMemory, Step};
 use build_run::{Given, Host, Started, Taken};
 use builder_api::{BuildFault, BuildKind, BuildOutcome, Edits, Handed, Plan};
 use core_event::Answer;
@@ -19,19 +19,19 @@ use std::snapshot::Snapshot;
 use std::sync::Wait;
 
 /// A pass that has the services for a build that it began as the host of this build, where other passes go on.
-pub(crate) struct PassHost<'a, R: Wait, T: BuildPass> {
+pub(crate) struct PassHost<'a, R: Wait, T: BuildRoom> {
     pub(crate) rt: &'a R,
-    pub(crate) room: &'a T::Room,
+    pub(crate) room: &'a T,
     pub(crate) alloc: Global,
-    pub(crate) pass: &'a mut T,
+    pub(crate) pass: &'a mut T::Pass,
     pub(crate) services: &'a mut T::Services,
     /// The pass as it was before the build.
-    pub(crate) before: &'a Snapshot<T>,
+    pub(crate) before: &'a Snapshot<T::Pass>,
     /// The pass as it was when it had taken the services, and these then.
-    pub(crate) taker: &'a Snapshot<T>,
+    pub(crate) taker: &'a Snapshot<T::Pass>,
     pub(crate) lent: &'a Snapshot<T::Services>,
     /// The pass as it was after its last entry.
-    pub(crate) last: &'a mut Snapshot<T>,
+    pub(crate) last: &'a mut Snapshot<T::Pass>,
     /// The services as they were when the plan was told.
     pub(crate) began: &'a mut Snapshot<T::Services>,
     pub(crate) kind: BuildKind,
@@ -72,7 +72,7 @@ fn same_build(
     }
 }
 
-impl<'a, R: Wait, T: BuildPass> PassHost<'a, R, T> {
+impl<'a, R: Wait, T: BuildRoom> PassHost<'a, R, T> {
     /// The pass does a step of the build, after which its last entry is the one of that.
     fn turn(&mut self, step: Step) -> Result<Answer, NoMemory>
         requires { T.is_of self.old.room.now self.old.pass.now }
@@ -90,7 +90,7 @@ impl<'a, R: Wait, T: BuildPass> PassHost<'a, R, T> {
     }
 }
 
-impl<'a, R: Wait, T: BuildPass> Host for PassHost<'a, R, T> {
+impl<'a, R: Wait, T: BuildRoom> Host for PassHost<'a, R, T> {
     ghost use Rattle.std.specs.Prelude.{◌≡◌, refl, length, option_copied};
     ghost use Rattle.std.proofs.Common.{◌∙◌};
     ghost use Rattle.build_core.specs.Histories.{entries_of};

@@ -1,7 +1,7 @@
 //! Builds by a pass of a room that many passes share, where other passes go on meanwhile: over any room whose passes do, in
 //! turns of their own, what a build asks.
 //!
-//! - `pass`: a `BuildPass`, a pass that may build, and the `BuildServices` that it has meanwhile.
+//! - `room`: a `BuildRoom`, whose passes may build, and the `BuildServices` that one of them has meanwhile.
 //! - `answers`: what a turn answers, as builds have it.
 //! - `steps`: the turns of a build, one by one.
 //! - `opening`: the turns that begin and end a build.
@@ -13,9 +13,9 @@ mod answers;
 mod building;
 mod host;
 mod opening;
-mod pass;
+mod room;
 mod steps;
 
 pub use building::build;
-pub use pass::{BuildPass, BuildServices, Step};
 pub use res_path::NoMemory;
+pub use room::{BuildRoom, BuildServices, Step};

@@ -5,7 +5,7 @@ ghost use Rattle.build_host.specs.Hosts.{IsServed};
 ghost use Rattle.pass_build.specs.Inside.Opens.{HasClosed, HasFailed, IsUnclosed, OpensTo};
 
 use crate::steps::{begin, check_out, did, root_rule};
-use crate::{BuildPass, NoMemory, Step};
+use crate::{BuildRoom, NoMemory, Step};
 use build_run::Started;
 use builder_api::{BuildKind, Plan};
 use res_path::Name;
@@ -22,11 +22,11 @@ pub(crate) enum Opened<S> {
 }
 
 /// The pass's batch ends, and its rule of the root.
-pub(crate) fn close<R: Wait, T: BuildPass>(
+pub(crate) fn close<R: Wait, T: BuildRoom>(
     rt: &R,
-    room: &T::Room,
+    room: &T,
     alloc: Global,
-    pass: &mut T,
+    pass: &mut T::Pass,
 ) -> Result<(), NoMemory>
     requires { T.is_of room.now pass.old }
     ensures of { T.is_of room.now pass.new }
@@ -40,11 +40,11 @@ pub(crate) fn close<R: Wait, T: BuildPass>(
 }
 
 /// The turns that begin a build, which give its plan and the services. Where it is refused, those that end it follow.
-pub(crate) fn open<R: Wait, T: BuildPass>(
+pub(crate) fn open<R: Wait, T: BuildRoom>(
     rt: &R,
-    room: &T::Room,
+    room: &T,
     alloc: Global,
-    pass: &mut T,
+    pass: &mut T::Pass,
     kind: BuildKind,
     project: Option<&Name>,
 ) -> Result<Opened<T::Services>, NoMemory>

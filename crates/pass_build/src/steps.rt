@@ -11,7 +11,7 @@ ghost use Rattle.pass_build.specs.Inside.Opens.{HasRested};
 ghost use Rattle.core_event.specs.declared.event.Event.TheVariants as events;
 
 use crate::answers::{number_of, started_of};
-use crate::{BuildPass, NoMemory, Step};
+use crate::{BuildRoom, NoMemory, Step};
 use build_run::Started;
 use builder_api::BuildKind;
 use core_event::{Answer, WsRule};
@@ -28,11 +28,11 @@ pub(crate) fn root_rule(alloc: Global) -> Result<WsRule, NoMemory>
 }
 
 /// The pass does a step, and gives what it was answered.
-pub(crate) fn answered<R: Wait, T: BuildPass>(
+pub(crate) fn answered<R: Wait, T: BuildRoom>(
     rt: &R,
-    room: &T::Room,
+    room: &T,
     alloc: Global,
-    pass: &mut T,
+    pass: &mut T::Pass,
     step: Step,
 ) -> Result<Answer, NoMemory>
     requires { T.is_of room.now pass.old }
@@ -41,16 +41,16 @@ pub(crate) fn answered<R: Wait, T: BuildPass>(
     ensures answered { IfOk result (λ answer. Answered (T.knows pass.old).number (event_of step) (T.opened room.now) answer (T.knows pass.old).seen (T.knows pass.new).seen) }
     ensures looked { OnErr result (Looked (T.knows pass.old).number (T.opened room.now) (T.knows pass.old).seen (T.knows pass.new).seen) }
 {
-    let _ = pass.at();
-    pass.make(rt, room, alloc, step)
+    let _ = room.at(&*pass);
+    room.make(rt, alloc, pass, step)
 }
 
 /// The pass does a step, whatever it is answered.
-pub(crate) fn did<R: Wait, T: BuildPass>(
+pub(crate) fn did<R: Wait, T: BuildRoom>(
     rt: &R,
-    room: &T::Room,
+    room: &T,
     alloc: Global,
-    pass: &mut T,
+    pass: &mut T::Pass,
     step: Step,
 ) -> Result<(), NoMemory>
     requires { T.is_of room.now pass.old }
@@ -65,11 +65,11 @@ pub(crate) fn did<R: Wait, T: BuildPass>(
 }
 
 /// The pass begins the rule of the root. Answers the number with which that is refused, if it is.
-pub(crate) fn begin<R: Wait, T: BuildPass>(
+pub(crate) fn begin<R: Wait, T: BuildRoom>(
     rt: &R,
-    room: &T::Room,
+    room: &T,
     alloc: Global,
-    pass: &mut T,
+    pass: &mut T::Pass,
 ) -> Result<Option<u8>, NoMemory>
     requires { T.is_of room.now pass.old }
     ensures of { T.is_of room.now pass.new }
@@ -77,18 +77,28 @@ pub(crate) fn begin<R: Wait, T: BuildPass>(
     ensures answered { IfOk result (λ refused. (answer : Answer) × Answered (T.knows pass.old).number (events.Begin root_rule) (T.opened room.now) answer (T.knows pass.old).seen (T.knows pass.new).seen × (refused ≡ number_of answer)) }
     ensures rested { OnErr result (HasRested (T.knows pass.old).number (T.opened room.now) (T.knows pass.old).seen (T.knows pass.new).seen) }
 {
-    let _ = pass.at();
+    let _ = room.at(&*pass);
     let rule = root_rule(alloc)?;
     let answer = answered(rt, room, alloc, pass, Step::Begin(rule))?;
     Ok(number_of(&answer))
 }
 
+/// An equal name, if there is one.
+fn copied(name: Option<&Name>) -> Result<Option<Name>, NoMemory>
+    ensures { IfOk result (λ copy. copy ≡ option_copied name.entry) }
+{
+    match name {
+        Some(name) => Ok(Some(name.copy()?)),
+        None => Ok(None),
+    }
+}
+
 /// The pass takes the services. Answers the plan, or the number with which that is refused, and the services where it isn't.
-pub(crate) fn check_out<R: Wait, T: BuildPass>(
+pub(crate) fn check_out<R: Wait, T: BuildRoom>(
     rt: &R,
-    room: &T::Room,
+    room: &T,
     alloc: Global,
-    pass: &mut T,
+    pass: &mut T::Pass,
     kind: BuildKind,
     project: Option<&Name>,
 ) -> Result<(Started, Option<T::Services>), NoMemory>
@@ -99,10 +109,11 @@ pub(crate) fn check_out<R: Wait, T: BuildPass>(
         × (started_of answer ≡ Some r.0) × (is_some r.1 ≡ was_done answer)) }
     ensures fits { IfOk result (λ r. IfSome r.1 (T.fits room.now (T.knows pass.new).seen)) }
     ensures served { IfOk result (λ r. IfSome r.1 (λ services. IsServed T.Told.meaning (T.opened room.now) (T.Services.tells services))) }
-    ensures looked { OnErr result (Looked (T.knows pass.old).number (T.opened room.now) (T.knows pass.old).seen (T.knows pass.new).seen) }
+    ensures rested { OnErr result (HasRested (T.knows pass.old).number (T.opened room.now) (T.knows pass.old).seen (T.knows pass.new).seen) }
 {
-    let _ = pass.at();
-    let (answer, services) = pass.check_out(rt, room, alloc, kind, project)?;
+    let _ = room.at(&*pass);
+    let project = copied(project)?;
+    let (answer, services) = room.check_out(rt, alloc, pass, kind, project)?;
     match started_of(answer) {
         Some(started) => Ok((started, services)),
         None => unreachable!(),

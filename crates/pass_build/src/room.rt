@@ -1,5 +1,5 @@
-//! A pass that may build, and what it has meanwhile.
-ghost use Rattle.std.specs.Prelude.{◌≡◌, ◌↔◌, false, length, List, Err, None, Ok, Some, IfOk, IfSome, option_copied};
+//! Rooms whose passes may build, and what a pass has meanwhile.
+ghost use Rattle.std.specs.Prelude.{◌≡◌, ◌↔◌, false, length, List, Err, None, Ok, Some, IfOk, IfSome};
 ghost use Rattle.core_event.specs.declared.entry.Entry.{Entry};
 ghost use Rattle.builder_api.specs.Lawful.{Does};
 ghost use Rattle.builder_api.specs.Meanings.{Meanings};
@@ -71,74 +71,75 @@ pub trait BuildServices: Drop {
         ensures meanings { (ms : Meanings) → HaveMeanings ms (tells self.old) → HaveMeanings ms (tells self.new) };
 }
 
-/// A pass of a room that many passes share, which may build there: each of its calls is a turn of its own, in which it finds
-/// what others did meanwhile.
-pub trait BuildPass {
-    // where it is a pass
-    type Room;
+/// A room that many passes share, which may build there. Each call is a turn of the pass, in which it finds what others did
+/// meanwhile.
+pub trait BuildRoom {
+    type Pass;
 
     type Services: BuildServices;
 
     // what is told of builders
     type Told: Meanings;
 
-    ghost is_of: { Self.Room → Self → Type 0 };
+    // it is a pass of this room
+    ghost is_of: { Self → Self.Pass → Type 0 };
 
-    // what contracts see of it
-    ghost knows: { Self → Knows Entry };
+    // what contracts see of a pass
+    ghost knows: { Self.Pass → Knows Entry };
 
-    // the state that was opened there
-    ghost opened: { Self.Room → Moment };
+    // the state that was opened here
+    ghost opened: { Self → Moment };
 
     // the services fit a history
-    ghost fits: { Self.Room → List Entry → Self.Services → Type 0 };
+    ghost fits: { Self → List Entry → Self.Services → Type 0 };
 
-    /// How many entries it has seen. Those of its number among them are its own.
-    fn at(&self) -> u64
-        ensures length { result ≡ length (knows self.now).seen }
-        ensures own { IsFaithful pass_of (knows self.now) };
+    /// How many entries the pass has seen. Those of its number among them are its own.
+    fn at(&self, pass: &Self::Pass) -> u64
+        ensures length { result ≡ length (knows pass.now).seen }
+        ensures own { IsFaithful pass_of (knows pass.now) };
 
-    /// Does the step in its next turn, or for a rule in the first one in which it may have it. Where memory wants nothing was
-    /// done.
+    /// Does the step in the pass's next turn, or for a rule in the first one in which it may have it. Where memory wants
+    /// nothing was done.
     fn make<R: Wait>(
-        &mut self,
+        &self,
         rt: &R,
-        room: &Self::Room,
         alloc: Global,
+        pass: &mut Self::Pass,
         step: Step,
     ) -> Result<Answer, NoMemory>
-        requires { is_of room.now self.old }
-        ensures of { is_of room.now self.new }
-        ensures made { TookTurn pass_of Legal (λ s n. WasMade (event_of step) s n) (opened room.now) result (knows self.old) (knows self.new) };
+        requires { is_of self.now pass.old }
+        ensures of { is_of self.now pass.new }
+        ensures made { TookTurn pass_of Legal (λ s n. WasMade (event_of step) s n) (opened self.now) result (knows pass.old) (knows pass.new) };
 
-    /// Takes the services for a build, of the project of this name or of the whole workspace, once no other pass has them. None
-    /// where that is refused. What it gets fits all that it has seen then, and its builders mean what is told of them.
+    /// The pass takes the services for a build, of the project of this name or of the whole workspace, once no other pass has
+    /// them. None where that is refused. What it gets fits all that it has seen then, and its builders mean what is told of
+    /// them.
     fn check_out<R: Wait>(
-        &mut self,
+        &self,
         rt: &R,
-        room: &Self::Room,
         alloc: Global,
+        pass: &mut Self::Pass,
         kind: BuildKind,
-        project: Option<&Name>,
+        project: Option<Name>,
     ) -> Result<(Answer, Option<Self::Services>), NoMemory>
-        requires { is_of room.now self.old }
-        ensures of { is_of room.now self.new }
-        ensures lent { TookTurn pass_of Legal (λ s n. WasLent (fits room.now) (checkout kind (option_copied project.entry)) s n) (opened room.now) result (knows self.old) (knows self.new) }
-        ensures served { IfOk result (λ r. IfSome r.1 (λ services. IsServed Self.Told.meaning (opened room.now) (Self.Services.tells services))) };
+        requires { is_of self.now pass.old }
+        ensures of { is_of self.now pass.new }
+        ensures lent { TookTurn pass_of Legal (λ s n. WasLent (fits self.now) (checkout kind project) s n) (opened self.now) result (knows pass.old) (knows pass.new) }
+        ensures served { IfOk result (λ r. IfSome r.1 (λ services. IsServed Self.Told.meaning (opened self.now) (Self.Services.tells services))) };
 
-    /// Gives the services back with the build's outcome. It takes no memory, and is not refused where the pass may give them
-    /// back: it took them for a build, has them still, and builders were called for what was asked since.
+    /// The pass gives the services back with the build's outcome. It takes no memory, and is not refused where the pass may give
+    /// them back: it took them for a build, has them still, and builders were called for what was asked since.
     fn check_in<R: Wait>(
-        &mut self,
+        &self,
         rt: &R,
-        room: &Self::Room,
         alloc: Global,
+        pass: &mut Self::Pass,
         services: Self::Services,
         outcome: BuildOutcome,
     ) -> Answer
-        requires of { is_of room.now self.old }
-        requires home { (g : List Entry) × (lent : Self.Services) × fits room.now g lent × (Self.Services.rest services ≡ Self.Services.rest lent)
-            × MayReturn Self.Told.meaning (opened room.now) (knows self.old).number outcome g (knows self.old).seen (Self.Services.tells lent) (Self.Services.tells services) }
-        ensures of { is_of room.now self.new }
-        ensures given { TookTurn pass_of Legal (λ s n. WasMade (check_in outcome) s n) (opened room.now) (Ok result) (knows self.old) (knows self.new) };
+        requires of { is_of self.now pass.old }
+        requires home { (g : List Entry) × (lent : Self.Services) × fits self.now g lent × (Self.Services.rest services ≡ Self.Services.rest lent)
+            × MayReturn Self.Told.meaning (opened self.now) (knows pass.old).number outcome g (knows pass.old).seen (Self.Services.tells lent) (Self.Services.tells services) }
+        ensures of { is_of self.now pass.new }
+        ensures given { TookTurn pass_of Legal (λ s n. WasMade (check_in outcome) s n) (opened self.now) (Ok result) (knows pass.old) (knows pass.new) };
 }
