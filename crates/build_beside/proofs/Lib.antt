@@ -1,0 +1,9 @@
+pub mod Below
+pub mod Batches
+pub mod Others
+pub mod Books
+pub mod Turns
+pub mod Begins
+pub mod Serves
+pub mod Ends
+pub mod Calls

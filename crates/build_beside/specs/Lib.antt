@@ -1,0 +1,4 @@
+pub mod Turns
+pub mod Called
+pub mod Beside
+pub mod UnderWay
