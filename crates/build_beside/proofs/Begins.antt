@@ -1,5 +1,5 @@
 -- How a build beside others begins, as its book has it.
-use Rattle.std.proofs.Common.{◌≡◌, ◌<◌, ◌≤◌, ◌+◌, ◌==◌, ◌&&◌, inl, inr, ℕ, Bool, true, false, cond, not, List, [], ◌∷◌, ◌++◌, map, length, take, drop, Option, Some, None, IfSome, refl, sym, ap, ◌∙◌, subst, arith, rules, append_assoc, append-nil, length-append}
+use Rattle.std.proofs.Common.{◌≡◌, ◌≤◌, ◌+◌, ◌==◌, inl, inr, ℕ, true, false, cond, not, List, [], ◌∷◌, ◌++◌, map, length, take, drop, Option, Some, None, IfSome, refl, sym, ap, ◌∙◌, subst, arith, rules, append_assoc, append-nil, length-append}
 use Rattle.std.specs.Prelude.{is_some}
 use Rattle.std.specs.Option.{option_map, option_eq}
 use Rattle.std.specs.FinMap.{get, get-insert}
@@ -13,7 +13,7 @@ use Rattle.sched_rules.specs.declared.ws_atom.WsAtom.{WsAtom}
 use Rattle.job_queue.specs.Changed.{put_if}
 use Rattle.job_queue.proofs.Found.{itself}
 use Rattle.pass_table.specs.declared.pass.Pass.{Pass}
-use Rattle.pass_table.specs.Passes.{Passes, Table, batches_in, batches_of, has_pass, serves}
+use Rattle.pass_table.specs.Passes.{Passes, batches_in, batches_of, has_pass, serves}
 use Rattle.pass_table.specs.Rows.{with_batches}
 use Rattle.pass_table.specs.Rows as rows
 use Rattle.builder_api.specs.declared.kind.BuildKind.{BuildKind}
@@ -27,7 +27,7 @@ use Rattle.build_run.specs.declared.answers.Started.{Started}
 use Rattle.build_run.specs.declared.answers.Started.TheVariants as started
 use Rattle.build_run.specs.Books as books
 use Rattle.build_run.specs.Books.{Deed, at}
-use Rattle.build_run.specs.Starts.{Begins, Fails, IsStopped, Stops}
+use Rattle.build_run.specs.Starts.{Begins, Fails, Stops}
 use Rattle.core_event.specs.declared.entry.Entry.{Entry}
 use Rattle.core_event.specs.declared.event.Event.{Event}
 use Rattle.core_event.specs.declared.event.Event.TheVariants as events
@@ -39,10 +39,9 @@ use Rattle.core_event.specs.declared.service.ServiceEvent.TheVariants.{Checkout}
 use Rattle.core_event.specs.Events.{service_of}
 use Rattle.core_event.specs.Replies.{refusal_number}
 use Rattle.job_manager.specs.declared.manager.JobManager.{JobManager}
-use Rattle.service_desk.specs.Desks.{is_building}
-use Rattle.service_desk.specs.Refusals.{not_serving, root_rule, scope_causes, services_out, unrooted}
+use Rattle.service_desk.specs.Refusals.{root_rule, scope_causes, services_out, unrooted}
 use Rattle.ws_core.specs.States.{Moment}
-use Rattle.ws_core.specs.Histories.{Legal, entered, entry_of, has_entered, replay}
+use Rattle.ws_core.specs.Histories.{entered, entry_of, has_entered, replay}
 use Rattle.ws_core.specs.Refusals.{service_causes}
 use Rattle.ws_core.specs.Steps.{step}
 use Rattle.ws_core.proofs.Grown.{entered_append, replay_append}
@@ -50,7 +49,7 @@ use Rattle.ws_turn.specs.Lists.{of}
 use Rattle.run_order.proofs.Managed.{step_services}
 use Rattle.pass_history.proofs.Serving.{first_none}
 use Rattle.build_core.specs.States.{state_of}
-use Rattle.build_core.specs.Histories.{book_of, deed_of, entries_of, may_build, number_of, started_of}
+use Rattle.build_core.specs.Histories.{deed_of, entries_of, may_build, number_of, started_of}
 use Rattle.build_core.proofs.Checkouts.{checkout_leaves, checkout_planned}
 use Rattle.build_core.proofs.Holding.{batch_leaves, checkout_rooted, checkout_serves}
 use Rattle.build_core.proofs.Leaves.{refused}

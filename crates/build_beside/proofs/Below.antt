@@ -1,9 +1,9 @@
 -- A pass that is there has a number below the one that is given next.
-use Rattle.std.proofs.Common.{◌≡◌, ◌<◌, ◌+◌, ℕ, Bool, true, false, cond, ◌&&◌, List, [], ◌∷◌, ◌++◌, refl, ap, sym, ◌∙◌, subst, arith}
+use Rattle.std.proofs.Common.{◌≡◌, ◌<◌, ◌+◌, ℕ, Bool, true, false, cond, List, [], ◌∷◌, refl, ap, sym, ◌∙◌, subst, arith}
 use Rattle.std.specs.Prelude.{Option, Some, None, is_some}
 use Rattle.std.specs.Option.{option_map}
 use Rattle.std.specs.Ordering.{nat_cmp, eq_by_cmp}
-use Rattle.std.specs.FinMap.{nat_cmp-IsAntisymmetric, contains_key, get, insert, remove, get-insert, get-remove}
+use Rattle.std.specs.FinMap.{nat_cmp-IsAntisymmetric, get, insert, remove, get-insert, get-remove}
 use Rattle.std.proofs.lemmas.Cmp.{nat_cmp_total}
 use Rattle.job_queue.specs.Changed.{changed, put_if}
 use Rattle.job_queue.proofs.Found.{same_key}

@@ -1,5 +1,5 @@
 -- The book of a build goes on over entries of others.
-use Rattle.std.proofs.Common.{◌≡◌, ◌≢◌, ◌≤◌, ◌==◌, ◌⊎◌, inl, inr, ℕ, Bool, true, false, not, eqb-true, List, [], ◌∷◌, ◌++◌, length, take, drop, refl, sym, ap, ◌∙◌, subst, append-nil}
+use Rattle.std.proofs.Common.{◌≡◌, ◌≢◌, ◌≤◌, ◌==◌, ℕ, Bool, true, false, not, eqb-true, List, [], ◌∷◌, ◌++◌, length, take, drop, refl, sym, ap, ◌∙◌, append-nil}
 use Rattle.std.specs.Prelude.{Option, Some, None}
 use Rattle.std.specs.List.{list_any}
 use Rattle.std.specs.Option.{option_map}
@@ -12,25 +12,23 @@ use Rattle.build_run.specs.declared.answers.Given.{Given}
 use Rattle.build_run.specs.declared.answers.Given.TheVariants as given
 use Rattle.build_run.specs.declared.answers.Taken.{Taken}
 use Rattle.build_run.specs.declared.answers.Taken.TheVariants as taken
-use Rattle.build_run.specs.Books as books
 use Rattle.build_run.specs.Books.{Book, Cleans, Hands, Takes}
 use Rattle.core_event.specs.declared.entry.Entry.{Entry}
 use Rattle.pass_table.specs.Passes.{serves}
 use Rattle.service_desk.specs.Desks.{is_building}
 use Rattle.ws_core.specs.States.{Moment}
 use Rattle.ws_core.specs.Histories.{after, replay}
-use Rattle.ws_core.proofs.Grown.{replay_append}
 use Rattle.ws_core.proofs.ServingPass.{serves_named, serving_named}
 use Rattle.ws_turn.specs.Lists.{of}
 use Rattle.pass_turns.proofs.There.{others}
 use Rattle.build_core.specs.States.{item_of, state_of}
-use Rattle.build_core.specs.Histories.{book_of, entries_of, entry_of, may_build}
+use Rattle.build_core.specs.Histories.{entries_of, may_build}
 use Rattle.build_core.proofs.Entered.{entries_append, others_add_none}
 use Rattle.build_host.proofs.Handing.{it_serves}
 use Rattle.build_host.proofs.Lists.{drop_front, take_front}
-use Rattle.build_beside.specs.Turns.{pass_of, session}
+use Rattle.build_beside.specs.Turns.{pass_of}
 use Rattle.build_beside.specs.Beside.{book_in}
-use Rattle.build_beside.proofs.Others.{Keeps, others_serve}
+use Rattle.build_beside.proofs.Others.{Keeps}
 
 -- ---- others add nothing
 

@@ -1,5 +1,5 @@
 -- Builders were called for what the services were asked in a build beside others.
-use Rattle.std.proofs.Common.{◌≡◌, ◌≢◌, ◌⊎◌, inl, inr, ◌<◌, ◌==◌, ℕ, Bool, true, false, if◌then◌else◌, eqb-true, true≢false, List, [], ◌∷◌, ◌++◌, map, Option, Some, None, refl, sym, ap, ◌∙◌, subst, append_assoc, append-nil, arith}
+use Rattle.std.proofs.Common.{◌≡◌, ◌≢◌, inl, inr, ◌==◌, ℕ, Bool, true, false, if◌then◌else◌, eqb-true, true≢false, List, [], ◌∷◌, ◌++◌, map, Option, Some, None, refl, sym, ap, ◌∙◌, subst, append_assoc, append-nil, arith}
 use Rattle.std.specs.Prelude.{option_and_then, slice_get}
 use Rattle.std.specs.List.{AllByRecursion, flat_map}
 use Rattle.std.specs.Option.{option_map, option_to_list}
@@ -46,13 +46,13 @@ use Rattle.build_core.specs.Histories.{entries_of, entry_of, may_build}
 use Rattle.build_core.proofs.Entered.{entries_append, others_add_none}
 use Rattle.build_history.specs.Calls.{NamedCall, WereCalled, calls_for, calls_of, command_at}
 use Rattle.build_history.specs.Calls as history
-use Rattle.build_history.specs.Events.{IsBuilding, IsOwn}
+use Rattle.build_history.specs.Events.{IsBuilding}
 use Rattle.build_history.proofs.Calls.{asked, call_of, calls_read, done_called, own_entry, plain_calls}
 use Rattle.build_history.proofs.Keeping.{later_replies}
 use Rattle.build_history.proofs.Lists.{all_append, flat_append, same_rest}
 use Rattle.build_history.proofs.Went.{Works, went_works}
 use Rattle.build_host.proofs.Handing.{it_serves}
-use Rattle.build_beside.specs.Called.{WereServed, calls_in, event_calls, service_calls}
+use Rattle.build_beside.specs.Called.{calls_in, event_calls, service_calls}
 use Rattle.build_beside.specs.Beside.{IsAside, MayReturn, book_in, check_in}
 use Rattle.build_beside.specs.UnderWay.{CameThrough, HasBegun, IsLast, MayGoOn, WentAside, beginning}
 use Rattle.build_beside.specs.Turns.{IsOpening, Looked, Made, pass_of}
@@ -231,7 +231,7 @@ module _ (ms : Meanings) (kind : BuildKind) (project : Option (List ℕ)) (s : M
   called : WereCalled (flat_map asked es) old new
   called = subst (WereCalled (flat_map asked es) old) through.is_last.told (came_called ms kind project (book_in s n 0 [] old k) o through.last through.came front es refl whole)
 
-  returned : Reply → Entry
+  abbrev returned : Reply → Entry
   returned r = record { pass = n; event = check_in o; reply = r }
 
   all : (r : Reply) → calls_in (services_of (replay s g) (since ++ returned r ∷ [])) ≡ flat_map asked es

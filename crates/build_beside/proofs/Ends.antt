@@ -1,5 +1,5 @@
 -- How a build beside others ends, as its book has it.
-use Rattle.std.proofs.Common.{◌≡◌, ◌<◌, inl, inr, ℕ, Bool, true, false, not, List, [], ◌∷◌, ◌++◌, None, refl, sym, ap, ◌∙◌, append_assoc}
+use Rattle.std.proofs.Common.{◌≡◌, inl, inr, ℕ, false, not, List, [], ◌∷◌, ◌++◌, refl, sym, ap, ◌∙◌, append_assoc}
 use Rattle.builder_api.specs.declared.outcome.BuildOutcome.{BuildOutcome}
 use Rattle.builder_api.specs.Told.{Told}
 use Rattle.pass_table.specs.Passes.{serves}
@@ -15,7 +15,6 @@ use Rattle.job_manager.specs.declared.manager.JobManager.{JobManager}
 use Rattle.service_desk.specs.Refusals.{root_rule}
 use Rattle.ws_core.specs.States.{Moment}
 use Rattle.ws_core.specs.Histories.{replay}
-use Rattle.ws_core.specs.Steps.{step}
 use Rattle.build_core.specs.States.{state_of}
 use Rattle.build_core.specs.Histories.{entries_of}
 use Rattle.build_core.proofs.Leaves.{check_in_leaves}
@@ -33,7 +32,7 @@ more a b c ds d p q = q ∙ ap (λ z. z ++ d ∷ []) p ∙ append_assoc a ds (d 
 
 module _ (n : ℕ) (s : Moment) (opening : IsOpening s) (g h : List Entry) (goes_on : MayGoOn s n g)
     (o : BuildOutcome) (a : Answer) (x : Answered n (check_in o) s a g h) where
-  there : Moment
+  abbrev there : Moment
   there = replay s (g ++ x.made.between)
 
   kept : Keeps n (replay s g) there

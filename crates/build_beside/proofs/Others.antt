@@ -1,5 +1,5 @@
 -- For a pass that may build, others change markers alone.
-use Rattle.std.proofs.Common.{◌≡◌, ◌≢◌, ◌⊎◌, ◌<◌, ◌==◌, ◌&&◌, inl, inr, ℕ, Bool, true, false, not, List, [], ◌∷◌, ◌++◌, map, refl, sym, ap, ◌∙◌, subst}
+use Rattle.std.proofs.Common.{◌≡◌, ◌≢◌, ◌⊎◌, ◌<◌, ◌==◌, ◌&&◌, inl, inr, ℕ, Bool, true, false, not, List, [], ◌∷◌, map, refl, sym, ap, ◌∙◌}
 use Rattle.std.specs.Prelude.{Option, Some, None, is_none, option_and_then, unwrap_or}
 use Rattle.std.specs.Option.{option_eq, option_map, option_or}
 use Rattle.res_path.specs.Paths.{Names}
@@ -49,7 +49,7 @@ use Rattle.run_order.proofs.Managed.{step_services}
 use Rattle.ws_turn.specs.Lists.{of}
 use Rattle.pass_turns.proofs.There.{others}
 use Rattle.pass_history.proofs.Serving.{done_serving}
-use Rattle.pass_history.proofs.Standing.{others_never, others_stand}
+use Rattle.pass_history.proofs.Standing.{OthersQuiet, others_never, others_stand}
 use Rattle.build_still.proofs.Held.{path_refused}
 use Rattle.build_still.proofs.Markers.{HasPath}
 use Rattle.build_still.proofs.Others.{IsRooted, Stands, same_stands, step_rooted, step_stands}
@@ -209,7 +209,7 @@ others_keep s n h sound lt may told none = record {
     all : Stays n s (replay s h)
     all = stays_over s n h none rooted
 
-    quiet : _
+    quiet : OthersQuiet n s h
     quiet = others_stand s n h told none rooted.serves
 
     descs : desc_at (replay s h).resources.tree ≡ desc_at s.resources.tree

@@ -1,5 +1,5 @@
 -- What is handed, committed and cleaned, as the book of a build beside others has it.
-use Rattle.std.proofs.Common.{◌≡◌, ◌<◌, ◌≤◌, ℕ, Bool, true, not, List, [], ◌∷◌, ◌++◌, length, Option, Some, None, refl, sym, ap, ◌∙◌, subst, arith, length-append}
+use Rattle.std.proofs.Common.{◌≡◌, ◌<◌, ◌≤◌, ℕ, true, not, List, [], ◌∷◌, ◌++◌, length, Option, Some, None, refl, sym, ap, ◌∙◌, subst, arith, length-append}
 use Rattle.std.specs.Prelude.{IfSome}
 use Rattle.std.specs.Option.{option_map}
 use Rattle.pass_table.specs.Passes.{serves}
@@ -30,7 +30,7 @@ use Rattle.build_host.proofs.Clearing.{clears}
 use Rattle.build_host.proofs.Handing.{hands, it_serves}
 use Rattle.build_host.proofs.Results.{handed_answered}
 use Rattle.build_host.proofs.Taking.{takes}
-use Rattle.build_beside.specs.Turns.{Answered, IsOpening, Made, session}
+use Rattle.build_beside.specs.Turns.{Answered, IsOpening, session}
 use Rattle.build_beside.specs.Beside.{book_in}
 use Rattle.build_beside.proofs.Books.{book_aside, cleans_from, cleans_home, cleans_serving, hands_from, hands_home, hands_serving, not_home, takes_from, takes_home, takes_serving}
 use Rattle.build_beside.proofs.Others.{Keeps}

@@ -1,6 +1,6 @@
 -- What a turn of a pass is of a session, and how turns follow one another.
-use Rattle.std.proofs.Common.{◌≡◌, ◌<◌, ◌≤◌, ◌&&◌, ℕ, Bool, true, false, nat_eq, if◌then◌else◌, List, [], ◌∷◌, ◌++◌, map, refl, sym, ap, ◌∙◌, subst, arith, append-nil, append_assoc}
-use Rattle.std.specs.Prelude.{Result, Ok, Err, IfOk, IfSome, OnErr, Option, Some, None}
+use Rattle.std.proofs.Common.{◌≡◌, ◌<◌, ℕ, Bool, true, false, nat_eq, if◌then◌else◌, List, [], ◌∷◌, ◌++◌, refl, sym, ap, ◌∙◌, subst, arith, append-nil, append_assoc}
+use Rattle.std.specs.Prelude.{Result, Ok, Err, IfOk, OnErr}
 use Rattle.std.specs.declared.alloc.AllocError.{AllocError}
 use Rattle.std.specs.List.{AllByRecursion}
 use Rattle.res_path.proofs.Spelled.{both}
@@ -22,7 +22,7 @@ use Rattle.build_core.specs.Histories.{Steps, may_build}
 use Rattle.build_history.specs.Events.{IsBuilding, IsOwn}
 use Rattle.build_history.proofs.Keeping.{later_replies}
 use Rattle.build_history.proofs.Lists.{all_append}
-use Rattle.build_beside.specs.Turns.{Answered, Grew, IsOpening, IsSame, Looked, Made, WasLent, WasMade, pass_of, session}
+use Rattle.build_beside.specs.Turns.{Answered, Grew, IsOpening, IsSame, Looked, Made, WasMade, pass_of, session}
 use Rattle.build_beside.proofs.Below.{all_below}
 use Rattle.build_beside.proofs.Others.{Keeps, others_keep}
 
@@ -32,25 +32,25 @@ replay_sound s (x ∷ h) sound = replay_sound (after s x) h (step_sound s x.pass
 
 -- ---- what a turn left
 
-module _ {A : Type 0} (s : Moment) (k j : Knows Entry) (faithful : IsFaithful pass_of k) where
-  none_since : (found : List Entry) (w : StartsWith found k.seen) → of pass_of k.number found ≡ k.mine → of pass_of k.number w.0 ≡ []
-  none_since found w own = none_between pass_of k.number k.seen w.0 k.mine faithful.own (ap (of pass_of k.number) (sym w.1) ∙ own)
+pub none_since : (k : Knows Entry) → IsFaithful pass_of k → (found : List Entry) (w : StartsWith found k.seen) → of pass_of k.number found ≡ k.mine → of pass_of k.number w.0 ≡ []
+none_since k faithful found w own = none_between pass_of k.number k.seen w.0 k.mine faithful.own (ap (of pass_of k.number) (sym w.1) ∙ own)
 
+module _ {A : Type 0} (s : Moment) (k j : Knows Entry) (faithful : IsFaithful pass_of k) where
   pub same_turn : (did : Moment → ℕ → List Entry → List Entry → A → Type 0) (a : A) → TookTurn pass_of Legal did s a k j → IsSame k j
   same_turn did a t = record { number = t.number; lost = t.lost; faithful = t.faithful }
 
   pub looked_turn : (did : Moment → ℕ → List Entry → List Entry → A → Type 0) (a : A) (t : TookTurn pass_of Legal did s a k j) → t.added ≡ [] → Looked k.number s k.seen j.seen
   looked_turn did a t none = record {
     between = t.begins.0;
-    others = none_since t.found t.begins t.own_found;
+    others = none_since k faithful t.found t.begins t.own_found;
     are = t.seen ∙ (ap (λ l. t.found ++ l) none ∙ (append-nil t.found ∙ t.begins.1));
     legal = t.legal_seen;
   }
 
-  pub made_turn : (did : Moment → ℕ → List Entry → List Entry → A → Type 0) (e : Event) (a : A) (t : TookTurn pass_of Legal did s a k j) → t.added ≡ entry_of (replay s t.found) k.number e ∷ [] → Made k.number e s k.seen j.seen
+  abbrev pub made_turn : (did : Moment → ℕ → List Entry → List Entry → A → Type 0) (e : Event) (a : A) (t : TookTurn pass_of Legal did s a k j) → t.added ≡ entry_of (replay s t.found) k.number e ∷ [] → Made k.number e s k.seen j.seen
   made_turn did e a t one = record {
     between = t.begins.0;
-    others = none_since t.found t.begins t.own_found;
+    others = none_since k faithful t.found t.begins t.own_found;
     are = t.seen ∙ (ap (λ l. t.found ++ l) one ∙ ap (λ f. f ++ entry_of (replay s f) k.number e ∷ []) t.begins.1);
     legal_found = subst (Legal s) t.begins.1 t.legal_found;
     legal = t.legal_seen;

@@ -1,5 +1,5 @@
 -- For what builders are called by what the services are asked.
-use Rattle.std.specs.Prelude.{ℕ, List, [], ◌∷◌, Option, Some}
+use Rattle.std.specs.Prelude.{List, [], ◌∷◌, Option, Some}
 use Rattle.std.specs.List.{flat_map}
 use Rattle.builder_api.specs.Meanings.{Meanings}
 use Rattle.builder_api.specs.Told.{Built, Cleaned, Told}

@@ -54,9 +54,9 @@ pub record IsUnderWay (ms : Meanings) (s : Moment) (n : ℕ) (g h j : List Entry
   pub stays : StayBuilders ms old new
 
 -- a book that has the pass's entries in a history, and the state that this leads to, but for markers
-pub record IsLast (n : ℕ) (s : Moment) (told : List Told) (g : List Entry) (last : Book) : Type 0 where
+pub record IsLast (n : ℕ) (s : Moment) (tells : List Told) (g : List Entry) (last : Book) : Type 0 where
   pub mine : last.mine ≡ entries_of n s g
-  pub told : last.told ≡ told
+  pub told : last.told ≡ tells
   pub finds : Finds last.now (state_of (replay s g))
 
 -- a build that pass n began after the history k, and for which it took the services at the end of g, came to an outcome, up to j
