@@ -1,5 +1,5 @@
 pub mod Idle
 pub mod Coming
 pub mod Hosting
-pub mod Opening
+pub mod Begun
 pub mod Built

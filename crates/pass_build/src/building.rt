@@ -25,7 +25,7 @@ fn made<'a, R: Wait, T: BuildRoom>(host: &mut PassHost<'a, R, T>) -> Result<Buil
     requires opening { IsOpening (T.opened host.old.room.now) }
     requires same { IsSame (T.knows host.old.before.now.value) (T.knows host.old.pass.now) }
     requires rest { T.Services.rest host.old.services.now ≡ T.Services.rest host.old.lent.now.value }
-    requires hosted { IsHosted T.Told.meaning host.old.kind (option_copied host.old.project.entry) (T.opened host.old.room.now) (T.knows host.old.before.now.value).number host.old.plan.now host.old.ended.now
+    requires hosted { IsHosted T.Told.meaning host.old.kind (option_copied host.old.project) (T.opened host.old.room.now) (T.knows host.old.before.now.value).number host.old.plan.now host.old.ended.now
         (T.knows host.old.before.now.value).seen (T.knows host.old.taker.now.value).seen (T.knows host.old.last.now.value).seen (T.knows host.old.pass.now).seen (T.Services.tells host.old.lent.now.value) (T.Services.tells host.old.services.now) }
     ensures same_pass { host.new.pass.ghost_name ≡ host.old.pass.ghost_name }
     ensures same_services { host.new.services.ghost_name ≡ host.old.services.ghost_name }
@@ -34,14 +34,14 @@ fn made<'a, R: Wait, T: BuildRoom>(host: &mut PassHost<'a, R, T>) -> Result<Buil
     ensures of { T.is_of host.old.room.now host.new.pass.now }
     ensures same { IsSame (T.knows host.old.before.now.value) (T.knows host.new.pass.now) }
     ensures rest { T.Services.rest host.new.services.now ≡ T.Services.rest host.old.lent.now.value }
-    ensures hosted { IsHosted T.Told.meaning host.old.kind (option_copied host.old.project.entry) (T.opened host.old.room.now) (T.knows host.old.before.now.value).number host.new.plan.now host.new.ended.now
+    ensures hosted { IsHosted T.Told.meaning host.old.kind (option_copied host.old.project) (T.opened host.old.room.now) (T.knows host.old.before.now.value).number host.new.plan.now host.new.ended.now
         (T.knows host.old.before.now.value).seen (T.knows host.old.taker.now.value).seen (T.knows host.new.last.now.value).seen (T.knows host.new.pass.now).seen (T.Services.tells host.old.lent.now.value) (T.Services.tells host.new.services.now) }
-    ensures answered { IfOk result (λ answer. IsAnswered T.Told.meaning host.old.kind (option_copied host.old.project.entry)
+    ensures answered { IfOk result (λ answer. IsAnswered T.Told.meaning host.old.kind (option_copied host.old.project)
         (shown host.old.plan.now host.old.ended.now (entries_of (T.knows host.old.before.now.value).number (T.opened host.old.room.now) (T.knows host.old.before.now.value).seen)
         (book_in (T.opened host.old.room.now) (T.knows host.old.before.now.value).number (length (T.knows host.old.before.now.value).seen) (T.Services.tells host.old.began.now.value) (T.Services.tells host.old.services.now) (T.knows host.old.last.now.value).seen)) answer
         (shown host.new.plan.now host.new.ended.now (entries_of (T.knows host.old.before.now.value).number (T.opened host.old.room.now) (T.knows host.old.before.now.value).seen)
         (book_in (T.opened host.old.room.now) (T.knows host.old.before.now.value).number (length (T.knows host.old.before.now.value).seen) (T.Services.tells host.new.began.now.value) (T.Services.tells host.new.services.now) (T.knows host.new.last.now.value).seen))) }
-    ensures unanswered { OnErr result (IsUnanswered T.Told.meaning host.old.kind (option_copied host.old.project.entry)
+    ensures unanswered { OnErr result (IsUnanswered T.Told.meaning host.old.kind (option_copied host.old.project)
         (shown host.old.plan.now host.old.ended.now (entries_of (T.knows host.old.before.now.value).number (T.opened host.old.room.now) (T.knows host.old.before.now.value).seen)
         (book_in (T.opened host.old.room.now) (T.knows host.old.before.now.value).number (length (T.knows host.old.before.now.value).seen) (T.Services.tells host.old.began.now.value) (T.Services.tells host.old.services.now) (T.knows host.old.last.now.value).seen))
         (shown host.new.plan.now host.new.ended.now (entries_of (T.knows host.old.before.now.value).number (T.opened host.old.room.now) (T.knows host.old.before.now.value).seen)

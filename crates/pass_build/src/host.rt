@@ -106,16 +106,16 @@ impl<'a, R: Wait, T: BuildRoom> Host for PassHost<'a, R, T> {
     ghost ends = { λ entries done outcome. Unit {0} };
 
     ghost ready = { λ h. T.is_of h.room.now h.pass.now × IsOpening (T.opened h.room.now) × IsSame (T.knows h.before.now.value) (T.knows h.pass.now) × (T.Services.rest h.services.now ≡ T.Services.rest h.lent.now.value)
-        × IsHosted T.Told.meaning h.kind (option_copied h.project.entry) (T.opened h.room.now) (T.knows h.before.now.value).number h.plan.now h.ended.now
+        × IsHosted T.Told.meaning h.kind (option_copied h.project) (T.opened h.room.now) (T.knows h.before.now.value).number h.plan.now h.ended.now
         (T.knows h.before.now.value).seen (T.knows h.taker.now.value).seen (T.knows h.last.now.value).seen (T.knows h.pass.now).seen (T.Services.tells h.lent.now.value) (T.Services.tells h.services.now) };
 
     ghost stays = { λ a b. (b.pass.ghost_name ≡ a.pass.ghost_name) × (b.services.ghost_name ≡ a.services.ghost_name) × (b.plan.ghost_name ≡ a.plan.ghost_name) × (b.ended.ghost_name ≡ a.ended.ghost_name)
         × (b.room ≡ a.room) × (b.before ≡ a.before) × (b.taker ≡ a.taker) × (b.lent ≡ a.lent) × (b.kind ≡ a.kind) × (b.project ≡ a.project)
         × (T.is_of a.room.now a.pass.now × IsOpening (T.opened a.room.now) × IsSame (T.knows a.before.now.value) (T.knows a.pass.now) × (T.Services.rest a.services.now ≡ T.Services.rest a.lent.now.value)
-        × IsHosted T.Told.meaning a.kind (option_copied a.project.entry) (T.opened a.room.now) (T.knows a.before.now.value).number a.plan.now a.ended.now
+        × IsHosted T.Told.meaning a.kind (option_copied a.project) (T.opened a.room.now) (T.knows a.before.now.value).number a.plan.now a.ended.now
         (T.knows a.before.now.value).seen (T.knows a.taker.now.value).seen (T.knows a.last.now.value).seen (T.knows a.pass.now).seen (T.Services.tells a.lent.now.value) (T.Services.tells a.services.now)
         → T.is_of b.room.now b.pass.now × IsOpening (T.opened b.room.now) × IsSame (T.knows b.before.now.value) (T.knows b.pass.now) × (T.Services.rest b.services.now ≡ T.Services.rest b.lent.now.value)
-        × IsHosted T.Told.meaning b.kind (option_copied b.project.entry) (T.opened b.room.now) (T.knows b.before.now.value).number b.plan.now b.ended.now
+        × IsHosted T.Told.meaning b.kind (option_copied b.project) (T.opened b.room.now) (T.knows b.before.now.value).number b.plan.now b.ended.now
         (T.knows b.before.now.value).seen (T.knows b.taker.now.value).seen (T.knows b.last.now.value).seen (T.knows b.pass.now).seen (T.Services.tells b.lent.now.value) (T.Services.tells b.services.now)) };
 
     ghost stays_itself = { λ a. (refl, refl, refl, refl, refl, refl, refl, refl, refl, refl, λ h. h) };

@@ -1,5 +1,5 @@
 -- What the turns that begin a build come to, and those that end one.
-use Rattle.std.specs.Prelude.{◌≡◌, ◌⊎◌, ℕ, List, length}
+use Rattle.std.specs.Prelude.{◌≡◌, ◌⊎◌, ℕ, List, Option, length}
 use Rattle.builder_api.specs.declared.kind.BuildKind.{BuildKind}
 use Rattle.builder_api.specs.declared.outcome.BuildOutcome.{BuildOutcome}
 use Rattle.builder_api.specs.declared.plan.Plan.{Plan}
