@@ -69,7 +69,7 @@ fn hosted<R: Wait, T: BuildRoom>(
     requires of { T.is_of room.now pass.old }
     requires opening { IsOpening (T.opened room.now) }
     requires same { IsSame (T.knows before.now.value) (T.knows pass.old) }
-    requires begun { HasOpened kind (option_copied project.entry) (T.opened room.now) (T.knows before.now.value).number plan (T.knows before.now.value).seen (T.knows pass.old).seen }
+    requires begun { HasOpened kind (option_copied project) (T.opened room.now) (T.knows before.now.value).number plan (T.knows before.now.value).seen (T.knows pass.old).seen }
     requires served { IsServed T.Told.meaning (T.opened room.now) (T.Services.tells services.old) }
     ensures of { T.is_of room.now pass.new }
     ensures same { IsSame (T.knows before.now.value) (T.knows pass.new) }
@@ -145,7 +145,7 @@ fn served<R: Wait, T: BuildRoom>(
     requires of { T.is_of room.now pass.old }
     requires opening { IsOpening (T.opened room.now) }
     requires same { IsSame (T.knows before.now.value) (T.knows pass.old) }
-    requires begun { HasOpened kind (option_copied project.entry) (T.opened room.now) (T.knows before.now.value).number plan (T.knows before.now.value).seen (T.knows pass.old).seen }
+    requires begun { HasOpened kind (option_copied project) (T.opened room.now) (T.knows before.now.value).number plan (T.knows before.now.value).seen (T.knows pass.old).seen }
     requires fits { T.fits room.now (T.knows pass.old).seen services }
     requires served { IsServed T.Told.meaning (T.opened room.now) (T.Services.tells services) }
     ensures of { T.is_of room.now pass.new }
