@@ -14,9 +14,6 @@ mod worker;
 
 pub use host::Host;
 pub use phase::run_phase;
+pub use res_path::NoMemory;
 pub use run::run_phases;
-use std::alloc::AllocError;
 pub use worker::Worker;
-
-/// Memory wanted.
-pub type NoMemory = AllocError;
