@@ -26,7 +26,7 @@ pub(crate) struct Hold<D: Disk, B: Builder, P: Participant> {
 }
 
 /// The core of a workspace, with its services while no pass has them. A contract sees these, and with which services the
-/// workspace was opened. It is one pointer wide, so that a lock moves it at no cost.
+/// workspace was opened. It is one pointer wide, so that a lock moves no more.
 ///
 /// The services are home exactly where no pass has them, and then they fit what was done.
 #[derive(Drop)]
