@@ -13,9 +13,9 @@ given_back k = record k { joined = []; holds = false }
 
 module _ {E B : Type 0} (by : E → ℕ) (gives : E → Option ℕ) (legal : B → List E → Type 0) where
   -- the machine was given back as it was taken
-  pub let_nobody : (b : B) (k j : Known E) (h : List E) → j ≡ given_back (took k h) → StartsWith h k.seen → legal b h → IsFaithful by j
-      → LetNobodyIn by gives legal b (shown k) (shown j)
-  let_nobody b k j h is begins lawful faithful = record {
+  pub let_nobody : (lets_in : E → Type 0) (b : B) (k j : Known E) (h : List E) → j ≡ given_back (took k h) → StartsWith h k.seen → legal b h → IsFaithful by j
+      → LetNobodyIn by gives lets_in legal b (shown k) (shown j)
+  let_nobody lets_in b k j h is begins lawful faithful = record {
     found = h;
     added = [];
     begins = begins;

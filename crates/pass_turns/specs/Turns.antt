@@ -75,11 +75,11 @@ pub record LetIn {E B : Type 0} (by : E → ℕ) (gives : E → Option ℕ) (let
 
 -- A pass let none in for want of memory: it found a history that begins with what it had seen, to which it added nothing, or
 -- the entry that gives the number, which is lost then
-pub record LetNobodyIn {E B : Type 0} (by : E → ℕ) (gives : E → Option ℕ) (legal : B → List E → Type 0) (b : B) (k k' : Knows E) : Type 0 where
+pub record LetNobodyIn {E B : Type 0} (by : E → ℕ) (gives : E → Option ℕ) (lets_in : E → Type 0) (legal : B → List E → Type 0) (b : B) (k k' : Knows E) : Type 0 where
   pub found : List E
   pub added : List E
   pub begins : StartsWith found k.seen
-  pub at_most_one : (added ≡ []) ⊎ ((entry : E) × (added ≡ entry ∷ []) × (by entry ≡ k.number))
+  pub at_most_one : (added ≡ []) ⊎ ((entry : E) × (added ≡ entry ∷ []) × (by entry ≡ k.number) × lets_in entry)
   pub number : k'.number ≡ k.number
   pub seen : k'.seen ≡ found ++ added
   pub mine : k'.mine ≡ k.mine ++ added

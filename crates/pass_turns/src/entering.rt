@@ -24,7 +24,7 @@ pub(crate) fn let_in<S: Machine, R: Wait>(
     ensures there { S.is_there (base_of S.base lock.now) (known token.new).seen (known token.new).number ≡ true }
     ensures new_there { IfOk result (λ new. S.is_there (base_of S.base lock.now) (known new).seen (known new).number ≡ true) }
     ensures ok { IfOk result (λ new. LetIn S.by S.gives S.lets_in S.legal (base_of S.base lock.now) (shown (known token.old)) (shown (known token.new)) (shown (known new))) }
-    ensures err { OnErr result (LetNobodyIn S.by S.gives S.legal (base_of S.base lock.now) (shown (known token.old)) (shown (known token.new))) }
+    ensures err { OnErr result (LetNobodyIn S.by S.gives S.lets_in S.legal (base_of S.base lock.now) (shown (known token.old)) (shown (known token.new))) }
 {
     let mut machine = begin_turn(rt, lock, token);
     let entered = machine.enter(alloc, token.number());

@@ -118,7 +118,7 @@ impl<S: Machine> Room<S> {
         requires { IsOf self.now pass.old }
         ensures of { IsOf self.now pass.new × IfOk result (IsOf self.now) }
         ensures ok { IfOk result (λ new. LetIn S.by S.gives S.lets_in S.legal (base_of S.base self.now) (knows pass.old) (knows pass.new) (knows new)) }
-        ensures err { OnErr result (LetNobodyIn S.by S.gives S.legal (base_of S.base self.now) (knows pass.old) (knows pass.new)) }
+        ensures err { OnErr result (LetNobodyIn S.by S.gives S.lets_in S.legal (base_of S.base self.now) (knows pass.old) (knows pass.new)) }
     {
         let token = let_in(rt, &self.lock, alloc, &mut pass.token)?;
         Ok(Pass { token })

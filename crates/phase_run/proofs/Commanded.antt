@@ -25,7 +25,8 @@ use Rattle.build_host.specs.Hosts.{Goes, IsServed}
 use Rattle.build_host.specs.Hosts as host
 use Rattle.build_host.proofs.Keeping.{served_ready}
 use Rattle.phase_run.specs.Calm.{IsCalm}
-use Rattle.phase_run.specs.Inside.Doing.{IsAsked, IsReady, IsAtWork, Stops, Works, Ends}
+use Rattle.script_plan.specs.Plans.{IsAsked}
+use Rattle.phase_run.specs.Inside.Doing.{IsReady, IsAtWork, Stops, Works, Ends}
 use Rattle.phase_run.proofs.Calm.{calm_written, command_calm}
 
 pub ready_there : (s : Moment) → IsReady s → has_entered 1 s ≡ true

@@ -20,7 +20,7 @@ use Rattle.run_order.proofs.Idle.{take_gives}
 use Rattle.run_order.proofs.Taken.{step_left}
 use Rattle.run_order.proofs.Written.{written_more, written_none, taken_tried, untaken_tried}
 use Rattle.phase_run.specs.Calm.{IsCalm}
-use Rattle.phase_run.specs.Plans.{jobs_plan}
+use Rattle.script_plan.specs.Plans.{jobs_plan}
 use Rattle.phase_run.specs.Inside.Doing.{IsReady, IsAtWork, Makes, Stops, Ends, IsOver, Takes, TakesOne, TakesNone, job_given}
 use Rattle.phase_run.proofs.Calm.{calm_entry}
 use Rattle.phase_run.proofs.Commanded.{ready_there, zeroth_stays}

@@ -9,5 +9,4 @@ pub mod Jobs
 pub mod Phases
 pub mod Heard
 pub mod Runs
-pub mod Books
 pub mod Served

@@ -27,7 +27,7 @@ use Rattle.run_order.proofs.Parts.{parts_none, parts_whole}
 use Rattle.run_order.proofs.Staying.{step_stays}
 use Rattle.run_order.proofs.Idle.{schedule_keeps, cancel_keeps}
 use Rattle.run_order.proofs.Written.{schedule_tried, cancel_tried, act_made}
-use Rattle.phase_run.specs.Plans.{job_plan, jobs_plan}
+use Rattle.script_plan.specs.Plans.{job_plan, jobs_plan}
 use Rattle.phase_run.specs.Inside.Doing.{IsReady, Makes, Stops, IsOver}
 use Rattle.phase_run.proofs.Calm.{calm_written}
 use Rattle.phase_run.proofs.Commanded.{ready_there}

@@ -33,7 +33,7 @@ use Rattle.run_order.proofs.Lists.{some_acts, cut_none}
 use Rattle.run_order.proofs.Counted.{phases_next, cut_in_phase_at, cut_between_at}
 use Rattle.run_order.proofs.Whole.{run_whole, shuffle_of, cut_entering, cut_shuffle_of}
 use Rattle.save_parts.specs.Heard.{Heard}
-use Rattle.phase_run.specs.Plans.{phase_plan, phases_plan}
+use Rattle.script_plan.specs.Plans.{phase_plan, phases_plan}
 use Rattle.phase_run.specs.Inside.Doing.{IsReady, Makes}
 use Rattle.phase_run.specs.Inside.Running.{RunsPhase, CutsPhase, RunsPhases, CutsPhases}
 use Rattle.phase_run.proofs.Calm.{calm_written}

@@ -20,7 +20,6 @@ use Rattle.pass_table.specs.Passes.{has_pass}
 use Rattle.ws_core.specs.Histories.{has_entered}
 use Rattle.ws_core.specs.Sessions.{Session}
 use Rattle.build_history.specs.Events.{NoBuilds, is_of_build}
-use Rattle.run_order.proofs.Alone.{OnlyBy}
 use Rattle.run_order.specs.Alone.{IsBusy}
 use Rattle.run_order.proofs.Idle.{is_there}
 use Rattle.run_order.specs.Lists.{Cut, Grew}
@@ -32,41 +31,6 @@ use Rattle.phase_run.specs.Inside.Doing.{IsAtWork, Stops, Works}
 use Rattle.phase_run.proofs.Calm.{calm_more}
 
 -- ---- the entries of a save
-
--- of each kind there is one: one that is refused at once
-abbrev refused_save : SaveKind → Entry
-refused_save kind = record { pass = 1; event = Service (beginning kind); reply = record { answer = answers.Refused (refusals.ServicesOut 0); notice = None } }
-
-pub some_save : (kind : SaveKind) → (l : List Entry) × IsSave 1 kind l
-some_save kind = (
-  refused_save kind ∷ [],
-  (
-    Stopped (refusal_number (refusals.ServicesOut 0)),
-    record {
-      refusal = refusals.ServicesOut 0;
-      number = refl;
-      entry = refused_save kind;
-      are = refl;
-      refused = record { pass = refl; event_is = refl; answer_is = refl };
-    },
-  ),
-)
-
-module _ (P : Entry → Type 0) (k : ℕ) (kind : SaveKind) (each : (event : ServiceEvent) (a : Answer) (x : Entry) → IsAnswered k event a x → P x) where
-  -- what holds of each entry that the pass asked of the services
-  all_of : (s : Saved) (h : List Entry) → IsSaveOf k kind s h → AllByRecursion P h
-  all_of (Ended o) h (inl w) = subst (AllByRecursion P) (sym w.are) (each (beginning kind) answers.Done w.first w.begins, (each (ending o) answers.Done w.last w.ends, tt))
-  all_of (Ended o) h (inr w) = subst (AllByRecursion P) (sym w.are)
-      (each (beginning kind) answers.Done w.first w.begins, (each (Saving w.states) answers.Done w.middle w.keeps, (each (ending o) answers.Done w.last w.ends, tt)))
-  all_of (Stopped n) h w = subst (AllByRecursion P) (sym w.are) (each (beginning kind) (answers.Refused w.refusal) w.entry w.refused, tt)
-
-only_by : (k : ℕ) (h : List Entry) → AllByRecursion (λ (x : Entry). x.pass ≡ k) h → OnlyBy k h
-only_by k [] all = tt
-only_by k (x ∷ h) all = (all.0, only_by k h all.1)
-
--- one pass makes all of them
-pub save_by : (k : ℕ) (kind : SaveKind) (h : List Entry) → IsSave k kind h → OnlyBy k h
-save_by k kind h s = only_by k h (all_of (λ x. x.pass ≡ k) k kind (λ event a x is. is.pass) s.0 h s.1)
 
 -- of these events none is of a build
 asked_quiet : (k : ℕ) (kind : SaveKind) (s : Saved) (h : List Entry) → IsSaveOf k kind s h → NoBuilds h

@@ -1,4 +1,3 @@
 -- Words that private code alone speaks of.
 pub mod Doing
-pub mod Books
 pub mod Running

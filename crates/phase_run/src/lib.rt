@@ -1,16 +1,12 @@
 //! The phases of a script, run by one worker on a workspace.
 //!
-//! - `plan`: what commands and jobs ask of the workspace.
-//! - `book`: the jobs of a phase, by name.
 //! - `worker`: the worker takes jobs, does their commands and finishes them.
 //! - `phase`: pass 0 schedules the jobs, the worker runs them, and pass 0 cancels those that sleep.
 //! - `telling`: listeners are told what entries tell.
 //! - `run`: the worker enters, the phases are run one after another, and it leaves.
 #![tactic(auto)]
 
-mod book;
 mod phase;
-mod plan;
 mod run;
 mod telling;
 mod worker;

@@ -11,12 +11,11 @@ ghost use Rattle.save_run.specs.declared.command.Saved.TheVariants as saves;
 ghost use Rattle.save_history.specs.Saves.{IsSave};
 ghost use Rattle.run_order.specs.Lists.{Cut, InTurn};
 ghost use Rattle.run_order.specs.Parts.{CommandEntries, Parts};
-ghost use Rattle.phase_run.specs.Plans.{AskedEntries, Made, jobs_plan};
-ghost use Rattle.phase_run.specs.Inside.Doing.{IsAskable, IsAsked, IsReady, IsAtWork, Makes, Stops, Works, Ends, IsOver, Takes, job_given};
+ghost use Rattle.script_plan.specs.Plans.{AskedEntries, IsAskable, IsAsked, jobs_plan};
+ghost use Rattle.phase_run.specs.Plans.{Made};
+ghost use Rattle.phase_run.specs.Inside.Doing.{IsReady, IsAtWork, Makes, Stops, Works, Ends, IsOver, Takes, job_given};
 
 use crate::NoMemory;
-use crate::book::JobBook;
-use crate::plan::{Asked, asked_of};
 use build_host::settle;
 use build_run::BuildAnswer;
 use builder_api::{BuildKind, BuildOutcome, Builder, Builders, Meanings};
@@ -26,6 +25,7 @@ use save_kind::{SaveAnswer, SaveKind};
 use save_round::Participant;
 use save_run::Saved;
 use script_lang::{Command, Job};
+use script_plan::{Asked, JobBook, asked_of};
 use std::alloc::{AllocError, Global};
 use ws_outside::Disk;
 use ws_saved::SavedWorkspace;
@@ -118,7 +118,7 @@ fn do_asked<D: Disk, P: Participant, B: Builder, M: Meanings>(
     requires work { IsAtWork space.old.core.state }
     requires asked { IsAskable asked }
     requires served { IsServed M.meaning space.old.core.opened (map (λ b. B.tells b) builders.old) }
-    ensures done { MatchResult result (λ _. Works (AskedEntries M.meaning 1 asked) space.old.core space.new.core) (λ _. Stops (Cut (AskedEntries M.meaning 1 asked)) space.old.core space.new.core) }
+    ensures done { MatchResult result (λ _. Works (AskedEntries (IsBuild M.meaning) 1 asked) space.old.core space.new.core) (λ _. Stops (Cut (AskedEntries (IsBuild M.meaning) 1 asked)) space.old.core space.new.core) }
     ensures serves { Serves M.meaning space.old.core space.new.core (map (λ b. B.tells b) builders.old) (map (λ b. B.tells b) builders.new) }
     ensures start { (space.new.keeper.began ≡ space.old.keeper.began) × (space.new.began ≡ space.old.began) }
 {

@@ -22,6 +22,7 @@ mod writing;
 pub use entry_text::{is_shown, put_line};
 pub use event_text::put_event;
 pub use printing::{print_entries, print_headed};
+pub use read_text::put_digest;
 pub use res_path::NoMemory;
 pub use under_way::Current;
 pub use writing::{Unwritten, write_all, write_waiting};

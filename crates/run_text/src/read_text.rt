@@ -78,7 +78,11 @@ fn put_first_contents(out: &mut Vec<u8>, entries: &[(Path, Element)]) -> Result<
 }
 
 /// Appends the digest of these elements, whose paths are seen from this one.
-fn put_digest(out: &mut Vec<u8>, path: &Path, entries: &[(Path, Element)]) -> Result<(), NoMemory>
+pub fn put_digest(
+    out: &mut Vec<u8>,
+    path: &Path,
+    entries: &[(Path, Element)],
+) -> Result<(), NoMemory>
     ensures { OnOk result (out.new.items ≡ out.old.items ++ digest_text path.now entries.now) }
 {
     let digest = digest_text(*out.allocator(), entries, path)?;

@@ -35,7 +35,7 @@ check a a|phase/|0|9|2 0 0 1|status 2/
 gen 07|phase/|0|9|2 0 0 1|status 2/
 gen 7|phase/|0|0|4 0 0 1|
 gen 7|phase/|0|1|4 0 0 2|phase/job setu
---help|phase/|0|99|0 0 0 22|wsrun run A B//Runs the script on standard input, on the workspace that the area files A and B hold, and prints what was done. A save goes into these files.//wsrun check A B//Prints what the area files A and B hold.//wsrun gen N//Prints the script that the number N gives, which has at most nine digits./
+--help|phase/|0|99|0 0 0 38|wsrun run A B//Runs the script on standard input, on the workspace that the area files A and B hold, and prints what was done. A save goes into these files.//wsrun check A B//Prints what the area files A and B hold.//wsrun gen N//Prints the script that the number N gives, which has at most nine digits.//wsrun load N A B//Runs that script on the workspace that A and B hold, as run does, and prints how many jobs were finished, how many builds settled, how many elements the workspace has then, and the digest of its tree./
 --version|phase/|0|9|0 0 0 1|wsrun 0.1.0/
 --version|phase/|0|0|4 0 0 1|";
 

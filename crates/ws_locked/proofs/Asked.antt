@@ -1,21 +1,22 @@
 -- What an event that was asked leaves.
 use Rattle.std.proofs.Common.{◌≡◌, ◌≢◌, inl, inr, ℕ, Bool, true, false, List, [], ◌∷◌, ◌++◌, refl, sym, ap, ◌∙◌, subst, append-nil, true≢false, if◌then◌else◌}
-use Rattle.std.specs.Prelude.{None, Result, Ok, Err, IfOk, IsOk, OnOk, OnErr}
+use Rattle.std.specs.Prelude.{Option, Some, None, Result, Ok, Err, IfNone, IfOk, IfSome, IsOk, OnOk, OnErr}
 use Rattle.std.specs.declared.alloc.AllocError.{AllocError}
 use Rattle.core_event.specs.declared.entry.Entry.{Entry}
 use Rattle.core_event.specs.declared.event.Event.{Event}
 use Rattle.core_event.specs.declared.event.Event.TheVariants.{Enter, Leave, Schedule, Sleep, Wake, Cancel, Take, Finish, Begin, TryBegin, End, Transfer, Batch, EndBatch, Checkpoint, Operation, Service}
 use Rattle.core_event.specs.declared.reply.Answer.{Answer}
 use Rattle.core_event.specs.declared.reply.Reply.{Reply}
+use Rattle.core_event.specs.Replies.{is_attempt}
 use Rattle.job_manager.specs.Ends.{EndsLast}
 use Rattle.ws_core.specs.States.{Moment}
 use Rattle.ws_core.specs.Steps.{step}
 use Rattle.ws_core.specs.Histories.{entry_of, only_tried, replay, written}
 use Rattle.ws_core.specs.Sessions.{Session}
-use Rattle.pass_turns.specs.Adds.{AddsUpToOne}
+use Rattle.pass_turns.specs.Adds.{AddsUpToOne, Tried}
 use Rattle.pass_history.specs.There.{gives, given_by, is_there}
 use Rattle.pass_history.proofs.Staying.{stays_after}
-use Rattle.ws_locked.specs.Asked.{WasAsked, is_plain, noted}
+use Rattle.ws_locked.specs.Asked.{WasAsked, WasTried, is_plain, noted}
 
 noted_on : (b : Bool) (h : List Entry) (x : Entry) → (if b then h else h ++ x ∷ []) ≡ h ++ (if b then [] else x ∷ [])
 noted_on true h x = sym (append-nil h)
@@ -84,11 +85,54 @@ adds_one e s n h added (Ok reply) is was =
     subst (AddsUpToOne (λ (y : Entry). y.pass) gives n) (sym was.entry) (noted_one (only_tried x) x n refl (plain_gives e x.reply.answer is))
 adds_one e s n h added (Err error) is was = inl was.nothing
 
+-- where nothing was added
+pub none_there : (s : Moment) (n : ℕ) (h added : List Entry) → is_there s h n ≡ true → added ≡ [] → is_there s (h ++ added) n ≡ true
+none_there s n h added there none = subst (λ l. is_there s (h ++ l) n ≡ true) (sym none) (ap (λ l. is_there s l n) (append-nil h) ∙ there)
+
 pub still_there : (e : Event) (s : Moment) (n : ℕ) (h added : List Entry) (r : Result Reply AllocError) → is_plain e ≡ true → is_there s h n ≡ true → WasAsked e s n h added r → is_there s (h ++ added) n ≡ true
 still_there e s n h added (Ok reply) is there was =
     let x = entry_of (replay s h) n e in
     subst (λ l. is_there s (h ++ l) n ≡ true) (sym was.entry) (noted_there (only_tried x) s h x n there (λ leave. absurd (plain_stays e is leave)))
-still_there e s n h added (Err error) is there was = subst (λ l. is_there s (h ++ l) n ≡ true) (sym was.nothing) (ap (λ l. is_there s l n) (append-nil h) ∙ there)
+still_there e s n h added (Err error) is there was = none_there s n h added there was.nothing
 
 pub stood_there : (e : Event) (s : Moment) (n : ℕ) (h added : List Entry) → is_plain e ≡ true → is_there s h n ≡ true → added ≡ entry_of (replay s h) n e ∷ [] → is_there s (h ++ added) n ≡ true
 stood_there e s n h added is there one = subst (λ l. is_there s (h ++ l) n ≡ true) (sym one) (stays_after s h (entry_of (replay s h) n e) n there (λ leave. absurd (plain_stays e is leave)))
+
+-- ---- an event that was tried
+
+-- it stands where it is more than an attempt
+pub tried_stands : (e : Event) (s : Moment) (n : ℕ) (h added : List Entry) (reply : Reply) → WasAsked e s n h added (Ok reply) → is_attempt e reply.answer ≡ false → WasTried e s n h added (Ok (Some reply))
+tried_stands e s n h added reply was more = record {
+  reply = was.reply;
+  entry = was.entry ∙ ap (λ (b : Bool). if b then [] else entry_of (replay s h) n e ∷ []) (ap (λ (r : Reply). is_attempt e r.answer) (sym was.reply) ∙ more);
+  waits = tt;
+  without = tt;
+  nothing = tt;
+}
+
+pub tried_waits : (e : Event) (s : Moment) (n : ℕ) (h added : List Entry) (reply : Reply) → WasAsked e s n h added (Ok reply) → is_attempt e reply.answer ≡ true → WasTried e s n h added (Ok None)
+tried_waits e s n h added reply was only =
+    let waits : is_attempt e (step (replay s h) n e).1.answer ≡ true = ap (λ (r : Reply). is_attempt e r.answer) (sym was.reply) ∙ only in
+    record {
+      reply = tt;
+      entry = tt;
+      waits = waits;
+      without = was.entry ∙ ap (λ (b : Bool). if b then [] else entry_of (replay s h) n e ∷ []) waits;
+      nothing = tt;
+    }
+
+-- what is answered of it, or that it waits
+pub answered : (e : Event) (same : Type 0) (s : Moment) (n : ℕ) (h added : List Entry) (r : Result (Option Reply) AllocError) (o : Option (Result (Option Reply) AllocError)) → WasTried e s n h added r → same → IfSome o (λ a. a ≡ r) → IfNone o (r ≡ Ok None)
+    → Tried (WasTried e) same s n h added o
+answered e same s n h added r (Some a) was it answer waits = subst (WasTried e s n h added) (sym answer) was
+answered e same s n h added r None was it answer waits = let none : WasTried e s n h added (Ok None) = subst (WasTried e s n h added) waits was in (none.without, it)
+
+pub tried_one : (e : Event) (s : Moment) (n : ℕ) (h added : List Entry) (r : Result (Option Reply) AllocError) → is_plain e ≡ true → WasTried e s n h added r → AddsUpToOne (λ (y : Entry). y.pass) gives n added
+tried_one e s n h added (Ok (Some reply)) is was = inr (entry_of (replay s h) n e, was.entry, refl, plain_gives e (step (replay s h) n e).1.answer is)
+tried_one e s n h added (Ok None) is was = inl was.without
+tried_one e s n h added (Err error) is was = inl was.nothing
+
+pub tried_there : (e : Event) (s : Moment) (n : ℕ) (h added : List Entry) (r : Result (Option Reply) AllocError) → is_plain e ≡ true → is_there s h n ≡ true → WasTried e s n h added r → is_there s (h ++ added) n ≡ true
+tried_there e s n h added (Ok (Some reply)) is there was = stood_there e s n h added is there was.entry
+tried_there e s n h added (Ok None) is there was = none_there s n h added there was.without
+tried_there e s n h added (Err error) is there was = none_there s n h added there was.nothing

@@ -1,6 +1,7 @@
 pub mod Fitting
 pub mod Halls
 pub mod Asked
+pub mod Taking
 pub mod Numbers
 pub mod Began
 pub mod Going

@@ -47,11 +47,12 @@ pub record HasStood (e : Event) (s : Moment) (n : ℕ) (found added : List Entry
   pub entry : IfOk answer (λ r. added ≡ entry_of (replay s found) n e ∷ [])
   pub nothing : OnErr answer (added ≡ [])
 
--- an event was tried: it stood, or it only found that it must wait, and nothing was done
+-- An event was tried: it stood, or it only found that it must wait, and nothing was added
 pub record WasTried (e : Event) (s : Moment) (n : ℕ) (found added : List Entry) (answer : Result (Option Reply) AllocError) : Type 0 where
   pub reply : IfOk answer (λ o. IfSome o (λ r. r ≡ (step (replay s found) n e).1))
   pub entry : IfOk answer (λ o. IfSome o (λ r. added ≡ entry_of (replay s found) n e ∷ []))
-  pub waits : IfOk answer (λ o. IfNone o (added ≡ []))
+  pub waits : IfOk answer (λ o. IfNone o (only_tried (entry_of (replay s found) n e) ≡ true))
+  pub without : IfOk answer (λ o. IfNone o (added ≡ []))
   pub nothing : OnErr answer (added ≡ [])
 
 -- the jobs were counted as they were at the end of the history that was found, to which nothing was added

@@ -1,5 +1,5 @@
 //! An event of a pass, in one turn.
-ghost use Rattle.std.specs.Prelude.{◌≡◌, Some};
+ghost use Rattle.std.specs.Prelude.{◌≡◌, None, Ok, Some, true, IfNone, IfSome};
 
 use crate::Locked;
 use crate::vow::Vow;
@@ -10,6 +10,7 @@ use pass_turns::{Attempt, Deed};
 use res_path::NoMemory;
 use save_round::Participant;
 use std::alloc::Global;
+use std::sync::atomic::{AtomicBool, Ordering};
 use ws_core::JobCount;
 use ws_outside::Disk;
 
@@ -105,6 +106,59 @@ impl<D: Disk, B: Builder, P: Participant, V: Vow> Attempt<Locked<D, B, P, V>> fo
             Err(error) => Some(Err(error)),
         }
     }
+}
+
+/// The same, of who gives up where the event must wait and the flag is set: then nothing is done, and the answer has no reply.
+#[derive(Drop)]
+pub struct WishUnless<'a> {
+    pub event: Event,
+    pub stop: &'a AtomicBool,
+}
+
+impl<'a, D: Disk, B: Builder, P: Participant, V: Vow> Attempt<Locked<D, B, P, V>>
+    for WishUnless<'a> {
+    ghost use Rattle.std.specs.Prelude.{◌≡◌, true};
+    ghost use Rattle.ws_locked.specs.Asked.{WasTried, is_plain};
+
+    type Answer = Result<Option<Reply>, NoMemory>;
+
+    ghost may = { λ a o n found. is_plain a.event ≡ true };
+
+    ghost did = { λ a o n found added answer. WasTried a.event o.core.value.opened n found added answer };
+
+    fn attempt(
+        &mut self,
+        alloc: Global,
+        machine: &mut Locked<D, B, P, V>,
+        pass: u64,
+    ) -> Option<Result<Option<Reply>, NoMemory>> {
+        let stopped = self.stop.load(Ordering::SeqCst);
+        if !stopped && !machine.may_go(pass, &self.event) {
+            return None;
+        }
+        answer_to(machine.try_event(alloc, pass, &self.event), stopped)
+    }
+}
+
+/// The answer of who tried an event: none where it must wait, unless it gives up.
+fn answer_to(
+    tried: Result<Option<Reply>, NoMemory>,
+    gives_up: bool,
+) -> Option<Result<Option<Reply>, NoMemory>>
+    ensures answer { IfSome result (λ answer. answer ≡ tried) }
+    ensures waits { IfNone result (tried ≡ Ok None) }
+{
+    if !gives_up && must_wait(&tried) {
+        return None;
+    }
+    Some(tried)
+}
+
+/// Whether the event that was tried only found that it must wait.
+fn must_wait(tried: &Result<Option<Reply>, NoMemory>) -> bool
+    ensures { result ≡ true → tried.now ≡ Ok None }
+{
+    matches!(tried, Ok(None))
 }
 
 /// The jobs are to be counted.

@@ -7,12 +7,14 @@
 //! - `machine`: that value as a machine that passes share.
 //! - `moving`: the services go out to a pass, and come home.
 //! - `asking`: an event of a pass, in one turn.
+//! - `jobs`: what a pass asks of the jobs, in one turn.
 //! - `handing`: the services, in one turn of a pass.
 //! - `telling`: what a history tells.
 #![tactic(auto)]
 
 mod asking;
 mod handing;
+mod jobs;
 mod locked;
 mod machine;
 mod moving;
@@ -20,8 +22,9 @@ mod services;
 mod telling;
 mod vow;
 
-pub use asking::{Ask, Commit, Count, Tell, Wish};
+pub use asking::{Ask, Commit, Count, Tell, Wish, WishUnless};
 pub use handing::{Await, Give, Given, Keep, Take};
+pub use jobs::{Asleep, TakeJob};
 pub use locked::Locked;
 pub use moving::CheckInError;
 pub use res_path::NoMemory;

@@ -1,5 +1,5 @@
 -- What contracts see of a workspace and its passes.
-use Rattle.std.specs.Prelude.{ℕ, List, Result}
+use Rattle.std.specs.Prelude.{ℕ, List, Option, Result}
 use Rattle.std.specs.declared.alloc.AllocError.{AllocError}
 use Rattle.core_event.specs.declared.entry.Entry.{Entry}
 use Rattle.core_event.specs.declared.event.Event.{Event}
@@ -7,7 +7,7 @@ use Rattle.core_event.specs.declared.reply.Reply.{Reply}
 use Rattle.ws_core.specs.Histories.{Legal}
 use Rattle.pass_turns.specs.Turns as rooms
 use Rattle.pass_turns.specs.Turns.{Knows, TookTurn}
-use Rattle.ws_locked.specs.Asked.{HasStood, WasAsked}
+use Rattle.ws_locked.specs.Asked.{HasStood, WasAsked, WasTried}
 use Rattle.ws_locked.specs.Halls.{state_in}
 use Rattle.pass_turns.specs.declared.machine.Machine.{Ghosts as Machine}
 use Rattle.pass_turns.specs.declared.pass.Pass.{Pass}
@@ -32,6 +32,10 @@ Asked o e answer k k' = TookTurn pass_of legal_from (λ p. WasAsked e (state_in 
 -- the same of an event that waited until it was more than an attempt
 abbrev pub Stood : {D B P : Type 0} → Opening D B P → Event → Result Reply AllocError → Knows Entry → Knows Entry → Type 0
 Stood o e answer k k' = TookTurn pass_of legal_from (λ p. HasStood e (state_in p)) o answer k k'
+
+-- the same of an event that may be given up where it only found that it must wait
+abbrev pub StoodUnless : {D B P : Type 0} → Opening D B P → Event → Result (Option Reply) AllocError → Knows Entry → Knows Entry → Type 0
+StoodUnless o e answer k k' = TookTurn pass_of legal_from (λ p. WasTried e (state_in p)) o answer k k'
 
 module _ {D B P V : Type 0} {M : Machine (Locked D B P V) Entry (Opening D B P)} {L : Logged (Locked D B P V) Entry (Opening D B P)} where
   -- the pass is one of this workspace's

@@ -2,6 +2,7 @@
 //!
 //! - `job`: a `JobEvent`, what a pass may ask of a job.
 //! - `workspace`: the `Workspace` with its calls of one event.
+//! - `working`: what a worker of a pool asks beside a pass's other calls.
 //! - `opening`: a workspace is opened over what a disk's two areas hold.
 //! - `saving`: a save of a pass, beside what other passes do.
 #![tactic(auto)]
@@ -9,6 +10,7 @@
 mod job;
 mod opening;
 mod saving;
+mod working;
 mod workspace;
 
 pub use job::JobEvent;

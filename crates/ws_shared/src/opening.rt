@@ -11,6 +11,7 @@ ghost use Rattle.save_history.specs.Kept.{IsKept, disk_of};
 ghost use Rattle.job_manager.specs.Managers.{first_manager};
 ghost use Rattle.ws_core.specs.Durables.{kept_since};
 ghost use Rattle.ws_core.specs.Opened.{opened_of};
+ghost use Rattle.ws_core.specs.Sessions.{IsConsistent};
 ghost use Rattle.pass_turns.specs.Turns.{knows};
 ghost use Rattle.ws_opening.specs.Restored.{restored_of};
 ghost use Rattle.ws_locked.specs.Halls.{state_in};
@@ -43,9 +44,12 @@ fn over<D: Disk, B: Builder, P: Participant, V: Vow>(
     ensures of { IfOk result (λ r. IsOf r.0 r.1) }
     ensures pass { IfOk result (λ r. knows r.1 ≡ record { number = 0; seen = []; mine = []; lost = [] }) }
     ensures opening { IfOk result (λ r. let o = opening_of r.0 in (o.core.value ≡ fresh.core) × (o.keeper.value ≡ fresh.keeper) × (o.builders.value ≡ fresh.builders) × (o.participants.value ≡ fresh.participants)) }
+    ensures sound { IfOk result (λ r. IsConsistent (state_in (opening_of r.0))) }
+    ensures first { IfOk result (λ r. (state_in (opening_of r.0)).manager ≡ first_manager) }
     ensures restored { IfOk result (λ r. r.2 ≡ fresh.restored) }
     ensures err { IfErr result (λ e. (e.0 ≡ OpenFault.Memory) × (e.1 ≡ disk_of fresh.keeper) × (e.2 ≡ fresh.builders) × (e.3 ≡ fresh.participants)) }
 {
+    let _ = fresh.core.state();
     let Fresh {
         core,
         keeper,
@@ -80,7 +84,8 @@ fn over<D: Disk, B: Builder, P: Participant, V: Vow>(
 
 impl<D: Disk, B: Builder, P: Participant, V: Vow> Workspace<D, B, P, V> {
     /// The workspace that the two areas of the disk hold, with these builders, its first pass, which has the number 0, and what
-    /// participants got back (`ISavedState`): the first one of each name under which something is kept got that.
+    /// participants got back (`ISavedState`): the first one of each name under which something is kept got that. The state that
+    /// is opened is consistent, no job is there, and pass 0 alone has entered.
     ///
     /// Refused with Disk where the disk's count of faults rose, with the first damage of the areas, and with Memory; then all
     /// is handed back. The areas hold what they held, and a crash leaves of them what it could have left before. Participants
@@ -102,6 +107,8 @@ impl<D: Disk, B: Builder, P: Participant, V: Vow> Workspace<D, B, P, V> {
         ensures only { IfSome (D.seen disk) (λ both. (d : Saved) → Holds both d → MatchResult result (λ r. d ≡ saved (opening_of r.0).keeper.value.began.last) (λ e. IsUndamaged e.0)) }
         ensures valid { IfOk result (λ r. Valid (saved (opening_of r.0).keeper.value.began.last)) }
         ensures opened { IfOk result (λ r. state_in (opening_of r.0) ≡ opened_of (saved (opening_of r.0).keeper.value.began.last) (map (λ b. b.named) (map (λ b. B.tells b) builders))) }
+        ensures sound { IfOk result (λ r. IsConsistent (state_in (opening_of r.0))) }
+        ensures first { IfOk result (λ r. (state_in (opening_of r.0)).manager ≡ first_manager) }
         ensures builders { MatchResult result (λ r. (opening_of r.0).builders.value ≡ builders) (λ e. e.2 ≡ builders) }
         ensures participants { IfOk result (λ r. WereRestored (kept_since (state_in (opening_of r.0))) (map (λ p. P.tells p) participants) (map (λ p. P.tells p) (opening_of r.0).participants.value)) }
         ensures restored { IfOk result (λ r. r.2.items ≡ restored_of (kept_since (state_in (opening_of r.0))) (map (λ p. P.tells p) participants)) }

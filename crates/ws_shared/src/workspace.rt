@@ -311,7 +311,7 @@ impl<D: Disk, B: Builder, P: Participant, V: Vow> Workspace<D, B, P, V> {
         requires { IsOf self.now pass.old }
         ensures of { IsOf self.now pass.new × IfOk result (IsOf self.now) }
         ensures ok { IfOk result (λ new. LetIn pass_of gives LetsIn legal_from (opening_of self.now) (knows pass.old) (knows pass.new) (knows new)) }
-        ensures err { OnErr result (LetNobodyIn pass_of gives legal_from (opening_of self.now) (knows pass.old) (knows pass.new)) }
+        ensures err { OnErr result (LetNobodyIn pass_of gives LetsIn legal_from (opening_of self.now) (knows pass.old) (knows pass.new)) }
     {
         self.room.split(rt, alloc, pass)
     }

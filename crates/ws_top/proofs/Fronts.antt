@@ -9,11 +9,10 @@ use Rattle.run_text.specs.declared.writing.Unwritten.TheVariants.{Fault, Memory}
 use Rattle.run_text.specs.Printing.{PrintsSome, IsCause, PrintsAll, PrintsFront}
 use Rattle.run_text.proofs.Printed.{some_of, some_front, some_before, some_more, whole_of, front_of}
 use Rattle.run_text.proofs.Written.{gains_more}
-use Rattle.save_round.specs.Told.{Told}
 use Rattle.ws_core.specs.States.{Moment}
 use Rattle.ws_top.specs.Inside.Parts.{WritesLast, WritesReport, IsBreak, WritesRun}
 use Rattle.ws_top.specs.Outcomes.{Writes}
-use Rattle.ws_top.specs.Texts.{report_from, status_line}
+use Rattle.ws_top.specs.Texts.{Report, status_line}
 
 -- all of a text is a front of it
 pub all_is_front : (a b : Option (List ℕ)) (t : List ℕ) → Gains a t b → GainsFront a t b
@@ -58,14 +57,14 @@ pub report_some : (a b : Option (List ℕ)) (f g : ℕ) (p t : List ℕ) (e : Un
 report_some a b f g p t e z d = (some_front a b p t t d.some (ap (λ (xs : List ℕ). xs ++ t) (sym z)), d.cause)
 
 -- the last line was written after what comes before it, or a front of it
-pub run_then : {T : Type 0} (a b c : Option (List ℕ)) (f g i : ℕ) (parts : List Told) (opened : Moment) (h : List Entry) (n : ℕ) (line : List ℕ) (r : Result T Unwritten)
-    → line ≡ status_line n → Gains a (report_from parts opened h) b × (g ≡ f) → WritesLast b c g i line r → WritesRun a c f i parts opened h n r
-run_then a b c f g i parts opened h n line (Ok x) l (d, calm) (w, e) =
-    (gains_more a b c (report_from parts opened h) (status_line n) d (subst (λ (xs : List ℕ). Gains b xs c) l w), e ∙ calm)
-run_then a b c f g i parts opened h n line (Err x) l (d, calm) (k, w, rose) = subst (λ (e : Unwritten). IsBreak e a c f i parts opened h n) (sym k)
-    (front_after a b c (report_from parts opened h) (status_line n) d (subst (λ (xs : List ℕ). GainsFront b xs c) l w), rose_on f g i calm rose)
+pub run_then : {T : Type 0} (a b c : Option (List ℕ)) (f g i : ℕ) (report : Report) (opened : Moment) (h : List Entry) (n : ℕ) (line : List ℕ) (r : Result T Unwritten)
+    → line ≡ status_line n → Gains a (report opened h) b × (g ≡ f) → WritesLast b c g i line r → WritesRun a c f i report opened h n r
+run_then a b c f g i report opened h n line (Ok x) l (d, calm) (w, e) =
+    (gains_more a b c (report opened h) (status_line n) d (subst (λ (xs : List ℕ). Gains b xs c) l w), e ∙ calm)
+run_then a b c f g i report opened h n line (Err x) l (d, calm) (k, w, rose) = subst (λ (e : Unwritten). IsBreak e a c f i report opened h n) (sym k)
+    (front_after a b c (report opened h) (status_line n) d (subst (λ (xs : List ℕ). GainsFront b xs c) l w), rose_on f g i calm rose)
 
 -- what comes before the last line wasn't written whole
-pub run_some : (a b : Option (List ℕ)) (f g : ℕ) (parts : List Told) (opened : Moment) (h : List Entry) (n : ℕ) (e : Unwritten) → GainsFront a (report_from parts opened h) b × IsCause e f g → IsBreak e a b f g parts opened h n
-run_some a b f g parts opened h n Fault (w, c) = (front_part a b (report_from parts opened h) (status_line n) w, c)
-run_some a b f g parts opened h n Memory (w, c) = (w, c)
+pub run_some : (a b : Option (List ℕ)) (f g : ℕ) (report : Report) (opened : Moment) (h : List Entry) (n : ℕ) (e : Unwritten) → GainsFront a (report opened h) b × IsCause e f g → IsBreak e a b f g report opened h n
+run_some a b f g report opened h n Fault (w, c) = (front_part a b (report opened h) (status_line n) w, c)
+run_some a b f g report opened h n Memory (w, c) = (w, c)

@@ -1,5 +1,4 @@
 pub mod Lines
-pub mod Numbered
 pub mod Fronts
 pub mod Taken
 pub mod Told

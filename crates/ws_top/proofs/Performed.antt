@@ -20,7 +20,9 @@ use Rattle.phase_run.specs.Calm.{IsCalm}
 use Rattle.ws_top.specs.Inside.Parts.{WritesRun, Nothing, Same, Performs}
 use Rattle.ws_opening.specs.Opened.{opened_state}
 use Rattle.ws_top.specs.Outcomes.{IsUnwritten, WasRun, TellsWriteFault, IsOneThread, DoesScript, WritesText, Writes}
-use Rattle.ws_top.specs.Texts.{report_from, restored_blocks, restored_text, done_from, text, cut_text, status_line}
+use Rattle.ws_top.specs.declared.report.Telling.{Telling}
+use Rattle.ws_top.specs.declared.report.Telling.TheVariants.{All, Summary}
+use Rattle.ws_top.specs.Texts.{Report, report_of, restored_blocks, restored_text, done_from, text, cut_text, status_line}
 use Rattle.ws_top.proofs.Fronts.{front_part, front_of_writes, all_is_front}
 use Rattle.ws_top.proofs.Statuses.{run_of_unwritten, unrun, unwritten_other}
 
@@ -71,13 +73,13 @@ thread_none kept told h e = subst (λ (k : List Entry). IsOneThread (opened_stat
 pub calm_none : (h : List Entry) → h ≡ [] → IsCalm h
 calm_none h e = subst IsCalm (sym e) tt
 
-module _ (kept : Option Durable) (parts : List PartTold) (a b : Option (List ℕ)) (f g n : ℕ) where
+module _ (kept : Option Durable) (report : Report) (a b : Option (List ℕ)) (f g n : ℕ) where
   -- no script was run at 8
   not_run_at_8 : {A : Type 0} → n ≡ 8 → WasRun kept n → A
   not_run_at_8 e r = unrun kept n 8 e 8≢0 8≢4 8≢5 r
 
   -- the text of a want of memory, by some front of it
-  text_at_8 : (opened : Moment) (h : List Entry) → n ≡ 8 → GainsFront a (cut_text kept parts opened h) b → WritesText kept parts opened a b n h
+  text_at_8 : (opened : Moment) (h : List Entry) → n ≡ 8 → GainsFront a (cut_text kept report opened h) b → WritesText kept report opened a b n h
   text_at_8 opened h e w = record {
     all_at_0 = λ z. none_at n 8 0 e z 8≢0;
     all_at_5 = λ z some. none_at n 8 5 e z 8≢5;
@@ -93,24 +95,24 @@ module _ (kept : Option Durable) (parts : List PartTold) (a b : Option (List ℕ
     calm_or_later_at_8 = λ _. w;
   }
 
-  done_at_8 : (All Front : List Entry → Type 0) (h : List Entry) → n ≡ 8 → (h ≡ []) ⊎ Front h → DoesScript All Front kept n h
-  done_at_8 All Front h e d = record { all_if_run = λ r. not_run_at_8 e r; some_at_8 = λ _. d }
+  done_at_8 : (Whole Front : List Entry → Type 0) (h : List Entry) → n ≡ 8 → (h ≡ []) ⊎ Front h → DoesScript Whole Front kept n h
+  done_at_8 Whole Front h e d = record { all_if_run = λ r. not_run_at_8 e r; some_at_8 = λ _. d }
 
   -- memory wanted before anything was done
   pub performs_nothing : (told : List Told) (h : List Entry) → n ≡ 8 → h ≡ [] → kept ≡ None → Writes a b f g (status_line 8)
-      → Performs Nothing Nothing Nothing kept parts (opened_state kept told) a b f g n h
+      → Performs Nothing Nothing Nothing kept report (opened_state kept told) a b f g n h
   performs_nothing told h e z none w = record {
     ends = inr e;
     fault = fault_at_8 ((h ≡ []) ⊎ Nothing h) e (inr (inl z));
     done = done_at_8 Nothing Nothing h e (inl z);
     thread = thread_none kept told h z;
-    text = text_at_8 (opened_state kept told) h e (subst (λ k. GainsFront a (cut_text k parts (opened_state kept told) h) b) (sym none) (front_of_writes a b f g (status_line 8) w));
+    text = text_at_8 (opened_state kept told) h e (subst (λ k. GainsFront a (cut_text k report (opened_state kept told) h) b) (sym none) (front_of_writes a b f g (status_line 8) w));
     calm = λ no. absurd (no e);
   }
 
   -- the whole text was written
   pub performs_all : (s : ℕ) (opened : Moment) (d h : List Entry) → IsSome kept → IsUnwritten s → n ≡ s → h ≡ d → IsOneThread opened h → IsCalm d
-      → Gains a (text parts opened d s) b × (g ≡ f) → Performs (Same d) (Same d) Nothing kept parts opened a b f g n h
+      → Gains a (text report opened d s) b × (g ≡ f) → Performs (Same d) (Same d) Nothing kept report opened a b f g n h
   performs_all s opened d h some u e k t calm w = record {
     ends = inl (subst (WasRun kept) (sym e) (run_of_unwritten kept s some u));
     fault = record {
@@ -130,12 +132,12 @@ module _ (kept : Option Durable) (parts : List PartTold) (a b : Option (List ℕ
     calm = λ _. subst IsCalm (sym k) calm;
   }
     where
-      whole : (m : ℕ) → n ≡ m → Gains a (text parts opened h m) b
-      whole m z = subst (λ (x : List Entry). Gains a (text parts opened x m) b) (sym k) (subst (λ (l : ℕ). Gains a (text parts opened d l) b) (sym e ∙ z) w.0)
+      whole : (m : ℕ) → n ≡ m → Gains a (text report opened h m) b
+      whole m z = subst (λ (x : List Entry). Gains a (text report opened x m) b) (sym k) (subst (λ (l : ℕ). Gains a (text report opened d l) b) (sym e ∙ z) w.0)
 
   -- a write of it failed
   pub performs_fault : (s : ℕ) (opened : Moment) (d h : List Entry) → IsUnwritten s → n ≡ 4 → h ≡ d → IsOneThread opened h → IsCalm d
-      → GainsFront a (text parts opened d s) b × Rose f g → Performs (Same d) (Same d) Nothing kept parts opened a b f g n h
+      → GainsFront a (text report opened d s) b × Rose f g → Performs (Same d) (Same d) Nothing kept report opened a b f g n h
   performs_fault s opened d h u e k t calm w = record {
     ends = inl (inr (inl e));
     fault = record {
@@ -149,42 +151,42 @@ module _ (kept : Option Durable) (parts : List PartTold) (a b : Option (List ℕ
     text = record {
       all_at_0 = λ z. none_at n 4 0 e z 4≢0;
       all_at_5 = λ z some. none_at n 4 5 e z 4≢5;
-      front_at_4 = λ _. (s, u, subst (λ (x : List Entry). GainsFront a (text parts opened x s) b) (sym k) w.0);
+      front_at_4 = λ _. (s, u, subst (λ (x : List Entry). GainsFront a (text report opened x s) b) (sym k) w.0);
       front_at_8 = λ z. none_at n 4 8 e z 4≢8;
     };
     calm = λ _. subst IsCalm (sym k) calm;
   }
 
-  some_cut : (opened : Moment) (h : List Entry) → IsSome kept → cut_text kept parts opened h ≡ text parts opened h 8
+  some_cut : (opened : Moment) (h : List Entry) → IsSome kept → cut_text kept report opened h ≡ text report opened h 8
   some_cut opened h some = by kept some
     where
-      by : (k : Option Durable) → IsSome k → cut_text k parts opened h ≡ text parts opened h 8
+      by : (k : Option Durable) → IsSome k → cut_text k report opened h ≡ text report opened h 8
       by None e = let no : false ≡ true = e in cc
       by (Some d) e = refl
 
-  cut_of : (opened : Moment) (d h : List Entry) → IsSome kept → h ≡ d → GainsFront a (text parts opened d 8) b → GainsFront a (cut_text kept parts opened h) b
-  cut_of opened d h some k w = subst (λ (t : List ℕ). GainsFront a t b) (sym (some_cut opened h some)) (subst (λ (x : List Entry). GainsFront a (text parts opened x 8) b) (sym k) w)
+  cut_of : (opened : Moment) (d h : List Entry) → IsSome kept → h ≡ d → GainsFront a (text report opened d 8) b → GainsFront a (cut_text kept report opened h) b
+  cut_of opened d h some k w = subst (λ (t : List ℕ). GainsFront a t b) (sym (some_cut opened h some)) (subst (λ (x : List Entry). GainsFront a (text report opened x 8) b) (sym k) w)
 
   -- memory wanted while it was printed
   pub performs_want : (opened : Moment) (d h : List Entry) → IsSome kept → n ≡ 8 → h ≡ d → IsOneThread opened h
-      → GainsFront a (report_from parts opened d) b × (g ≡ f) → Performs (Same d) (Same d) Nothing kept parts opened a b f g n h
+      → GainsFront a (report opened d) b × (g ≡ f) → Performs (Same d) (Same d) Nothing kept report opened a b f g n h
   performs_want opened d h some e k t w = record {
     ends = inr e;
     fault = fault_at_8 ((h ≡ []) ⊎ Nothing h) e (inl w.1);
     done = done_at_8 (Same d) (Same d) h e (inr k);
     thread = t;
-    text = text_at_8 opened h e (cut_of opened d h some k (front_part a b (report_from parts opened d) (status_line 8) w.0));
+    text = text_at_8 opened h e (cut_of opened d h some k (front_part a b (report opened d) (status_line 8) w.0));
     calm = λ no. absurd (no e);
   }
 
-  front_of_run : {T : Type 0} (opened : Moment) (d : List Entry) (m : ℕ) (r : Result T Unwritten) → WritesRun a b f g parts opened d m r → GainsFront a (text parts opened d m) b
-  front_of_run opened d m (Ok x) w = all_is_front a b (text parts opened d m) w.0
+  front_of_run : {T : Type 0} (opened : Moment) (d : List Entry) (m : ℕ) (r : Result T Unwritten) → WritesRun a b f g report opened d m r → GainsFront a (text report opened d m) b
+  front_of_run opened d m (Ok x) w = all_is_front a b (text report opened d m) w.0
   front_of_run opened d m (Err Fault) w = w.0
-  front_of_run opened d m (Err Memory) w = front_part a b (report_from parts opened d) (status_line m) w.0
+  front_of_run opened d m (Err Memory) w = front_part a b (report opened d) (status_line m) w.0
 
   -- memory wanted before the script's end
   pub performs_cut : {T : Type 0} (opened : Moment) (d h : List Entry) (r : Result T Unwritten) → IsSome kept → n ≡ 8 → h ≡ d → IsOneThread opened h
-      → WritesRun a b f g parts opened d 8 r → Performs Nothing (Same d) (Same d) kept parts opened a b f g n h
+      → WritesRun a b f g report opened d 8 r → Performs Nothing (Same d) (Same d) kept report opened a b f g n h
   performs_cut opened d h r some e k t w = record {
     ends = inr e;
     fault = fault_at_8 ((h ≡ []) ⊎ Same d h) e (inr (inr k));
@@ -198,9 +200,9 @@ pub right_of : {A B C : Type 0} → (B → C) → A ⊎ B → A ⊎ C
 right_of m (inl x) = inl x
 right_of m (inr y) = inr (m y)
 
-module _ (A F S B G T : List Entry → Type 0) (kept : Option Durable) (parts : List PartTold) (opened : Moment) (a b : Option (List ℕ)) (f g n : ℕ) (h : List Entry) where
+module _ (A F S B G T : List Entry → Type 0) (kept : Option Durable) (report : Report) (opened : Moment) (a b : Option (List ℕ)) (f g n : ℕ) (h : List Entry) where
   -- the same, said of the histories in other words
-  pub performs_as : (A h → B h) → (F h → G h) → (S h → T h) → Performs A F S kept parts opened a b f g n h → Performs B G T kept parts opened a b f g n h
+  pub performs_as : (A h → B h) → (F h → G h) → (S h → T h) → Performs A F S kept report opened a b f g n h → Performs B G T kept report opened a b f g n h
   performs_as all some stopped p = record {
     ends = p.ends;
     fault = record {
@@ -216,35 +218,37 @@ module _ (A F S B G T : List Entry → Type 0) (kept : Option Durable) (parts : 
   }
 
 -- nothing was done, said of other histories
-pub performs_none : (A F S : List Entry → Type 0) (kept : Option Durable) (parts : List PartTold) (opened : Moment) (a b : Option (List ℕ)) (f g n : ℕ) (h : List Entry)
-    → Performs Nothing Nothing Nothing kept parts opened a b f g n h → Performs A F S kept parts opened a b f g n h
-performs_none A F S kept parts opened a b f g n h p = performs_as Nothing Nothing Nothing A F S kept parts opened a b f g n h (λ x. absurd x) (λ x. absurd x) (λ x. absurd x) p
+pub performs_none : (A F S : List Entry → Type 0) (kept : Option Durable) (report : Report) (opened : Moment) (a b : Option (List ℕ)) (f g n : ℕ) (h : List Entry)
+    → Performs Nothing Nothing Nothing kept report opened a b f g n h → Performs A F S kept report opened a b f g n h
+performs_none A F S kept report opened a b f g n h p = performs_as Nothing Nothing Nothing A F S kept report opened a b f g n h (λ x. absurd x) (λ x. absurd x) (λ x. absurd x) p
 
 -- ---- participants of the same names
 
 restored_alike : (opened : Moment) (ps qs : List PartTold) → names qs ≡ names ps → restored_text opened qs ≡ restored_text opened ps
 restored_alike opened ps qs e = ap restored_blocks (kept_alike (kept_since opened) ps qs e)
 
--- of participants of the same names the same was restored
-pub performs_for : (A F S : List Entry → Type 0) (kept : Option Durable) (ps qs : List PartTold) (opened : Moment) (a b : Option (List ℕ)) (f g n : ℕ) (h : List Entry) → names qs ≡ names ps
-    → Performs A F S kept qs opened a b f g n h → Performs A F S kept ps opened a b f g n h
-performs_for A F S kept ps qs opened a b f g n h e p = record {
+-- what is told is the same
+pub report_alike : (how : Telling) (opened : Moment) (h : List Entry) (ps qs : List PartTold) → names qs ≡ names ps → report_of how qs opened h ≡ report_of how ps opened h
+report_alike All opened h ps qs e = ap (λ r. r ++ done_from opened h) (restored_alike opened ps qs e)
+report_alike Summary opened h ps qs e = refl
+
+-- by another report that tells the same of this history
+pub performs_for : (A F S : List Entry → Type 0) (kept : Option Durable) (r q : Report) (opened : Moment) (a b : Option (List ℕ)) (f g n : ℕ) (h : List Entry) → q opened h ≡ r opened h
+    → Performs A F S kept q opened a b f g n h → Performs A F S kept r opened a b f g n h
+performs_for A F S kept r q opened a b f g n h same p = record {
   ends = p.ends;
   fault = p.fault;
   done = p.done;
   thread = p.thread;
   text = record {
-    all_at_0 = λ z. subst (λ r. Gains a ((r ++ done_from opened h) ++ status_line 0) b) same (p.text.all_at_0 z);
-    all_at_5 = λ z some. subst (λ r. Gains a ((r ++ done_from opened h) ++ status_line 5) b) same (p.text.all_at_5 z some);
-    front_at_4 = λ z. let t = p.text.front_at_4 z in (t.0, t.1, subst (λ r. GainsFront a ((r ++ done_from opened h) ++ status_line t.0) b) same t.2);
+    all_at_0 = λ z. subst (λ t. Gains a (t ++ status_line 0) b) same (p.text.all_at_0 z);
+    all_at_5 = λ z some. subst (λ t. Gains a (t ++ status_line 5) b) same (p.text.all_at_5 z some);
+    front_at_4 = λ z. let t = p.text.front_at_4 z in (t.0, t.1, subst (λ u. GainsFront a (u ++ status_line t.0) b) same t.2);
     front_at_8 = λ z. by kept (p.text.front_at_8 z);
   };
   calm = p.calm;
 }
   where
-    same : restored_text opened qs ≡ restored_text opened ps
-    same = restored_alike opened ps qs e
-
-    by : (k : Option Durable) → GainsFront a (cut_text k qs opened h) b → GainsFront a (cut_text k ps opened h) b
+    by : (k : Option Durable) → GainsFront a (cut_text k q opened h) b → GainsFront a (cut_text k r opened h) b
     by None w = w
-    by (Some d) w = subst (λ r. GainsFront a ((r ++ done_from opened h) ++ status_line 8) b) same w
+    by (Some d) w = subst (λ t. GainsFront a (t ++ status_line 8) b) same w

@@ -155,3 +155,19 @@ said_other n t (inr c) z f e k = e (sym c ∙ k)
 pub is_said : (n : ℕ) → WasSaid n → IsStatus n
 is_said n (inl c) = is_told n c
 is_said n (inr e) = inr (inr (inr (inr (inr (inl e)))))
+
+-- ---- of the script that a number gives
+
+pub loaded_of : (kept : Option Durable) (n : ℕ) → WasRun kept n ⊎ (n ≡ 8) → WasRun kept n ⊎ WasUnopened kept n ⊎ (n ≡ 8)
+loaded_of kept n (inl r) = inl r
+loaded_of kept n (inr e) = inr (inr e)
+
+pub not_loaded : (kept : Option Durable) (n t : ℕ) → WasRun kept n ⊎ WasUnopened kept n ⊎ (n ≡ 8) → (0 ≡ t → ⊥) → (4 ≡ t → ⊥) → (5 ≡ t → ⊥) → (7 ≡ t → ⊥) → (8 ≡ t → ⊥) → n ≢ t
+not_loaded kept n t (inl r) z f g s e = not_performed kept n t (inl r) z f g e
+not_loaded kept n t (inr (inl u)) z f g s e = not_refused kept n t u g s
+not_loaded kept n t (inr (inr k)) z f g s e = not_performed kept n t (inr k) z f g e
+
+pub is_loaded : (kept : Option Durable) (n : ℕ) → WasRun kept n ⊎ WasUnopened kept n ⊎ (n ≡ 8) → IsStatus n
+is_loaded kept n (inl r) = is_performed kept n (inl r)
+is_loaded kept n (inr (inl u)) = is_refused kept n u
+is_loaded kept n (inr (inr e)) = is_performed kept n (inr e)

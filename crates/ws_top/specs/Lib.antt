@@ -1,4 +1,3 @@
-pub mod Forms
 pub mod Limits
 pub mod Areas
 pub mod Texts

@@ -27,14 +27,17 @@ use Rattle.ws_core.specs.Histories.{has_entered, replay, Legal, notices, told_of
 use Rattle.run_order.specs.Orders as order
 use Rattle.save_parts.specs.Heard.{Heard, HeardMore}
 use Rattle.phase_run.specs.Calm.{IsCalm}
-use Rattle.phase_run.specs.Plans.{Made, phases_plan}
-use Rattle.ws_top.specs.declared.words.Form.{Form}
-use Rattle.ws_top.specs.declared.words.Form.TheVariants.{Generate, Help, Version}
+use Rattle.phase_run.specs.Plans.{Made}
+use Rattle.script_plan.specs.Plans.{phases_plan}
+use Rattle.run_words.specs.declared.words.Form.{Form}
+use Rattle.ws_top.specs.declared.report.Telling.TheVariants as telling
+use Rattle.run_words.specs.declared.words.Form.TheVariants.{Generate, Load, Help, Version}
 use Rattle.ws_opening.specs.Opened.{opened_state}
 use Rattle.ws_top.specs.Areas.{IsHeld, IsDamage, AreUndamaged, FindsDamage, TellsDiskFault}
-use Rattle.ws_top.specs.Forms.{IsRun, IsCheck, Touches, help_text, version_text}
+use Rattle.load_text.specs.Summaries.{summary_from}
+use Rattle.run_words.specs.Forms.{IsRun, IsCheck, Works, Touches, help_text, version_text}
 use Rattle.ws_top.specs.Limits.{longest, Reads, ReadsAll, ReadsShort, ReadsLong}
-use Rattle.ws_top.specs.Texts.{text, cut_text, status_line, bad_line, check_text, generated_text}
+use Rattle.ws_top.specs.Texts.{Report, report_of, text, cut_text, status_line, bad_line, check_text, generated_text}
 
 -- ---- statuses
 
@@ -132,9 +135,13 @@ RanAll ms opened = Ran (Shuffle ms opened)
 abbrev pub RanSome : Meanings → Moment → Option (List ℕ) → Option (List ℕ) → List Entry → Type 0
 RanSome ms opened = Ran (CutShuffle ms opened)
 
--- memory wanted before the run's end: nothing was done, or the worker hasn't left
+-- memory wanted before the end of a run of the script on the source: nothing was done, or the worker hasn't left
 abbrev pub WasStopped : Meanings → Moment → Option (List ℕ) → Option (List ℕ) → List Entry → Type 0
 WasStopped ms opened old new h = (h ≡ []) ⊎ Ran (StoppedShuffle ms opened) old new h
+
+-- the same of the script that the words ask for: the one on the source, or the one that a number gives
+abbrev pub WasStoppedAs : Option Form → Meanings → Moment → Option (List ℕ) → Option (List ℕ) → List Entry → Type 0
+WasStoppedAs form ms opened old new h = (h ≡ []) ⊎ (IsRun form × Ran (StoppedShuffle ms opened) old new h) ⊎ ((number : ℕ) × (form ≡ Some (Load number)) × StoppedShuffle ms opened (generated number) h)
 
 -- The run's history is one thread's: from the opened state each reply is the one that the table of steps gives at its
 -- place, and each notice is the delta between two telling places. No two jobs ever hold conflicting rules: at each front
@@ -170,13 +177,13 @@ HaveTakenPart (Some d) opened status h old new = (then : List PartTold) × WereR
 abbrev pub IsUnwritten : ℕ → Type 0
 IsUnwritten status = (status ≡ 0) ⊎ (status ≡ 5)
 
--- What was written is the text of what was done: all of it, a front of it where a write failed, or a front of the text of
--- a want of memory.
-pub record WritesText (kept : Option Durable) (parts : List PartTold) (opened : Moment) (old new : Option (List ℕ)) (status : ℕ) (h : List Entry) : Type 0 where
-  pub all_at_0 : status ≡ 0 → Gains old (text parts opened h 0) new
-  pub all_at_5 : status ≡ 5 → IsSome kept → Gains old (text parts opened h 5) new
-  pub front_at_4 : status ≡ 4 → (n : ℕ) × IsUnwritten n × GainsFront old (text parts opened h n) new
-  pub front_at_8 : status ≡ 8 → GainsFront old (cut_text kept parts opened h) new
+-- What was written is the text of what was done, by this report: all of it, a front of it where a write failed, or a front of
+-- the text of a want of memory.
+pub record WritesText (kept : Option Durable) (report : Report) (opened : Moment) (old new : Option (List ℕ)) (status : ℕ) (h : List Entry) : Type 0 where
+  pub all_at_0 : status ≡ 0 → Gains old (text report opened h 0) new
+  pub all_at_5 : status ≡ 5 → IsSome kept → Gains old (text report opened h 5) new
+  pub front_at_4 : status ≡ 4 → (n : ℕ) × IsUnwritten n × GainsFront old (text report opened h n) new
+  pub front_at_8 : status ≡ 8 → GainsFront old (cut_text kept report opened h) new
 
 -- the text was written; or a front of it, and then a write failed
 abbrev pub Writes : Option (List ℕ) → Option (List ℕ) → ℕ → ℕ → List ℕ → Type 0
@@ -230,8 +237,20 @@ pub record RunsScript (ms : Meanings) (kept : Option Durable) (parts : List Part
   pub judged : WasRead status → Judges left after_reading status
   pub nothing_if_idle : WasIdle status → h ≡ []
   pub done : DoesScript (RanAll ms opened left after_reading) (RanSome ms opened left after_reading) kept status h
-  pub text : WritesText kept parts opened old new status h
+  pub text : WritesText kept (report_of telling.All parts) opened old new status h
   pub bad_line_at_6 : status ≡ 6 → (written : List ℕ) × IsTextBad left after_reading written × Writes old new before after written
+
+-- where nothing failed and the areas have no damage, the end is reached, or memory wants
+abbrev pub EndsWell : Option Contents → Type 0 → Type 0 → ℕ → Type 0
+EndsWell seen WriteFailed DiskFailed status = (WriteFailed → ⊥) → (DiskFailed → ⊥) → (both : Contents) → seen ≡ Some both → AreUndamaged both → (status ≡ 0) ⊎ (status ≡ 8)
+
+-- What `load` does: the script that the number gives is run, from the state that the areas hold, or they couldn't be opened.
+-- What is written is the summary of the history, in the place of a run's report.
+pub record LoadsScript (ms : Meanings) (number : ℕ) (kept : Option Durable) (opened : Moment) (seen : Option Contents) (disk_before disk_after : ℕ) (old new : Option (List ℕ)) (before after status : ℕ) (h : List Entry) : Type 0 where
+  pub ends : WasRun kept status ⊎ WasUnopened kept status ⊎ (status ≡ 8)
+  pub done : DoesScript (Shuffle ms opened (generated number)) (CutShuffle ms opened (generated number)) kept status h
+  pub text : WritesText kept summary_from opened old new status h
+  pub complete : EndsWell seen (Rose before after) (Rose disk_before disk_after) status
 
 -- the text was told; or a front of it, and then a write failed
 abbrev pub Tells : List ℕ → Option (List ℕ) → Option (List ℕ) → ℕ → ℕ → ℕ → Type 0
@@ -255,15 +274,13 @@ pub record TellsFound (seen : Option Contents) (old new : Option (List ℕ)) (be
 -- What `check` tells: what both areas hold; or a status that says why it doesn't.
 pub record Checks (seen : Option Contents) (disk_before disk_after : ℕ) (old new : Option (List ℕ)) (before after status : ℕ) : Type 0 where
   pub tells : TellsFound seen old new before after status ⊎ WasUnopened None status ⊎ (status ≡ 8)
-  -- where nothing failed and the areas have no damage, they are told, or memory wants
-  pub complete : (Rose before after → ⊥) → (Rose disk_before disk_after → ⊥) → (both : Contents) → seen ≡ Some both → AreUndamaged both → (status ≡ 0) ⊎ (status ≡ 8)
+  pub complete : EndsWell seen (Rose before after) (Rose disk_before disk_after) status
 
--- no read was made, and nothing was done
-pub record DoesNothing (old new : Option (List ℕ)) (reads_before reads_after : Option ℕ) (before after : ℕ) (h : List Entry) : Type 0 where
+-- no read was made
+pub record ReadsNothing (old new : Option (List ℕ)) (reads_before reads_after : Option ℕ) (before after : ℕ) : Type 0 where
   pub left : new ≡ old
   pub reads : reads_after ≡ reads_before
   pub faults : after ≡ before
-  pub nothing : h ≡ []
 
 -- What the program answers to words of a form, or of none.
 pub record EndsProgram (ms : Meanings) (kept : Option Durable) (told : List Told) (parts : List PartTold) (form : Option Form) (left after_reading : Option (List ℕ)) (reads_before reads_after : Option ℕ) (reads_failed reads_fail : ℕ)
@@ -272,19 +289,21 @@ pub record EndsProgram (ms : Meanings) (kept : Option Durable) (told : List Told
   pub usage : (status ≡ 2) ↔ (form ≡ None)
   pub read_fault : TellsReadFault reads_failed reads_fail status
   pub disk_fault : TellsDiskFault disk_before disk_after status
-  pub write_fault : TellsWriteFault kept before after status (WasStopped ms (opened_state kept told) left after_reading h)
+  pub write_fault : TellsWriteFault kept before after status (WasStoppedAs form ms (opened_state kept told) left after_reading h)
   pub damaged : Touches form → IfSome seen (λ both. FindsDamage both status)
   pub complete : IsRun form → Completes left seen (Rose reads_failed reads_fail) (Rose before after) (Rose disk_before disk_after) status
   pub reads : ReadsNoMore left after_reading reads_before reads_after status
-  pub opens : IsRun form → TellsState kept seen status h
-  pub none : (IsRun form → ⊥) → kept ≡ None
+  pub opens : Works form → TellsState kept seen status h
+  pub none : (Works form → ⊥) → kept ≡ None
   pub thread : IsOneThread (opened_state kept told) h
   pub runs : IsRun form → RunsScript ms kept parts (opened_state kept told) left after_reading old new before after status h
   pub calm : status ≢ 8 → IsCalm h
   pub line : WasUnread status → Writes old new before after (status_line status)
   pub unopened : TellsUnopened kept seen old new before after status h
+  pub loads : (number : ℕ) → form ≡ Some (Load number) → LoadsScript ms number kept (opened_state kept told) seen disk_before disk_after old new before after status h
   pub checks : IsCheck form → Checks seen disk_before disk_after old new before after status
   pub generates : (number : ℕ) → form ≡ Some (Generate number) → TellsScript number old new before after status
   pub help : form ≡ Some Help → Tells help_text old new before after status
   pub version : form ≡ Some Version → Tells version_text old new before after status
-  pub unread : (IsRun form → ⊥) → DoesNothing left after_reading reads_before reads_after reads_failed reads_fail h
+  pub unread : (IsRun form → ⊥) → ReadsNothing left after_reading reads_before reads_after reads_failed reads_fail
+  pub undone : (Works form → ⊥) → h ≡ []

@@ -1,4 +1,4 @@
--- The text of a run.
+-- The text of a run, and those of the other forms.
 use Rattle.std.specs.Prelude.{ℕ, List, [], ◌++◌, Option, Some, None, codes, decimal}
 use Rattle.std.specs.List.{flat_map}
 use Rattle.script_words.specs.Words.{word_text}
@@ -15,8 +15,11 @@ use Rattle.delta_kind.specs.Deltas.{delta}
 use Rattle.core_event.specs.declared.entry.Entry.{Entry}
 use Rattle.report_text.specs.Deltas.{delta_lines}
 use Rattle.run_text.specs.Lines.{history_lines, some_lines}
+use Rattle.load_text.specs.Summaries.{summary_from}
 use Rattle.ws_core.specs.States.{Moment}
 use Rattle.ws_core.specs.Histories.{replay}
+use Rattle.ws_top.specs.declared.report.Telling.{Telling}
+use Rattle.ws_top.specs.declared.report.Telling.TheVariants.{All, Summary}
 
 -- what changed since the state was opened
 abbrev pub changes_from : Moment → List Entry → List ℕ
@@ -43,21 +46,30 @@ restored_text opened parts = restored_blocks (kept_for_each (kept_since opened) 
 abbrev pub done_from : Moment → List Entry → List ℕ
 done_from opened h = history_lines h ++ changes_from opened h
 
--- what is written of a history from a state on, before the status: what was restored to these participants, and what was done
+-- what is written of a history from a state on, before the status
+abbrev pub Report : Type 0
+Report = Moment → List Entry → List ℕ
+
+-- the report of a run: what was restored to these participants, and what was done
 abbrev pub report_from : List PartTold → Moment → List Entry → List ℕ
 report_from parts opened h = restored_text opened parts ++ done_from opened h
+
+-- all of that, or the summary
+abbrev pub report_of : Telling → List PartTold → Report
+report_of All parts opened h = report_from parts opened h
+report_of Summary parts opened h = summary_from opened h
 
 abbrev pub status_line : ℕ → List ℕ
 status_line n = codes "status " ++ decimal n ++ codes "\n"
 
--- the text of a run: what was restored, what was done since the state was opened, what changed, and the status
-abbrev pub text : List PartTold → Moment → List Entry → ℕ → List ℕ
-text parts opened h n = report_from parts opened h ++ status_line n
+-- the text of a run or of a load: its report, and the status
+abbrev pub text : Report → Moment → List Entry → ℕ → List ℕ
+text report opened h n = report opened h ++ status_line n
 
 -- the text of a want of memory: of what was done, as above, or the status alone where no state was opened
-abbrev pub cut_text : Option Durable → List PartTold → Moment → List Entry → List ℕ
-cut_text None parts opened h = status_line 8
-cut_text (Some d) parts opened h = text parts opened h 8
+abbrev pub cut_text : Option Durable → Report → Moment → List Entry → List ℕ
+cut_text None report opened h = status_line 8
+cut_text (Some d) report opened h = text report opened h 8
 
 abbrev pub bad_line : ℕ → List ℕ
 bad_line line = codes "status " ++ decimal 6 ++ codes " line " ++ decimal line ++ codes "\n"

@@ -1,4 +1,4 @@
-//! What was given back, what was done, and what changed since the start, is written to a sink.
+//! What was given back, what was done, and what changed since the start, or a summary, is written to a sink.
 ghost use Rattle.std.specs.Prelude.{◌≡◌, ◌++◌, codes, map};
 ghost use Rattle.std.specs.Option.{option_copied};
 ghost use Rattle.script_words.specs.Words.{word_text};
@@ -7,10 +7,11 @@ ghost use Rattle.run_text.specs.Printing.{Printed};
 ghost use Rattle.save_round.specs.Restoring.{kept_for_each};
 ghost use Rattle.ws_core.specs.Durables.{kept_since};
 ghost use Rattle.ws_top.specs.Inside.Parts.{WritesLast, WritesReport, WritesRun};
-ghost use Rattle.ws_top.specs.Texts.{changes_from, done_from, report_from, restored_block, restored_blocks, status_line};
+ghost use Rattle.ws_top.specs.Texts.{changes_from, done_from, report_from, report_of, restored_block, restored_blocks, status_line};
 
 use delta_kind::Delta;
 use elem_tree::LayerTree;
+use load_text::print_summary;
 use report_text::{put_named, put_text};
 use run_text::{Unwritten, print_entries, print_headed, write_all};
 use save_round::{KeptState, Participant, Participants, kept_for};
@@ -18,6 +19,15 @@ use std::alloc::Global;
 use std::mem;
 use ws_core::Core;
 use ws_outside::Sink;
+
+/// What is told of a run.
+#[derive(Clone, Copy, Debug, PartialEq, Eq)]
+pub enum Telling {
+    /// What participants got back, what was done, and what changed since the start.
+    All,
+    /// A summary of it.
+    Summary,
+}
 
 /// Ends a line of which some was gathered, and prints what changed, where that is told.
 fn print_changed<K: Sink>(
@@ -130,20 +140,40 @@ fn print_report<K: Sink, P: Participant>(
     }
 }
 
-/// Writes the same, all of it where nothing fails. What is written before a want of memory or a failed write is a front of
-/// it.
+/// Prints of these what is to be told.
+fn print_told<K: Sink, P: Participant>(
+    sink: &mut K,
+    out: &mut Vec<u8>,
+    alloc: Global,
+    core: &Core<LayerTree>,
+    parts: &Participants<P>,
+    states: &[KeptState],
+    telling: Telling,
+) -> Result<(), Unwritten>
+    requires states { states.now ≡ kept_since core.now.opened }
+    ensures printed { Printed (K.written sink.old) (K.written sink.new) (K.faults sink.old) (K.faults sink.new) out.old.items (report_of telling (map (λ p. P.tells p) parts.now) core.now.opened core.now.history) out.new.items result }
+{
+    match telling {
+        Telling::All => print_report(sink, out, alloc, core, parts, states),
+        Telling::Summary => print_summary(sink, out, alloc, core),
+    }
+}
+
+/// Writes what is to be told, all of it where nothing fails. What is written before a want of memory or a failed write is a
+/// front of it.
 fn write_report<K: Sink, P: Participant>(
     sink: &mut K,
     alloc: Global,
     core: &Core<LayerTree>,
     parts: &Participants<P>,
     states: &[KeptState],
+    telling: Telling,
 ) -> Result<(), Unwritten>
     requires states { states.now ≡ kept_since core.now.opened }
-    ensures written { WritesReport (K.written sink.old) (K.written sink.new) (K.faults sink.old) (K.faults sink.new) (report_from (map (λ p. P.tells p) parts.now) core.now.opened core.now.history) result }
+    ensures written { WritesReport (K.written sink.old) (K.written sink.new) (K.faults sink.old) (K.faults sink.new) (report_of telling (map (λ p. P.tells p) parts.now) core.now.opened core.now.history) result }
 {
     let mut out = Vec::new(alloc);
-    match print_report(sink, &mut out, alloc, core, parts, states) {
+    match print_told(sink, &mut out, alloc, core, parts, states, telling) {
         Ok(()) => write_last(sink, out.as_slice()),
         Err(error) => Err(error),
     }
@@ -159,22 +189,23 @@ fn write_last<K: Sink>(sink: &mut K, bytes: &[u8]) -> Result<(), Unwritten>
     }
 }
 
-/// Writes the text of a run: what participants got back of these states, what was done, what changed since the start, and
-/// then the status, whose line is given.
+/// Writes the text of a run: what is to be told, which is what participants got back of these states, what was done and what
+/// changed since the start, or a summary; and then the status, whose line is given.
 pub fn write_run<K: Sink, P: Participant>(
     sink: &mut K,
     alloc: Global,
     core: &Core<LayerTree>,
     parts: &Participants<P>,
     states: &[KeptState],
+    telling: Telling,
     status: u8,
     line: &[u8],
 ) -> Result<(), Unwritten>
     requires states { states.now ≡ kept_since core.now.opened }
     requires line { line.now ≡ status_line status }
-    ensures written { WritesRun (K.written sink.old) (K.written sink.new) (K.faults sink.old) (K.faults sink.new) (map (λ p. P.tells p) parts.now) core.now.opened core.now.history status result }
+    ensures written { WritesRun (K.written sink.old) (K.written sink.new) (K.faults sink.old) (K.faults sink.new) (report_of telling (map (λ p. P.tells p) parts.now)) core.now.opened core.now.history status result }
 {
-    match write_report(sink, alloc, core, parts, states) {
+    match write_report(sink, alloc, core, parts, states, telling) {
         Ok(()) => write_last(sink, line),
         Err(error) => Err(error),
     }

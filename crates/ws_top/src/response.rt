@@ -6,12 +6,13 @@ ghost use Rattle.ws_top.specs.Builds.{MakesBuilds};
 ghost use Rattle.ws_top.specs.Inside.Opening.{OpensAreas};
 ghost use Rattle.ws_top.specs.Inside.Parts.{Performs, IsRefused, SaysBadLine, Responds};
 ghost use Rattle.ws_top.specs.Outcomes.{Shuffle, CutShuffle, StoppedShuffle, HaveTakenPart, HearsNotices, Tells, Writes};
-ghost use Rattle.ws_top.specs.Texts.{status_line, bad_line};
+ghost use Rattle.ws_top.specs.Texts.{report_of, status_line, bad_line};
 
 use crate::NoMemory;
 use crate::kit::{Areas, Kit};
 use crate::opening::open_areas;
 use crate::refusal::refuse;
+use crate::report::Telling;
 use crate::running::perform_from;
 use builder_api::{Builder, Meanings};
 use bytes::Bytes;
@@ -79,7 +80,7 @@ fn respond_to<K: Sink, D: Disk, L: Listener, B: Builder, P: Participant, M: Mean
     ensures participants { HaveTakenPart result.kept (opened_state result.kept (map (λ b. B.tells b) kit.builders)) result.status result.history (map (λ p. P.tells p) kit.participants) (map (λ p. P.tells p) result.kit.participants) }
 {
     match parse_shared(alloc, text) {
-        Ok(script) => perform::<K, D, L, B, P, M>(alloc, sink, areas, kit, script),
+        Ok(script) => { perform::<K, D, L, B, P, M>(alloc, sink, areas, kit, script, Telling::All) }
         Err(ScriptError::BadLine(line)) => say_bad_line(alloc, sink, areas, kit, line),
         Err(ScriptError::Memory) => want(alloc, sink, areas, kit),
     }
@@ -115,16 +116,17 @@ fn put_bad_line(out: &mut Vec<u8>, line: u64) -> Result<(), NoMemory>
     put_text(out, "\n")
 }
 
-/// Opens the areas, and runs the script on the workspace that they hold.
-fn perform<K: Sink, D: Disk, L: Listener, B: Builder, P: Participant, M: Meanings>(
+/// Opens the areas, and runs the script on the workspace that they hold. What was done is told as it is asked for.
+pub fn perform<K: Sink, D: Disk, L: Listener, B: Builder, P: Participant, M: Meanings>(
     alloc: Global,
     sink: &mut K,
     areas: Areas<D>,
     kit: Kit<L, B, P>,
     script: Script,
+    telling: Telling,
 ) -> Outcome<D, L, B, P>
     requires means { HaveMeanings M.meaning (map (λ b. B.tells b) kit.builders) }
-    ensures performs { Performs (Shuffle M.meaning (opened_state result.kept (map (λ b. B.tells b) kit.builders)) script) (CutShuffle M.meaning (opened_state result.kept (map (λ b. B.tells b) kit.builders)) script) (StoppedShuffle M.meaning (opened_state result.kept (map (λ b. B.tells b) kit.builders)) script) result.kept (map (λ p. P.tells p) kit.participants) (opened_state result.kept (map (λ b. B.tells b) kit.builders)) (K.written sink.old) (K.written sink.new) (K.faults sink.old) (K.faults sink.new) result.status result.history ⊎ IsRefused result.kept result.status result.history }
+    ensures performs { Performs (Shuffle M.meaning (opened_state result.kept (map (λ b. B.tells b) kit.builders)) script) (CutShuffle M.meaning (opened_state result.kept (map (λ b. B.tells b) kit.builders)) script) (StoppedShuffle M.meaning (opened_state result.kept (map (λ b. B.tells b) kit.builders)) script) result.kept (report_of telling (map (λ p. P.tells p) kit.participants)) (opened_state result.kept (map (λ b. B.tells b) kit.builders)) (K.written sink.old) (K.written sink.new) (K.faults sink.old) (K.faults sink.new) result.status result.history ⊎ IsRefused result.kept result.status result.history }
     ensures areas { OpensAreas D.moment D.left_since D.may_leave D.seen D.faults areas.disk result.areas.disk (K.written sink.old) (K.written sink.new) (K.faults sink.old) (K.faults sink.new) result.kept (opened_state result.kept (map (λ b. B.tells b) kit.builders)) result.status result.history }
     ensures heard { HearsNotices (opened_state result.kept (map (λ b. B.tells b) kit.builders)) result.status result.history (map (λ l. L.heard l) kit.listeners) (map (λ l. L.heard l) result.kit.listeners) }
     ensures builds { MakesBuilds M.meaning (opened_state result.kept (map (λ b. B.tells b) kit.builders)) result.history (map (λ b. B.tells b) kit.builders) (map (λ b. B.tells b) result.kit.builders) }
@@ -132,7 +134,7 @@ fn perform<K: Sink, D: Disk, L: Listener, B: Builder, P: Participant, M: Meaning
 {
     match open_areas(alloc, areas) {
         Ok((store, durable)) => {
-            perform_from::<K, D, L, B, P, M>(alloc, sink, store, kit, durable, script)
+            perform_from::<K, D, L, B, P, M>(alloc, sink, store, kit, durable, script, telling)
         }
         Err((fault, areas)) => refuse(alloc, sink, areas, kit, fault),
     }

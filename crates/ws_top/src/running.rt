@@ -18,10 +18,10 @@ ghost use Rattle.ws_top.specs.Inside.Opening.{RunsFrom};
 ghost use Rattle.ws_top.specs.Inside.Parts.{Nothing, Same, Performs};
 ghost use Rattle.ws_top.specs.Inside.Running.{KeepsStore, LeavesStore, end_status};
 ghost use Rattle.ws_top.specs.Outcomes.{Shuffle, CutShuffle, StoppedShuffle, IsOneThread, HaveTakenPart, HearsNotices};
-ghost use Rattle.ws_top.specs.Texts.{status_line};
+ghost use Rattle.ws_top.specs.Texts.{report_of, status_line};
 
 use crate::kit::{Areas, Kit};
-use crate::report::write_run;
+use crate::report::{Telling, write_run};
 use crate::response::{Outcome, want};
 use builder_api::{Builder, Meanings};
 use elem_tree::LayerTree;
@@ -39,7 +39,7 @@ use ws_opening::{Kept, Opened, workspace};
 use ws_outside::{Disk, Sink};
 use ws_saved::SavedWorkspace;
 
-/// Runs the script on the workspace that was kept so.
+/// Runs the script on the workspace that was kept so. What was done is told as it is asked for.
 pub fn perform_from<K: Sink, D: Disk, L: Listener, B: Builder, P: Participant, M: Meanings>(
     alloc: Global,
     sink: &mut K,
@@ -47,11 +47,12 @@ pub fn perform_from<K: Sink, D: Disk, L: Listener, B: Builder, P: Participant, M
     kit: Kit<L, B, P>,
     durable: Durable,
     script: Script,
+    telling: Telling,
 ) -> Outcome<D, L, B, P>
     requires valid { Valid (saved durable) }
     requires stored { IsStored D.may_leave [] store }
     requires means { HaveMeanings M.meaning (map (λ b. B.tells b) kit.builders) }
-    ensures performs { Performs (Shuffle M.meaning (opened_state result.kept (map (λ b. B.tells b) kit.builders)) script) (CutShuffle M.meaning (opened_state result.kept (map (λ b. B.tells b) kit.builders)) script) (StoppedShuffle M.meaning (opened_state result.kept (map (λ b. B.tells b) kit.builders)) script) result.kept (map (λ p. P.tells p) kit.participants) (opened_state result.kept (map (λ b. B.tells b) kit.builders)) (K.written sink.old) (K.written sink.new) (K.faults sink.old) (K.faults sink.new) result.status result.history }
+    ensures performs { Performs (Shuffle M.meaning (opened_state result.kept (map (λ b. B.tells b) kit.builders)) script) (CutShuffle M.meaning (opened_state result.kept (map (λ b. B.tells b) kit.builders)) script) (StoppedShuffle M.meaning (opened_state result.kept (map (λ b. B.tells b) kit.builders)) script) result.kept (report_of telling (map (λ p. P.tells p) kit.participants)) (opened_state result.kept (map (λ b. B.tells b) kit.builders)) (K.written sink.old) (K.written sink.new) (K.faults sink.old) (K.faults sink.new) result.status result.history }
     ensures from { RunsFrom (Some durable) result.kept (K.written sink.old) (K.written sink.new) (K.faults sink.old) (K.faults sink.new) result.status result.history }
     ensures heard { HearsNotices (opened_state result.kept (map (λ b. B.tells b) kit.builders)) result.status result.history (map (λ l. L.heard l) kit.listeners) (map (λ l. L.heard l) result.kit.listeners) }
     ensures builds { MakesBuilds M.meaning (opened_state result.kept (map (λ b. B.tells b) kit.builders)) result.history (map (λ b. B.tells b) kit.builders) (map (λ b. B.tells b) result.kit.builders) }
@@ -60,7 +61,9 @@ pub fn perform_from<K: Sink, D: Disk, L: Listener, B: Builder, P: Participant, M
     ensures store { LeavesStore D.moment D.left_since D.may_leave D.faults store result.areas.disk result.kept (opened_state result.kept (map (λ b. B.tells b) kit.builders)) result.history }
 {
     match workspace(alloc, durable, &kit.builders) {
-        Ok(opened) => perform_in::<K, D, L, B, P, M>(alloc, sink, store, kit, opened, script),
+        Ok(opened) => {
+            perform_in::<K, D, L, B, P, M>(alloc, sink, store, kit, opened, script, telling)
+        }
         Err(_) => want(alloc, sink, areas_of(store), kit),
     }
 }
@@ -82,6 +85,7 @@ fn perform_in<K: Sink, D: Disk, L: Listener, B: Builder, P: Participant, M: Mean
     kit: Kit<L, B, P>,
     opened: Opened,
     script: Script,
+    telling: Telling,
 ) -> Outcome<D, L, B, P>
     requires some { IsSome opened.kept }
     requires opened { opened.core.opened ≡ opened_state opened.kept (map (λ b. B.tells b) kit.builders) }
@@ -90,7 +94,7 @@ fn perform_in<K: Sink, D: Disk, L: Listener, B: Builder, P: Participant, M: Mean
     requires states { opened.states.items ≡ kept_since opened.core.opened }
     requires stored { IsStored D.may_leave [] store }
     requires means { HaveMeanings M.meaning (map (λ b. B.tells b) kit.builders) }
-    ensures performs { Performs (Shuffle M.meaning (opened_state result.kept (map (λ b. B.tells b) kit.builders)) script) (CutShuffle M.meaning (opened_state result.kept (map (λ b. B.tells b) kit.builders)) script) (StoppedShuffle M.meaning (opened_state result.kept (map (λ b. B.tells b) kit.builders)) script) result.kept (map (λ p. P.tells p) kit.participants) (opened_state result.kept (map (λ b. B.tells b) kit.builders)) (K.written sink.old) (K.written sink.new) (K.faults sink.old) (K.faults sink.new) result.status result.history }
+    ensures performs { Performs (Shuffle M.meaning (opened_state result.kept (map (λ b. B.tells b) kit.builders)) script) (CutShuffle M.meaning (opened_state result.kept (map (λ b. B.tells b) kit.builders)) script) (StoppedShuffle M.meaning (opened_state result.kept (map (λ b. B.tells b) kit.builders)) script) result.kept (report_of telling (map (λ p. P.tells p) kit.participants)) (opened_state result.kept (map (λ b. B.tells b) kit.builders)) (K.written sink.old) (K.written sink.new) (K.faults sink.old) (K.faults sink.new) result.status result.history }
     ensures from { RunsFrom opened.kept result.kept (K.written sink.old) (K.written sink.new) (K.faults sink.old) (K.faults sink.new) result.status result.history }
     ensures heard { HearsNotices (opened_state result.kept (map (λ b. B.tells b) kit.builders)) result.status result.history (map (λ l. L.heard l) kit.listeners) (map (λ l. L.heard l) result.kit.listeners) }
     ensures builds { MakesBuilds M.meaning (opened_state result.kept (map (λ b. B.tells b) kit.builders)) result.history (map (λ b. B.tells b) kit.builders) (map (λ b. B.tells b) result.kit.builders) }
@@ -110,7 +114,9 @@ fn perform_in<K: Sink, D: Disk, L: Listener, B: Builder, P: Participant, M: Mean
         participants,
     };
     match restored {
-        Ok(()) => perform_on::<K, D, L, B, P, M>(alloc, sink, store, kit, opened, script),
+        Ok(()) => {
+            perform_on::<K, D, L, B, P, M>(alloc, sink, store, kit, opened, script, telling)
+        }
         Err(_) => {
             drop(opened);
             want(alloc, sink, areas_of(store), kit)
@@ -126,6 +132,7 @@ fn perform_on<K: Sink, D: Disk, L: Listener, B: Builder, P: Participant, M: Mean
     kit: Kit<L, B, P>,
     opened: Opened,
     script: Script,
+    telling: Telling,
 ) -> Outcome<D, L, B, P>
     requires some { IsSome opened.kept }
     requires opened { opened.core.opened ≡ opened_state opened.kept (map (λ b. B.tells b) kit.builders) }
@@ -134,7 +141,7 @@ fn perform_on<K: Sink, D: Disk, L: Listener, B: Builder, P: Participant, M: Mean
     requires states { opened.states.items ≡ kept_since opened.core.opened }
     requires stored { IsStored D.may_leave [] store }
     requires means { HaveMeanings M.meaning (map (λ b. B.tells b) kit.builders) }
-    ensures performs { Performs (Shuffle M.meaning opened.core.opened script) (CutShuffle M.meaning opened.core.opened script) (StoppedShuffle M.meaning opened.core.opened script) result.kept (map (λ p. P.tells p) kit.participants) opened.core.opened (K.written sink.old) (K.written sink.new) (K.faults sink.old) (K.faults sink.new) result.status result.history }
+    ensures performs { Performs (Shuffle M.meaning opened.core.opened script) (CutShuffle M.meaning opened.core.opened script) (StoppedShuffle M.meaning opened.core.opened script) result.kept (report_of telling (map (λ p. P.tells p) kit.participants)) opened.core.opened (K.written sink.old) (K.written sink.new) (K.faults sink.old) (K.faults sink.new) result.status result.history }
     ensures heard { HearsNotices opened.core.opened result.status result.history (map (λ l. L.heard l) kit.listeners) (map (λ l. L.heard l) result.kit.listeners) }
     ensures builds { MakesBuilds M.meaning opened.core.opened result.history (map (λ b. B.tells b) kit.builders) (map (λ b. B.tells b) result.kit.builders) }
     ensures kept { result.kept ≡ opened.kept }
@@ -159,8 +166,26 @@ fn perform_on<K: Sink, D: Disk, L: Listener, B: Builder, P: Participant, M: Mean
         participants,
     };
     match ran {
-        Ok(()) => report(alloc, sink, core, keeper, kept, kit, states.as_slice()),
-        Err(_) => report_cut(alloc, sink, core, keeper, kept, kit, states.as_slice()),
+        Ok(()) => report(
+            alloc,
+            sink,
+            core,
+            keeper,
+            kept,
+            kit,
+            states.as_slice(),
+            telling,
+        ),
+        Err(_) => report_cut(
+            alloc,
+            sink,
+            core,
+            keeper,
+            kept,
+            kit,
+            states.as_slice(),
+            telling,
+        ),
     }
 }
 
@@ -173,12 +198,13 @@ fn report<K: Sink, D: Disk, L: Listener, B: Builder, P: Participant>(
     kept: Kept,
     kit: Kit<L, B, P>,
     states: &[KeptState],
+    telling: Telling,
 ) -> Outcome<D, L, B, P>
     requires some { IsSome kept }
     requires calm { IsCalm core.history }
     requires states { states.now ≡ kept_since core.opened }
     requires told { TellsFaults keeper.failed (D.faults (first_disk keeper)) (D.faults (disk_of keeper)) }
-    ensures performs { Performs (Same core.history) (Same core.history) Nothing result.kept (map (λ p. P.tells p) kit.participants) core.opened (K.written sink.old) (K.written sink.new) (K.faults sink.old) (K.faults sink.new) result.status result.history }
+    ensures performs { Performs (Same core.history) (Same core.history) Nothing result.kept (report_of telling (map (λ p. P.tells p) kit.participants)) core.opened (K.written sink.old) (K.written sink.new) (K.faults sink.old) (K.faults sink.new) result.status result.history }
     ensures fault { TellsDiskFault (D.faults (first_disk keeper)) (D.faults result.areas.disk) result.status }
     ensures history { result.history ≡ core.history }
     ensures kept { result.kept ≡ kept }
@@ -194,6 +220,7 @@ fn report<K: Sink, D: Disk, L: Listener, B: Builder, P: Participant>(
             kept,
             kit,
             states,
+            telling,
             5,
             b"status 5\n",
         )
@@ -206,6 +233,7 @@ fn report<K: Sink, D: Disk, L: Listener, B: Builder, P: Participant>(
             kept,
             kit,
             states,
+            telling,
             0,
             b"status 0\n",
         )
@@ -221,6 +249,7 @@ fn report_as<K: Sink, D: Disk, L: Listener, B: Builder, P: Participant>(
     kept: Kept,
     kit: Kit<L, B, P>,
     states: &[KeptState],
+    telling: Telling,
     status: u8,
     line: &[u8],
 ) -> Outcome<D, L, B, P>
@@ -230,14 +259,23 @@ fn report_as<K: Sink, D: Disk, L: Listener, B: Builder, P: Participant>(
     requires told { TellsFaults keeper.failed (D.faults (first_disk keeper)) (D.faults (disk_of keeper)) }
     requires status { status ≡ end_status keeper.failed }
     requires line { line.now ≡ status_line status }
-    ensures performs { Performs (Same core.history) (Same core.history) Nothing result.kept (map (λ p. P.tells p) kit.participants) core.opened (K.written sink.old) (K.written sink.new) (K.faults sink.old) (K.faults sink.new) result.status result.history }
+    ensures performs { Performs (Same core.history) (Same core.history) Nothing result.kept (report_of telling (map (λ p. P.tells p) kit.participants)) core.opened (K.written sink.old) (K.written sink.new) (K.faults sink.old) (K.faults sink.new) result.status result.history }
     ensures fault { TellsDiskFault (D.faults (first_disk keeper)) (D.faults result.areas.disk) result.status }
     ensures history { result.history ≡ core.history }
     ensures kept { result.kept ≡ kept }
     ensures disk { result.areas.disk ≡ disk_of keeper }
     ensures kit { result.kit ≡ kit }
 {
-    match write_run(sink, alloc, &core, &kit.participants, states, status, line) {
+    match write_run(
+        sink,
+        alloc,
+        &core,
+        &kit.participants,
+        states,
+        telling,
+        status,
+        line,
+    ) {
         Ok(()) => ended(core, keeper, kept, kit, status),
         Err(Unwritten::Fault) => ended(core, keeper, kept, kit, 4),
         Err(Unwritten::Memory) => ended(core, keeper, kept, kit, 8),
@@ -253,11 +291,12 @@ fn report_cut<K: Sink, D: Disk, L: Listener, B: Builder, P: Participant>(
     kept: Kept,
     kit: Kit<L, B, P>,
     states: &[KeptState],
+    telling: Telling,
 ) -> Outcome<D, L, B, P>
     requires some { IsSome kept }
     requires states { states.now ≡ kept_since core.opened }
     requires told { TellsFaults keeper.failed (D.faults (first_disk keeper)) (D.faults (disk_of keeper)) }
-    ensures performs { Performs Nothing (Same core.history) (Same core.history) result.kept (map (λ p. P.tells p) kit.participants) core.opened (K.written sink.old) (K.written sink.new) (K.faults sink.old) (K.faults sink.new) result.status result.history }
+    ensures performs { Performs Nothing (Same core.history) (Same core.history) result.kept (report_of telling (map (λ p. P.tells p) kit.participants)) core.opened (K.written sink.old) (K.written sink.new) (K.faults sink.old) (K.faults sink.new) result.status result.history }
     ensures fault { TellsDiskFault (D.faults (first_disk keeper)) (D.faults result.areas.disk) result.status }
     ensures status { result.status ≡ 8 }
     ensures history { result.history ≡ core.history }
@@ -271,6 +310,7 @@ fn report_cut<K: Sink, D: Disk, L: Listener, B: Builder, P: Participant>(
         &core,
         &kit.participants,
         states,
+        telling,
         8,
         b"status 8\n",
     );

@@ -112,18 +112,26 @@ fn named(
     }
 }
 
-/// The words, and of those behind the first one the two that name the area files.
+/// The words, and the last two of them, which name the area files in each form that touches these.
 fn names_in(
     alloc: Global,
     words: Result<Vec<String>, AllocError>,
 ) -> Result<(Vec<String>, String, String), AllocError> {
     let words = words?;
-    let left = word_at(alloc, words.as_slice(), 1)?;
-    let right = word_at(alloc, words.as_slice(), 2)?;
+    let left = word_from_end(alloc, words.as_slice(), 2)?;
+    let right = word_from_end(alloc, words.as_slice(), 1)?;
     Ok((words, left, right))
 }
 
-/// The word at this place, empty where there are fewer: no area is opened then.
+/// The word so many places before the end, empty where there are fewer: no area is opened then.
+fn word_from_end(alloc: Global, words: &[String], back: usize) -> Result<String, AllocError> {
+    match words.len().checked_sub(back) {
+        Some(at) => word_at(alloc, words, at),
+        None => Ok(String::new(alloc)),
+    }
+}
+
+/// The word at this place, empty where there is none.
 fn word_at(alloc: Global, words: &[String], at: usize) -> Result<String, AllocError> {
     match words.get(at) {
         Some(word) => String::from_str(alloc, word.as_str()),

@@ -2,7 +2,6 @@
 use Rattle.std.specs.Prelude.{◌≡◌, ◌≤◌, ◌+◌, ℕ, true, List, [], ◌∷◌, ◌++◌, Option, Some, None}
 use Rattle.job_queue.specs.Queues as queue
 use Rattle.core_event.specs.declared.entry.Entry.{Entry}
-use Rattle.core_event.specs.declared.event.Event.{Event}
 use Rattle.core_event.specs.declared.event.Event.TheVariants.{Take, Finish}
 use Rattle.core_event.specs.declared.reply.Answer.{Answer}
 use Rattle.core_event.specs.declared.reply.Answer.TheVariants.{Job as Taken}
@@ -13,11 +12,9 @@ use Rattle.ws_core.specs.Histories.{has_entered, replay}
 use Rattle.ws_core.specs.Sessions.{Session}
 use Rattle.run_order.specs.Lists.{entry, Grew, InTurn}
 use Rattle.run_order.specs.Parts.{Making}
-use Rattle.run_order.specs.Alone.{IsIdle, IsBusy, IsCommand}
-use Rattle.run_order.specs.Counts.{left, scheduling}
+use Rattle.run_order.specs.Alone.{IsIdle, IsBusy}
+use Rattle.run_order.specs.Counts.{left}
 use Rattle.phase_run.specs.Calm.{IsCalm}
-use Rattle.phase_run.specs.declared.plan.Asked.{Asked}
-use Rattle.phase_run.specs.declared.plan.Asked.TheVariants.{One, Build, Save}
 
 -- pass 0 is there, and so is the worker, which has nothing
 pub record IsReady (s : Moment) : Type 0 where
@@ -50,17 +47,6 @@ pub record Works (P : List Entry → Type 0) (old new : Session) : Type 0 where
   pub calm : IsCalm old.history → IsCalm new.history
   pub at_work : IsAtWork new.state
   pub left : left new.state ≤ left old.state
-
--- an event that a command asks
-pub record IsAsked (e : Event) : Type 0 where
-  pub command : IsCommand e
-  pub schedules_none : scheduling (λ _. 1) e ≡ 0
-
--- what a command may ask
-abbrev pub IsAskable : Asked → Type 0
-IsAskable (One event) = IsAsked event
-IsAskable (Build kind project) = Unit {0}
-IsAskable (Save kind) = Unit {0}
 
 -- the entries of a job's commands, and Finish
 pub record EndsPart (Make : Making Command) (commands : List Command) (h : List Entry) : Type 0 where

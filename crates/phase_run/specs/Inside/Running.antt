@@ -10,7 +10,7 @@ use Rattle.run_order.specs.Plans.{Phase}
 use Rattle.run_order.specs.Parts.{Making}
 use Rattle.run_order.specs.Orders.{IsPhase, IsCutPhase, Phases}
 use Rattle.phase_run.specs.Calm.{IsCalm}
-use Rattle.phase_run.specs.Plans.{phase_plan}
+use Rattle.script_plan.specs.Plans.{phase_plan}
 use Rattle.phase_run.specs.Inside.Doing.{IsReady, Makes, Stops}
 
 -- each listener was told what the history told on the way from one to the other

@@ -6,6 +6,7 @@ use Rattle.ws_outside.specs.Streams.{Gains, GainsFront}
 use Rattle.ws_durable.specs.declared.durable.Durable.{Durable}
 use Rattle.script_lang.specs.declared.script.Script.{Script}
 use Rattle.script_lang.specs.Scripts.{IsScript, IsFirstBad}
+use Rattle.script_gen.specs.Generated.{generated}
 use Rattle.core_event.specs.declared.entry.Entry.{Entry}
 use Rattle.builder_api.specs.Meanings.{Meanings}
 use Rattle.save_round.specs.Told.{Told as PartTold}
@@ -17,8 +18,9 @@ use Rattle.ws_core.specs.States.{Moment}
 use Rattle.ws_top.specs.declared.reading.Unread.{Unread}
 use Rattle.ws_top.specs.declared.reading.Unread.TheVariants as unread
 use Rattle.ws_top.specs.Limits.{ReadsShort, ReadsLong}
-use Rattle.ws_top.specs.Outcomes.{IsStatus, WasRun, WasUnread, WasUnopened, TellsReadFault, TellsWriteFault, SpellsNone, Shuffle, CutShuffle, StoppedShuffle, Spelled, WasStopped, IsOneThread, DoesScript, WritesText, Writes, ReadsNoMore, Completes, RunsScript}
-use Rattle.ws_top.specs.Texts.{report_from, text, status_line, bad_line}
+use Rattle.ws_top.specs.Outcomes.{IsStatus, WasRun, WasUnread, WasUnopened, TellsReadFault, TellsWriteFault, SpellsNone, Shuffle, CutShuffle, StoppedShuffle, Spelled, WasStopped, IsOneThread, DoesScript, WritesText, Writes, ReadsNoMore, Completes, RunsScript, LoadsScript}
+use Rattle.ws_top.specs.declared.report.Telling.TheVariants.{All}
+use Rattle.ws_top.specs.Texts.{Report, report_of, text, status_line, bad_line}
 
 -- ---- reading
 
@@ -53,14 +55,14 @@ WritesReport old new before after report result =
     MatchResult result (λ _. Gains old report new × (after ≡ before)) (λ e. GainsFront old report new × IsCause e before after)
 
 -- where the text of a run wasn't written whole: a write failed, or memory wanted before the last line
-abbrev pub IsBreak : Unwritten → Option (List ℕ) → Option (List ℕ) → ℕ → ℕ → List PartTold → Moment → List Entry → ℕ → Type 0
-IsBreak Fault old new before after parts opened h n = GainsFront old (text parts opened h n) new × Rose before after
-IsBreak Memory old new before after parts opened h n = GainsFront old (report_from parts opened h) new × (after ≡ before)
+abbrev pub IsBreak : Unwritten → Option (List ℕ) → Option (List ℕ) → ℕ → ℕ → Report → Moment → List Entry → ℕ → Type 0
+IsBreak Fault old new before after report opened h n = GainsFront old (text report opened h n) new × Rose before after
+IsBreak Memory old new before after report opened h n = GainsFront old (report opened h) new × (after ≡ before)
 
 -- the text of a run was written, or some front of it
-abbrev pub WritesRun : {E : Type 0} → Option (List ℕ) → Option (List ℕ) → ℕ → ℕ → List PartTold → Moment → List Entry → ℕ → Result E Unwritten → Type 0
-WritesRun old new before after parts opened h n result =
-    MatchResult result (λ _. Gains old (text parts opened h n) new × (after ≡ before)) (λ e. IsBreak e old new before after parts opened h n)
+abbrev pub WritesRun : {E : Type 0} → Option (List ℕ) → Option (List ℕ) → ℕ → ℕ → Report → Moment → List Entry → ℕ → Result E Unwritten → Type 0
+WritesRun old new before after report opened h n result =
+    MatchResult result (λ _. Gains old (text report opened h n) new × (after ≡ before)) (λ e. IsBreak e old new before after report opened h n)
 
 -- ---- running
 
@@ -72,14 +74,14 @@ Nothing h = ⊥
 abbrev pub Same : List Entry → List Entry → Type 0
 Same done h = h ≡ done
 
--- A script was run, as far as memory sufficed, and what was done was written: `All` says that it is all of the script,
--- `Front` that it is a front of it, `Stopped` that at least one call was not made.
-pub record Performs (All Front Stopped : List Entry → Type 0) (kept : Option Durable) (parts : List PartTold) (opened : Moment) (old new : Option (List ℕ)) (before after status : ℕ) (h : List Entry) : Type 0 where
+-- A script was run, as far as memory sufficed, and what was done was written, by this report: `Whole` says that it is all of
+-- the script, `Front` that it is a front of it, `Stopped` that at least one call was not made.
+pub record Performs (Whole Front Stopped : List Entry → Type 0) (kept : Option Durable) (report : Report) (opened : Moment) (old new : Option (List ℕ)) (before after status : ℕ) (h : List Entry) : Type 0 where
   pub ends : WasRun kept status ⊎ (status ≡ 8)
   pub fault : TellsWriteFault kept before after status ((h ≡ []) ⊎ Stopped h)
-  pub done : DoesScript All Front kept status h
+  pub done : DoesScript Whole Front kept status h
   pub thread : IsOneThread opened h
-  pub text : WritesText kept parts opened old new status h
+  pub text : WritesText kept report opened old new status h
   pub calm : status ≢ 8 → IsCalm h
 
 -- the line that is the first bad one was written, or memory wanted for it
@@ -109,7 +111,7 @@ pub record TellsBadLine (bytes : List ℕ) (old new : Option (List ℕ)) (before
 -- what the bytes ask for was done
 abbrev pub Responds : Meanings → Option Durable → List PartTold → Moment → List ℕ → Option (List ℕ) → Option (List ℕ) → ℕ → ℕ → ℕ → List Entry → Type 0
 Responds ms kept parts opened bytes old new before after status h =
-    Performs (Spelled (Shuffle ms opened) bytes) (Spelled (CutShuffle ms opened) bytes) (Spelled (StoppedShuffle ms opened) bytes) kept parts opened old new before after status h
+    Performs (Spelled (Shuffle ms opened) bytes) (Spelled (CutShuffle ms opened) bytes) (Spelled (StoppedShuffle ms opened) bytes) kept (report_of All parts) opened old new before after status h
     ⊎ TellsBadLine bytes old new before after status h
     ⊎ IsUnopenedFor kept bytes status h
 
@@ -126,3 +128,10 @@ pub record EndsRun (ms : Meanings) (kept : Option Durable) (parts : List PartTol
   pub runs : RunsScript ms kept parts opened left after_reading old new before after status h
   pub calm : status ≢ 8 → IsCalm h
   pub line : WasUnread status → Writes old new before after (status_line status)
+
+-- the script that the number gives was run, or no state was opened for it
+pub record EndsLoad (ms : Meanings) (number : ℕ) (kept : Option Durable) (opened : Moment) (seen : Option Contents) (disk_before disk_after : ℕ) (old new : Option (List ℕ)) (before after status : ℕ) (h : List Entry) : Type 0 where
+  pub write_fault : TellsWriteFault kept before after status ((h ≡ []) ⊎ StoppedShuffle ms opened (generated number) h)
+  pub thread : IsOneThread opened h
+  pub loads : LoadsScript ms number kept opened seen disk_before disk_after old new before after status h
+  pub calm : status ≢ 8 → IsCalm h

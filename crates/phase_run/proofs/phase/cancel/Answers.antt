@@ -1,6 +1,6 @@
 use Rattle.std.proofs.Common.{refl, ◌∙◌, ◌∷◌, [], subst}
 use Rattle.ws_core.specs.Histories.{replay}
-use Rattle.phase_run.specs.Plans.{job_plan}
+use Rattle.script_plan.specs.Plans.{job_plan}
 use Rattle.phase_run.specs.Inside.Doing.{Makes}
 use Rattle.phase_run.proofs.Results.{on_err}
 use Rattle.phase_run.proofs.Phases.{Cancelled, cancel_none, cancel_next, cancel_stop, cancel_all}

@@ -1,6 +1,6 @@
 use Rattle.std.proofs.Common.{◌≡◌, take}
 use Rattle.ws_core.specs.Histories.{replay}
-use Rattle.phase_run.specs.Plans.{jobs_plan}
+use Rattle.script_plan.specs.Plans.{jobs_plan}
 use Rattle.phase_run.specs.Inside.Doing.{Makes}
 use Rattle.phase_run.proofs.Phases.{Cancelled}
 use Rattle.phase_run.proofs.phase.cancel.Given as goal

@@ -4,7 +4,8 @@ use Rattle.build_host.specs.Laws.{builders_stay, serves_on}
 use Rattle.phase_run.proofs.Served.{acts_serve, cut_acts_serve, either_serves}
 use Rattle.build_host.proofs.Keeping.{still_served}
 use Rattle.run_order.specs.Orders.{cancelled, scheduled, sleepers, IsPhase, IsCutPhase}
-use Rattle.phase_run.specs.Plans.{Made, jobs_plan}
+use Rattle.script_plan.specs.Plans.{jobs_plan}
+use Rattle.phase_run.specs.Plans.{Made}
 use Rattle.phase_run.specs.Inside.Doing.{Makes, Stops}
 use Rattle.phase_run.proofs.Commands.{made_by_one}
 use Rattle.phase_run.proofs.Results.{on_err, match_on}

@@ -1,7 +1,7 @@
 use Rattle.std.proofs.Common.{refl, ◌∙◌, ◌≡◌, ◌∷◌, [], subst}
 use Rattle.run_order.specs.Lists.{acts}
 use Rattle.run_order.specs.Orders.{scheduled}
-use Rattle.phase_run.specs.Plans.{job_plan}
+use Rattle.script_plan.specs.Plans.{job_plan}
 use Rattle.phase_run.specs.Inside.Doing.{Makes}
 use Rattle.phase_run.proofs.Results.{on_err}
 use Rattle.phase_run.proofs.Phases.{schedule_none, schedule_next, schedule_stop, schedule_all}

@@ -1,5 +1,5 @@
 use Rattle.std.proofs.Common.{◌≡◌, take}
-use Rattle.phase_run.specs.Plans.{jobs_plan}
+use Rattle.script_plan.specs.Plans.{jobs_plan}
 use Rattle.phase_run.specs.Inside.Doing.{Makes}
 use Rattle.phase_run.proofs.Phases.{Scheduled}
 use Rattle.phase_run.proofs.phase.schedule.Given as goal

@@ -5,7 +5,8 @@ use Rattle.std.proofs.Common.{map, sym, ap, ◌∙◌, subst}
 use Rattle.ws_core.specs.Sessions.{Session}
 use Rattle.run_order.specs.Orders.{CutShuffle}
 use Rattle.phase_run.specs.Calm.{IsCalm}
-use Rattle.phase_run.specs.Plans.{Made, phases_plan}
+use Rattle.script_plan.specs.Plans.{phases_plan}
+use Rattle.phase_run.specs.Plans.{Made}
 use Rattle.phase_run.specs.Runs.{HeardFront}
 use Rattle.phase_run.proofs.Results.{ok_on, err_on, err_both, err_holds}
 use Rattle.phase_run.proofs.Heard.{heard_all, heard_front, heard_stop, tells_none, tells_on, tells_then}

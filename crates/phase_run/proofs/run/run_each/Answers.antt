@@ -4,7 +4,8 @@ use Rattle.build_host.proofs.Keeping.{still_served}
 use Rattle.phase_run.specs.Inside.Running.{RunsPhase, CutsPhase}
 use Rattle.phase_run.proofs.Results.{on_err}
 use Rattle.phase_run.proofs.Runs.{runs_none, runs_next, runs_cut, runs_all}
-use Rattle.phase_run.specs.Plans.{Made, phases_plan}
+use Rattle.script_plan.specs.Plans.{phases_plan}
+use Rattle.phase_run.specs.Plans.{Made}
 use Rattle.phase_run.proofs.run.run_each.Goals as goal
 
 pub loop-phase-init : goal.loop-phase-init

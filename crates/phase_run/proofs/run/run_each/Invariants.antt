@@ -1,6 +1,7 @@
 use Rattle.std.proofs.Common.{◌≡◌, map, take}
 use Rattle.build_host.specs.Hosts.{Serves}
-use Rattle.phase_run.specs.Plans.{Made, phases_plan}
+use Rattle.script_plan.specs.Plans.{phases_plan}
+use Rattle.phase_run.specs.Plans.{Made}
 use Rattle.phase_run.specs.Inside.Running.{RunsPhases}
 use Rattle.phase_run.proofs.run.run_each.Given as goal
 

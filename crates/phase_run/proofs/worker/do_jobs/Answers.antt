@@ -3,7 +3,8 @@ use Rattle.run_order.specs.Plans.{commands_of}
 use Rattle.build_host.specs.Laws.{serves_itself, serves_on}
 use Rattle.build_host.proofs.Keeping.{still_served}
 use Rattle.phase_run.proofs.Served.{none_serves, same_serves, take_serves}
-use Rattle.phase_run.specs.Plans.{Made, jobs_plan}
+use Rattle.script_plan.specs.Plans.{jobs_plan}
+use Rattle.phase_run.specs.Plans.{Made}
 use Rattle.phase_run.specs.Inside.Doing.{Takes}
 use Rattle.phase_run.proofs.Results.{on_err}
 use Rattle.phase_run.proofs.Jobs.{made_none, made_more, made_cut, made_stop, made_all}

@@ -2,7 +2,8 @@ use Rattle.std.proofs.Common.{◌≡◌, map}
 use Rattle.run_order.specs.Parts.{Parts}
 use Rattle.run_order.specs.Counts.{left}
 use Rattle.build_host.specs.Hosts.{Serves}
-use Rattle.phase_run.specs.Plans.{Made, jobs_plan}
+use Rattle.script_plan.specs.Plans.{jobs_plan}
+use Rattle.phase_run.specs.Plans.{Made}
 use Rattle.phase_run.specs.Inside.Doing.{Makes}
 use Rattle.phase_run.proofs.worker.do_jobs.Given as goal
 

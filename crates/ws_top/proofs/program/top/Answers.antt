@@ -1,9 +1,9 @@
 use Rattle.std.proofs.Common.{◌⊎◌, inl, inr, map, sym, ◌∙◌, ap, subst, Some}
 use Rattle.std.specs.Prelude.{string_bytes}
 use Rattle.ws_opening.specs.Opened.{opened_state}
-use Rattle.ws_top.specs.Forms.{form_of}
+use Rattle.run_words.specs.Forms.{form_of}
 use Rattle.ws_top.specs.Outcomes.{Tells}
-use Rattle.ws_top.proofs.Answered.{program_run, program_usage, program_help, program_version, program_check, program_generate, touched_idle}
+use Rattle.ws_top.proofs.Answered.{program_run, program_usage, program_help, program_version, program_check, program_generate, program_load, ends_loaded, touched_idle}
 use Rattle.ws_top.proofs.Built.{builds_nothing}
 use Rattle.ws_top.proofs.Lines.{line_2}
 use Rattle.ws_top.proofs.Opened.{leaves_same, unsaved_of}
@@ -37,11 +37,13 @@ returns-in-None g c =
       calm = p.calm;
       line = p.line;
       unopened = p.unopened;
+      loads = p.loads;
       checks = p.checks;
       generates = p.generates;
       help = p.help;
       version = p.version;
       unread = p.unread;
+      undone = p.undone;
       uncalled = λ _. out.ensures.kit;
       heard = hears_nothing (opened_state c.stop.result.kept (map (λ b. g.B.Builder.tells b) c.args.kit.builders)) c.stop.result.status c.stop.result.history (map (λ l. g.L.Listener.heard l) c.args.kit.listeners) (map (λ l. g.L.Listener.heard l) c.stop.result.kit.listeners) c.stop.ensures.nothing (ap (λ kit. map (λ l. g.L.Listener.heard l) kit.listeners) c.stop.ensures.kit);
       builds = builds_nothing g.M.Meanings.meaning (opened_state c.stop.result.kept (map (λ b. g.B.Builder.tells b) c.args.kit.builders)) c.stop.result.history (map (λ b. g.B.Builder.tells b) c.args.kit.builders) (map (λ b. g.B.Builder.tells b) c.stop.result.kit.builders) c.stop.ensures.nothing (ap (λ kit. map (λ b. g.B.Builder.tells b) kit.builders) c.stop.ensures.kit);
@@ -74,11 +76,13 @@ returns-in-Some-Help g c =
       calm = p.calm;
       line = p.line;
       unopened = p.unopened;
+      loads = p.loads;
       checks = p.checks;
       generates = p.generates;
       help = p.help;
       version = p.version;
       unread = p.unread;
+      undone = p.undone;
       uncalled = λ _. out.ensures.kit;
       heard = hears_nothing (opened_state c.tell.result.kept (map (λ b. g.B.Builder.tells b) c.args.kit.builders)) c.tell.result.status c.tell.result.history (map (λ l. g.L.Listener.heard l) c.args.kit.listeners) (map (λ l. g.L.Listener.heard l) c.tell.result.kit.listeners) c.tell.ensures.nothing (ap (λ kit. map (λ l. g.L.Listener.heard l) kit.listeners) c.tell.ensures.kit);
       builds = builds_nothing g.M.Meanings.meaning (opened_state c.tell.result.kept (map (λ b. g.B.Builder.tells b) c.args.kit.builders)) c.tell.result.history (map (λ b. g.B.Builder.tells b) c.args.kit.builders) (map (λ b. g.B.Builder.tells b) c.tell.result.kit.builders) c.tell.ensures.nothing (ap (λ kit. map (λ b. g.B.Builder.tells b) kit.builders) c.tell.ensures.kit);
@@ -111,11 +115,13 @@ returns-in-Some-Generate g c =
       calm = p.calm;
       line = p.line;
       unopened = p.unopened;
+      loads = p.loads;
       checks = p.checks;
       generates = p.generates;
       help = p.help;
       version = p.version;
       unread = p.unread;
+      undone = p.undone;
       uncalled = λ _. out.ensures.kit;
       heard = hears_nothing (opened_state c.tell_script.result.kept (map (λ b. g.B.Builder.tells b) c.args.kit.builders)) c.tell_script.result.status c.tell_script.result.history (map (λ l. g.L.Listener.heard l) c.args.kit.listeners) (map (λ l. g.L.Listener.heard l) c.tell_script.result.kit.listeners) c.tell_script.ensures.nothing (ap (λ kit. map (λ l. g.L.Listener.heard l) kit.listeners) c.tell_script.ensures.kit);
       builds = builds_nothing g.M.Meanings.meaning (opened_state c.tell_script.result.kept (map (λ b. g.B.Builder.tells b) c.args.kit.builders)) c.tell_script.result.history (map (λ b. g.B.Builder.tells b) c.args.kit.builders) (map (λ b. g.B.Builder.tells b) c.tell_script.result.kit.builders) c.tell_script.ensures.nothing (ap (λ kit. map (λ b. g.B.Builder.tells b) kit.builders) c.tell_script.ensures.kit);
@@ -148,11 +154,13 @@ returns-in-Some-Version g c =
       calm = p.calm;
       line = p.line;
       unopened = p.unopened;
+      loads = p.loads;
       checks = p.checks;
       generates = p.generates;
       help = p.help;
       version = p.version;
       unread = p.unread;
+      undone = p.undone;
       uncalled = λ _. out.ensures.kit;
       heard = hears_nothing (opened_state c.tell-in-Some-Version.result.kept (map (λ b. g.B.Builder.tells b) c.args.kit.builders)) c.tell-in-Some-Version.result.status c.tell-in-Some-Version.result.history (map (λ l. g.L.Listener.heard l) c.args.kit.listeners) (map (λ l. g.L.Listener.heard l) c.tell-in-Some-Version.result.kit.listeners) c.tell-in-Some-Version.ensures.nothing (ap (λ kit. map (λ l. g.L.Listener.heard l) kit.listeners) c.tell-in-Some-Version.ensures.kit);
       builds = builds_nothing g.M.Meanings.meaning (opened_state c.tell-in-Some-Version.result.kept (map (λ b. g.B.Builder.tells b) c.args.kit.builders)) c.tell-in-Some-Version.result.history (map (λ b. g.B.Builder.tells b) c.args.kit.builders) (map (λ b. g.B.Builder.tells b) c.tell-in-Some-Version.result.kit.builders) c.tell-in-Some-Version.ensures.nothing (ap (λ kit. map (λ b. g.B.Builder.tells b) kit.builders) c.tell-in-Some-Version.ensures.kit);
@@ -186,11 +194,13 @@ returns-in-Some-Check g c =
       calm = p.calm;
       line = p.line;
       unopened = p.unopened;
+      loads = p.loads;
       checks = p.checks;
       generates = p.generates;
       help = p.help;
       version = p.version;
       unread = p.unread;
+      undone = p.undone;
       uncalled = λ _. out.ensures.kit;
       heard = hears_nothing (opened_state c.check.result.kept (map (λ b. g.B.Builder.tells b) c.args.kit.builders)) c.check.result.status c.check.result.history (map (λ l. g.L.Listener.heard l) c.args.kit.listeners) (map (λ l. g.L.Listener.heard l) c.check.result.kit.listeners) c.check.ensures.nothing (ap (λ kit. map (λ l. g.L.Listener.heard l) kit.listeners) c.check.ensures.kit);
       builds = builds_nothing g.M.Meanings.meaning (opened_state c.check.result.kept (map (λ b. g.B.Builder.tells b) c.args.kit.builders)) c.check.result.history (map (λ b. g.B.Builder.tells b) c.args.kit.builders) (map (λ b. g.B.Builder.tells b) c.check.result.kit.builders) c.check.ensures.nothing (ap (λ kit. map (λ b. g.B.Builder.tells b) kit.builders) c.check.ensures.kit);
@@ -224,16 +234,58 @@ returns-in-Some-Run g c =
       calm = p.calm;
       line = p.line;
       unopened = p.unopened;
+      loads = p.loads;
       checks = p.checks;
       generates = p.generates;
       help = p.help;
       version = p.version;
       unread = p.unread;
-      uncalled = λ no. absurd (no is);
+      undone = p.undone;
+      uncalled = λ no. absurd (no (inl is));
       heard = out.ensures.heard;
       builds = out.ensures.builds;
       participants = out.ensures.participants;
       leaves = areas.leaves;
       unsaved = unsaved_of g.D.Disk.moment g.D.Disk.left_since g.D.Disk.may_leave g.D.Disk.seen g.D.Disk.faults c.args.areas.disk out.result.areas.disk out.result.kept (opened_state c.run.result.kept (map (λ b. g.B.Builder.tells b) c.args.kit.builders)) out.result.history areas.leaves;
-      untouched = touched_idle (form_of (map string_bytes c.args.words.now)) out.result.status (inl is) areas.idle;
+      untouched = touched_idle (form_of (map string_bytes c.args.words.now)) out.result.status (inl (inl is)) areas.idle;
+    }
+
+pub returns-in-Some-Load : goal.returns-in-Some-Load
+returns-in-Some-Load g c =
+    let out = c.load in
+    let is = sym c.form_of.ensures ∙ c.in-Some-Load.is ∙ ap Some c.in-Some-Load.field-0-is in
+    let areas = out.ensures.areas.areas in
+    let p = program_load g.M.Meanings.meaning out.result.kept (map (λ b. g.B.Builder.tells b) c.args.kit.builders) (map (λ p. g.P.Participant.tells p) c.args.kit.participants) (form_of (map string_bytes c.args.words.now)) c.in-Some-Load.number (g.S.Source.left c.args.source.now) (g.S.Source.reads c.args.source.now) (g.S.Source.faults c.args.source.now)
+    (g.D.Disk.seen c.args.areas.disk) (g.D.Disk.faults c.args.areas.disk) (g.D.Disk.faults c.load.result.areas.disk) (g.K.Sink.written c.args.sink.now) (g.K.Sink.written c.load.new.sink) (g.K.Sink.faults c.args.sink.now) (g.K.Sink.faults c.load.new.sink) out.result.status out.result.history
+    is (ends_loaded g.M.Meanings.meaning c.in-Some-Load.number out.result.kept (map (λ p. g.P.Participant.tells p) c.args.kit.participants) (map (λ b. g.B.Builder.tells b) c.args.kit.builders) (g.D.Disk.seen c.args.areas.disk) (g.D.Disk.faults c.args.areas.disk) (g.D.Disk.faults c.load.result.areas.disk) (g.K.Sink.written c.args.sink.now) (g.K.Sink.written c.load.new.sink) (g.K.Sink.faults c.args.sink.now) (g.K.Sink.faults c.load.new.sink) out.result.status out.result.history areas.fault areas.unopened out.ensures.performs) areas.fault areas.unopened areas.damaged out.ensures.areas.state in record {
+      status = p.ends;
+      usage = p.usage;
+      read_fault = p.read_fault;
+      disk_fault = p.disk_fault;
+      unfailed = areas.unfailed;
+      write_fault = p.write_fault;
+      damaged = p.damaged;
+      complete = p.complete;
+      reads = p.reads;
+      opens = p.opens;
+      none = p.none;
+      thread = p.thread;
+      runs = p.runs;
+      calm = p.calm;
+      line = p.line;
+      unopened = p.unopened;
+      loads = p.loads;
+      checks = p.checks;
+      generates = p.generates;
+      help = p.help;
+      version = p.version;
+      unread = p.unread;
+      undone = p.undone;
+      uncalled = λ no. absurd (no (inr (c.in-Some-Load.number, is)));
+      heard = out.ensures.heard;
+      builds = out.ensures.builds;
+      participants = out.ensures.participants;
+      leaves = areas.leaves;
+      unsaved = unsaved_of g.D.Disk.moment g.D.Disk.left_since g.D.Disk.may_leave g.D.Disk.seen g.D.Disk.faults c.args.areas.disk out.result.areas.disk out.result.kept (opened_state c.load.result.kept (map (λ b. g.B.Builder.tells b) c.args.kit.builders)) out.result.history areas.leaves;
+      untouched = touched_idle (form_of (map string_bytes c.args.words.now)) out.result.status (inl (inr (c.in-Some-Load.number, is))) areas.idle;
     }

@@ -1,6 +1,7 @@
 use Rattle.std.proofs.Common.{inl, map, sym, ap, subst, ◌∙◌}
 use Rattle.ws_opening.specs.Opened.{opened_state}
 use Rattle.ws_top.specs.Inside.Opening.{OpensAreas}
+use Rattle.ws_top.specs.Texts.{report_of}
 use Rattle.ws_top.proofs.Built.{builds_nothing}
 use Rattle.ws_top.proofs.Opened.{opens_from, opens_refused}
 use Rattle.ws_top.proofs.Responded.{performs_refused}
@@ -20,7 +21,7 @@ returns-in-Ok g c = let d = g.D.Disk in let out = c.perform_from in let opened =
 
 pub returns-in-Err : goal.returns-in-Err
 returns-in-Err g c = let d = g.D.Disk in let out = c.refuse in let opened = opened_state out.result.kept (map (λ b. g.B.Builder.tells b) c.args.kit.builders) in record {
-  performs = performs_refused g.M.Meanings.meaning out.result.kept (map (λ p. g.P.Participant.tells p) c.args.kit.participants) (map (λ b. g.B.Builder.tells b) c.args.kit.builders) c.args.script c.in-Err.fault (g.K.Sink.written c.args.sink.now) (g.K.Sink.written c.refuse.new.sink) (g.K.Sink.faults c.args.sink.now) (g.K.Sink.faults c.refuse.new.sink) out.result.status out.result.history out.ensures.told out.ensures.nothing out.ensures.none;
+  performs = performs_refused g.M.Meanings.meaning out.result.kept (report_of c.args.telling (map (λ p. g.P.Participant.tells p) c.args.kit.participants)) (map (λ b. g.B.Builder.tells b) c.args.kit.builders) c.args.script c.in-Err.fault (g.K.Sink.written c.args.sink.now) (g.K.Sink.written c.refuse.new.sink) (g.K.Sink.faults c.args.sink.now) (g.K.Sink.faults c.refuse.new.sink) out.result.status out.result.history out.ensures.told out.ensures.nothing out.ensures.none;
   areas = subst (λ areas. OpensAreas d.moment d.left_since d.may_leave d.seen d.faults c.args.areas.disk areas.disk (g.K.Sink.written c.args.sink.now) (g.K.Sink.written c.refuse.new.sink) (g.K.Sink.faults c.args.sink.now) (g.K.Sink.faults c.refuse.new.sink) out.result.kept opened out.result.status out.result.history) (sym out.ensures.areas)
       (opens_refused d.moment d.left_since d.may_leave d.seen d.faults c.in-Err.fault c.args.areas.disk c.in-Err.areas.disk (g.K.Sink.written c.args.sink.now) (g.K.Sink.written c.refuse.new.sink) (g.K.Sink.faults c.args.sink.now) (g.K.Sink.faults c.refuse.new.sink) out.result.kept opened out.result.status out.result.history
       c.in-Err.ensures.opens out.ensures.none out.ensures.nothing out.ensures.told);

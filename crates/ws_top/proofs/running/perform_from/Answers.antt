@@ -2,6 +2,7 @@ use Rattle.std.proofs.Common.{inl, inr, map, Some, sym, ap, subst, ◌∙◌, ar
 use Rattle.std.specs.Prelude.{is_some}
 use Rattle.ws_opening.specs.Opened.{opened_state}
 use Rattle.ws_top.specs.Inside.Opening.{RunsFrom}
+use Rattle.ws_top.specs.Texts.{report_of}
 use Rattle.ws_top.proofs.Built.{builds_nothing}
 use Rattle.ws_top.proofs.Opened.{disk_calm, store_none}
 use Rattle.ws_top.proofs.Responded.{performs_wanted}
@@ -17,7 +18,7 @@ returns-in-Ok-clause-from g c = subst (λ k. RunsFrom k c.perform_in.result.kept
 
 pub returns-in-Err : goal.returns-in-Err
 returns-in-Err g c = record {
-  performs = performs_wanted g.M.Meanings.meaning c.want.result.kept (map (λ p. g.P.Participant.tells p) c.args.kit.participants) (map (λ b. g.B.Builder.tells b) c.args.kit.builders) c.args.script (g.K.Sink.written c.args.sink.now) (g.K.Sink.written c.want.new.sink) (g.K.Sink.faults c.args.sink.now) (g.K.Sink.faults c.want.new.sink) c.want.result.status c.want.result.history c.want.ensures.status c.want.ensures.nothing c.want.ensures.none c.want.ensures.line;
+  performs = performs_wanted g.M.Meanings.meaning c.want.result.kept (report_of c.args.telling (map (λ p. g.P.Participant.tells p) c.args.kit.participants)) (map (λ b. g.B.Builder.tells b) c.args.kit.builders) c.args.script (g.K.Sink.written c.args.sink.now) (g.K.Sink.written c.want.new.sink) (g.K.Sink.faults c.args.sink.now) (g.K.Sink.faults c.want.new.sink) c.want.result.status c.want.result.history c.want.ensures.status c.want.ensures.nothing c.want.ensures.none c.want.ensures.line;
   from = inr (c.want.ensures.none, c.want.ensures.status, c.want.ensures.nothing, c.want.ensures.line);
   heard = hears_nothing (opened_state c.want.result.kept (map (λ b. g.B.Builder.tells b) c.args.kit.builders)) c.want.result.status c.want.result.history (map (λ l. g.L.Listener.heard l) c.args.kit.listeners) (map (λ l. g.L.Listener.heard l) c.want.result.kit.listeners) c.want.ensures.nothing (ap (λ kit. map (λ l. g.L.Listener.heard l) kit.listeners) c.want.ensures.kit);
   builds = builds_nothing g.M.Meanings.meaning (opened_state c.want.result.kept (map (λ b. g.B.Builder.tells b) c.args.kit.builders)) c.want.result.history (map (λ b. g.B.Builder.tells b) c.args.kit.builders) (map (λ b. g.B.Builder.tells b) c.want.result.kit.builders) c.want.ensures.nothing (ap (λ kit. map (λ b. g.B.Builder.tells b) kit.builders) c.want.ensures.kit);

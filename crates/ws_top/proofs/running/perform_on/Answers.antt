@@ -6,8 +6,9 @@ use Rattle.ws_core.specs.Durables.{kept_since}
 use Rattle.ws_core.specs.Histories.{Legal, has_entered, replay}
 use Rattle.ws_top.specs.Builds.{MakesBuilds}
 use Rattle.ws_top.specs.Outcomes.{Shuffle, CutShuffle, StoppedShuffle, IsOneThread, HearsNotices}
+use Rattle.ws_top.specs.Texts.{report_of}
 use Rattle.ws_top.proofs.Built.{builds_of}
-use Rattle.ws_top.proofs.Performed.{performs_for}
+use Rattle.ws_top.proofs.Performed.{performs_for, report_alike}
 use Rattle.ws_top.proofs.Ran.{has_run, ran_fault, ran_store, ran_told}
 use Rattle.ws_top.proofs.Responded.{performed, performed_cut}
 use Rattle.ws_top.proofs.Taking.{saved_names}
@@ -44,9 +45,9 @@ pub returns-in-Ok : goal.returns-in-Ok
 returns-in-Ok g c =
     let ran = (has_run g.D.Disk.moment g.D.Disk.left_since g.D.Disk.may_leave g.D.Disk.faults (λ p. g.P.Participant.tells p) c.args.opened.core c.args.store c.of-keeper.result c.args.kit.participants c.of-space.result c.run_phases-ran.new.space c.into_parts-core.result.0 c.into_parts-core.result.1 c.into_parts-core.result.2 c.of-keeper.ensures.keeper c.of-space.ensures.core c.of-space.ensures.keeper c.of-space.ensures.began c.run_phases-ran.ensures.opened c.run_phases-ran.ensures.start c.into_parts-core.ensures.core c.into_parts-core.ensures.keeper c.into_parts-core.ensures.participants c.into_parts-core.ensures.sound) in
     let all = c.report.ensures.history ∙ ap (λ s. s.history) c.into_parts-core.ensures.core in record {
-      performs = performs_for (Shuffle g.M.Meanings.meaning c.args.opened.core.opened c.args.script) (CutShuffle g.M.Meanings.meaning c.args.opened.core.opened c.args.script) (StoppedShuffle g.M.Meanings.meaning c.args.opened.core.opened c.args.script) c.report.result.kept (map (λ p. g.P.Participant.tells p) c.args.kit.participants) (map (λ p. g.P.Participant.tells p) c.into_parts-core.result.2) c.args.opened.core.opened (g.K.Sink.written c.args.sink.now) (g.K.Sink.written c.report.new.sink) (g.K.Sink.faults c.args.sink.now) (g.K.Sink.faults c.report.new.sink) c.report.result.status c.report.result.history
-          (saved_names (rounds_of c.into_parts-core.result.0.history).ended (map (λ p. g.P.Participant.tells p) c.args.kit.participants) (map (λ p. g.P.Participant.tells p) c.into_parts-core.result.2) ran.had)
-          (performed g.M.Meanings.meaning c.report.result.kept (map (λ p. g.P.Participant.tells p) c.into_parts-core.result.2) c.args.opened.core.opened c.into_parts-core.result.0 c.args.script (g.K.Sink.written c.args.sink.now) (g.K.Sink.written c.report.new.sink) (g.K.Sink.faults c.args.sink.now) (g.K.Sink.faults c.report.new.sink) c.report.result.status c.report.result.history ran.at
+      performs = performs_for (Shuffle g.M.Meanings.meaning c.args.opened.core.opened c.args.script) (CutShuffle g.M.Meanings.meaning c.args.opened.core.opened c.args.script) (StoppedShuffle g.M.Meanings.meaning c.args.opened.core.opened c.args.script) c.report.result.kept (report_of c.args.telling (map (λ p. g.P.Participant.tells p) c.args.kit.participants)) (report_of c.args.telling (map (λ p. g.P.Participant.tells p) c.into_parts-core.result.2)) c.args.opened.core.opened (g.K.Sink.written c.args.sink.now) (g.K.Sink.written c.report.new.sink) (g.K.Sink.faults c.args.sink.now) (g.K.Sink.faults c.report.new.sink) c.report.result.status c.report.result.history
+          (report_alike c.args.telling c.args.opened.core.opened c.report.result.history (map (λ p. g.P.Participant.tells p) c.args.kit.participants) (map (λ p. g.P.Participant.tells p) c.into_parts-core.result.2) (saved_names (rounds_of c.into_parts-core.result.0.history).ended (map (λ p. g.P.Participant.tells p) c.args.kit.participants) (map (λ p. g.P.Participant.tells p) c.into_parts-core.result.2) ran.had))
+          (performed g.M.Meanings.meaning c.report.result.kept (report_of c.args.telling (map (λ p. g.P.Participant.tells p) c.into_parts-core.result.2)) c.args.opened.core.opened c.into_parts-core.result.0 c.args.script (g.K.Sink.written c.args.sink.now) (g.K.Sink.written c.report.new.sink) (g.K.Sink.faults c.args.sink.now) (g.K.Sink.faults c.report.new.sink) c.report.result.status c.report.result.history ran.at
           (subst (λ s. Shuffle g.M.Meanings.meaning c.args.opened.core.opened c.args.script s.history) (sym c.into_parts-core.ensures.core) (subst (λ s. Shuffle g.M.Meanings.meaning s.opened c.args.script c.run_phases-ran.new.space.core.history) c.of-space.ensures.core
           (subst (λ phases. Shuffle g.M.Meanings.meaning c.of-space.result.core.opened (record { phases = phases }) c.run_phases-ran.new.space.core.history) c.as_slice-phases.ensures c.in-Ok.ensures.whole))) c.report.ensures.performs);
       heard = subst (λ kit. HearsNotices c.args.opened.core.opened c.report.result.status c.report.result.history (map (λ l. g.L.Listener.heard l) c.args.kit.listeners) (map (λ l. g.L.Listener.heard l) kit.listeners)) (sym c.report.ensures.kit)
@@ -66,9 +67,9 @@ pub returns : goal.returns
 returns g c =
     let ran = (has_run g.D.Disk.moment g.D.Disk.left_since g.D.Disk.may_leave g.D.Disk.faults (λ p. g.P.Participant.tells p) c.args.opened.core c.args.store c.of-keeper.result c.args.kit.participants c.of-space.result c.run_phases-ran.new.space c.into_parts-core.result.0 c.into_parts-core.result.1 c.into_parts-core.result.2 c.of-keeper.ensures.keeper c.of-space.ensures.core c.of-space.ensures.keeper c.of-space.ensures.began c.run_phases-ran.ensures.opened c.run_phases-ran.ensures.start c.into_parts-core.ensures.core c.into_parts-core.ensures.keeper c.into_parts-core.ensures.participants c.into_parts-core.ensures.sound) in
     let all = c.report_cut.ensures.history ∙ ap (λ s. s.history) c.into_parts-core.ensures.core in record {
-      performs = performs_for (Shuffle g.M.Meanings.meaning c.args.opened.core.opened c.args.script) (CutShuffle g.M.Meanings.meaning c.args.opened.core.opened c.args.script) (StoppedShuffle g.M.Meanings.meaning c.args.opened.core.opened c.args.script) c.report_cut.result.kept (map (λ p. g.P.Participant.tells p) c.args.kit.participants) (map (λ p. g.P.Participant.tells p) c.into_parts-core.result.2) c.args.opened.core.opened (g.K.Sink.written c.args.sink.now) (g.K.Sink.written c.report_cut.new.sink) (g.K.Sink.faults c.args.sink.now) (g.K.Sink.faults c.report_cut.new.sink) c.report_cut.result.status c.report_cut.result.history
-          (saved_names (rounds_of c.into_parts-core.result.0.history).ended (map (λ p. g.P.Participant.tells p) c.args.kit.participants) (map (λ p. g.P.Participant.tells p) c.into_parts-core.result.2) ran.had)
-          (performed_cut g.M.Meanings.meaning c.report_cut.result.kept (map (λ p. g.P.Participant.tells p) c.into_parts-core.result.2) c.args.opened.core.opened c.into_parts-core.result.0 c.args.script (g.K.Sink.written c.args.sink.now) (g.K.Sink.written c.report_cut.new.sink) (g.K.Sink.faults c.args.sink.now) (g.K.Sink.faults c.report_cut.new.sink) c.report_cut.result.status c.report_cut.result.history ran.at
+      performs = performs_for (Shuffle g.M.Meanings.meaning c.args.opened.core.opened c.args.script) (CutShuffle g.M.Meanings.meaning c.args.opened.core.opened c.args.script) (StoppedShuffle g.M.Meanings.meaning c.args.opened.core.opened c.args.script) c.report_cut.result.kept (report_of c.args.telling (map (λ p. g.P.Participant.tells p) c.args.kit.participants)) (report_of c.args.telling (map (λ p. g.P.Participant.tells p) c.into_parts-core.result.2)) c.args.opened.core.opened (g.K.Sink.written c.args.sink.now) (g.K.Sink.written c.report_cut.new.sink) (g.K.Sink.faults c.args.sink.now) (g.K.Sink.faults c.report_cut.new.sink) c.report_cut.result.status c.report_cut.result.history
+          (report_alike c.args.telling c.args.opened.core.opened c.report_cut.result.history (map (λ p. g.P.Participant.tells p) c.args.kit.participants) (map (λ p. g.P.Participant.tells p) c.into_parts-core.result.2) (saved_names (rounds_of c.into_parts-core.result.0.history).ended (map (λ p. g.P.Participant.tells p) c.args.kit.participants) (map (λ p. g.P.Participant.tells p) c.into_parts-core.result.2) ran.had))
+          (performed_cut g.M.Meanings.meaning c.report_cut.result.kept (report_of c.args.telling (map (λ p. g.P.Participant.tells p) c.into_parts-core.result.2)) c.args.opened.core.opened c.into_parts-core.result.0 c.args.script (g.K.Sink.written c.args.sink.now) (g.K.Sink.written c.report_cut.new.sink) (g.K.Sink.faults c.args.sink.now) (g.K.Sink.faults c.report_cut.new.sink) c.report_cut.result.status c.report_cut.result.history ran.at
           (subst (λ s. CutShuffle g.M.Meanings.meaning c.args.opened.core.opened c.args.script s.history) (sym c.into_parts-core.ensures.core) (subst (λ s. CutShuffle g.M.Meanings.meaning s.opened c.args.script c.run_phases-ran.new.space.core.history) c.of-space.ensures.core
           (subst (λ phases. CutShuffle g.M.Meanings.meaning c.of-space.result.core.opened (record { phases = phases }) c.run_phases-ran.new.space.core.history) c.as_slice-phases.ensures c.in-Err.ensures.cut)))
           (subst (λ s. (s.history ≡ []) ⊎ (has_entered 1 (replay s.opened s.history) ≡ true)) (sym c.into_parts-core.ensures.core) c.in-Err.ensures.there) c.report_cut.ensures.performs);

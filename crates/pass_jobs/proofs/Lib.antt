@@ -1,0 +1,6 @@
+pub mod Went
+pub mod Quiet
+pub mod Turns
+pub mod Jobs
+pub mod Sleepers
+pub mod Meets

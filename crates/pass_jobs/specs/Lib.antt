@@ -1,0 +1,3 @@
+pub mod Calls
+-- Words that private code alone speaks of.
+pub mod Inside

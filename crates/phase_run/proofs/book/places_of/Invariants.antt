@@ -1,9 +1,0 @@
-use Rattle.std.proofs.Common.{◌≤◌, length}
-use Rattle.phase_run.specs.Inside.Books.{FindsFrom}
-use Rattle.phase_run.proofs.book.places_of.Given as goal
-
-abbrev pub invariant-loop-from : goal.invariant-loop-from
-invariant-loop-from l = FindsFrom l.from l.places l.jobs × (l.from ≤ length l.jobs)
-
-abbrev pub decreases-loop-from : goal.decreases-loop-from
-decreases-loop-from l = l.from

@@ -1,0 +1,3 @@
+pub mod Plans
+-- Words that private code alone speaks of.
+pub mod Inside
