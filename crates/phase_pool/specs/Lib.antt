@@ -2,5 +2,5 @@ pub mod Passes
 pub mod Parts
 pub mod Workers
 pub mod Phases
--- Words that private code alone speaks of.
+-- Words of private code; of these `Meeting` is that of `gather` too.
 pub mod Inside

@@ -59,7 +59,7 @@ fn tell_all<H: Host>(host: &H, first: &mut H::Pass, workers: &mut Vec<Worker<H::
 }
 
 /// Pass 0 and each worker's pass meet, both ways.
-pub(crate) fn gather<H: Host>(host: &H, first: &mut H::Pass, workers: &mut Vec<Worker<H::Pass>>)
+pub fn gather<H: Host>(host: &H, first: &mut H::Pass, workers: &mut Vec<Worker<H::Pass>>)
     requires here { H.here host.now first.old }
     requires workers { AllByRecursion (λ w. H.here host.now w.pass) workers.old.items }
     ensures here { H.here host.now first.new }
