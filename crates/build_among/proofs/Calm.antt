@@ -100,11 +100,11 @@ own_calm k s [] all calm = tt
 own_calm k s (x ∷ h) all calm = elim (nat_eq x.pass k) as (λ c. AllByRecursion (IsOwn k) (if c then x ∷ own k h else own k h)
     → AreCalm ((if c then option_to_list (option_map (at (state_of s)) (deed_of x.event x.reply.answer)) else []) ++ entries_of k (after s x) h)
     → IsCalm (if c then x ∷ own k h else own k h)) [
-  | true ↦ λ all calm.
-    let first = first_calm s (deed_of x.event x.reply.answer) (entries_of k (after s x) h) calm in
-    (event_read x.event x.reply.answer all.0.building ∙ first.0, own_calm k (after s x) h all.1 first.1)
-  | false ↦ λ all calm. own_calm k (after s x) h all calm
-] all calm
+      | true ↦ λ all calm.
+          let first = first_calm s (deed_of x.event x.reply.answer) (entries_of k (after s x) h) calm in
+          (event_read x.event x.reply.answer all.0.building ∙ first.0, own_calm k (after s x) h all.1 first.1)
+      | false ↦ λ all calm. own_calm k (after s x) h all calm
+    ] all calm
 
 -- ---- the entries of a build
 
@@ -169,5 +169,5 @@ built_calm ms kind project s k j f a w other =
     let its = its_since ms kind project s k j f rest w.made.0 (ap (own k.number) (sym w.begins.1) ∙ mine_is ms kind project s k j f (Ok a) w) in
     let mine = ap (entries_of k.number s) w.begins.1 ∙ entries_append k.number s k.seen rest in
     let read = answered_calm ms kind project (book_in s k.number 0 [] w.built.told k.seen) (book_in s k.number w.built.start w.built.began w.built.now j.seen)
-        (entries_of k.number (replay s k.seen) rest) mine a w.built.answered other in
+    (entries_of k.number (replay s k.seen) rest) mine a w.built.answered other in
     subst IsCalm its (own_calm k.number (replay s k.seen) rest (subst (AllByRecursion (IsOwn k.number)) (sym its) w.made.2) read)
