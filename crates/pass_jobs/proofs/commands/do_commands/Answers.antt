@@ -28,10 +28,10 @@ loop-index-preserved g c =
     let before = c.loop-index.invariant.2 in (
       c.do_command.ensures.here.0,
       c.do_command.ensures.here.1,
-      turns_next (Made builds k.number) (some_made builds k.number (g.R.Builds.PassBuilds.some_made s k.number)) c.args.commands.now (known k) c.loop-index.index c.command-item.result (known i) (known j)
+      turns_next (Made builds k.number) (some_made builds k.number (g.R.Builds.PassBuilds.some_made s k.number)) c.args.commands.now (known k) c.loop-index.index c.index-commands-index.result (known i) (known j)
           c.loop-index-test.true before
-          (subst (λ x. Makes (Made builds k.number x) (known i) (known j)) c.command-item.is
-          (subst (λ n. Makes (Made builds n c.command-item.result) (known i) (known j)) before.number (subst (λ r. Does r (Made builds i.number c.command-item.result) (known i) (known j)) c.in-Ok.is c.do_command.ensures.done))),
+          (subst (λ x. Makes (Made builds k.number x) (known i) (known j)) c.index-commands-index.is
+          (subst (λ n. Makes (Made builds n c.index-commands-index.result) (known i) (known j)) before.number (subst (λ r. Does r (Made builds i.number c.index-commands-index.result) (known i) (known j)) c.in-Ok.is c.do_command.ensures.done))),
     )
 
 pub returns-in-Err-clause-done : goal.returns-in-Err-clause-done
@@ -42,10 +42,10 @@ returns-in-Err-clause-done g c =
     let j = g.R.JobRoom.knows c.do_command.new.pass in
     let builds = g.R.Builds.PassBuilds.makes s in
     let before = c.loop-index.invariant.2 in
-    turns_cut (Made builds k.number) (some_made builds k.number (g.R.Builds.PassBuilds.some_made s k.number)) c.args.commands.now (known k) c.loop-index.index c.command-item.result (known i) (known j)
+    turns_cut (Made builds k.number) (some_made builds k.number (g.R.Builds.PassBuilds.some_made s k.number)) c.args.commands.now (known k) c.loop-index.index c.index-commands-index.result (known i) (known j)
     c.loop-index-test.true before
-    (subst (λ x. Makes (Cut (Made builds k.number x)) (known i) (known j)) c.command-item.is
-    (subst (λ n. Makes (Cut (Made builds n c.command-item.result)) (known i) (known j)) before.number (subst (λ r. Does r (Made builds i.number c.command-item.result) (known i) (known j)) c.in-Err.is c.do_command.ensures.done)))
+    (subst (λ x. Makes (Cut (Made builds k.number x)) (known i) (known j)) c.index-commands-index.is
+    (subst (λ n. Makes (Cut (Made builds n c.index-commands-index.result)) (known i) (known j)) before.number (subst (λ r. Does r (Made builds i.number c.index-commands-index.result) (known i) (known j)) c.in-Err.is c.do_command.ensures.done)))
 
 pub returns-clause-done : goal.returns-clause-done
 returns-clause-done g c =
