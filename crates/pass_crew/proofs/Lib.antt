@@ -1,0 +1,11 @@
+pub mod Gone
+pub mod Stages
+pub mod Places
+pub mod Entering
+pub mod Heard
+pub mod Kept
+pub mod Meetings
+pub mod Admitting
+pub mod Leaving
+pub mod Whole
+pub mod Results
