@@ -1,5 +1,5 @@
 -- Entries that let passes in, and such that let none in.
-use Rattle.std.proofs.Common.{◌≡◌, ◌≢◌, ◌∙◌, ◌+◌, ◌<◌, ℕ, zero, suc, List, [], ◌∷◌, ◌++◌, map, length, refl, sym, ap, subst, arith, append-nil}
+use Rattle.std.proofs.Common.{◌≡◌, ◌≢◌, ◌∙◌, ◌⊎◌, inl, inr, ◌+◌, ◌<◌, ℕ, zero, suc, List, [], ◌∷◌, ◌++◌, map, length, refl, sym, ap, subst, arith, append-nil}
 use Rattle.std.proofs.Math.ListN.{replicate}
 use Rattle.core_event.specs.declared.entry.Entry.{Entry}
 use Rattle.core_event.specs.declared.event.Event.{Event}
@@ -50,3 +50,12 @@ own_end_no k h x ne = own_append k h (x ∷ []) ∙ (ap (λ l. own k h ++ l) (ow
 
 pub own_end_yes : (k : ℕ) (h : List Entry) (x : Entry) → x.pass ≡ k → own k (h ++ x ∷ []) ≡ own k h ++ x ∷ []
 own_end_yes k h x is = own_append k h (x ∷ []) ∙ ap (λ l. own k h ++ l) (own_yes k x [] is)
+
+-- where one was let in for each of these, there is one, or nothing was done
+pub one_or_none : {W : Type 0} (ws : List W) (h : List Entry) → Enters (length ws) h → (h ≡ []) ⊎ (0 < length ws)
+one_or_none [] h e = inl (nothing h e)
+  where
+    nothing : (h : List Entry) → Enters 0 h → h ≡ []
+    nothing [] e = refl
+    nothing (x ∷ h) e = let z = ap length e in absurd (omega (arith, z))
+one_or_none (w ∷ ws) h e = inr (omega arith)

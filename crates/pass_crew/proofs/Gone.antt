@@ -99,7 +99,7 @@ pub after_gone : (j : ℕ) (s : Moment) (h : List Entry) → IsGone j s.manager 
 after_gone j s [] gone = gone
 after_gone j s (x ∷ h) gone = after_gone j (after s x) h (step_gone s x.pass x.event j gone)
 
-both : (a b : Bool) → (a && b) ≡ true → (a ≡ true) × (b ≡ true)
+pub both : (a b : Bool) → (a && b) ≡ true → (a ≡ true) × (b ≡ true)
 both true b e = (refl, e)
 both false b e = cc
 

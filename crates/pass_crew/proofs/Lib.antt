@@ -5,7 +5,8 @@ pub mod Entering
 pub mod Heard
 pub mod Kept
 pub mod Meetings
-pub mod Admitting
-pub mod Leaving
+pub mod Admits
+pub mod Leaves
 pub mod Whole
+pub mod Ends
 pub mod Results

@@ -1,5 +1,6 @@
 -- Where all passes that are still there have met, and what is new at the next such meeting.
-use Rattle.std.proofs.Common.{◌≡◌, ◌∙◌, inl, inr, ◌<◌, ◌≤◌, ◌+◌, ℕ, suc, true, false, List, [], ◌∷◌, ◌++◌, length, refl, sym, ap, subst, arith, append-nil}
+use Rattle.std.proofs.Common.{◌≡◌, ◌∙◌, inl, inr, ◌<◌, ◌≤◌, ◌+◌, ℕ, suc, true, false, List, [], ◌∷◌, ◌++◌, length, map, refl, sym, ap, subst, arith, append-nil}
+use Rattle.std.proofs.lemmas.List.{length-map}
 use Rattle.core_event.specs.declared.entry.Entry.{Entry}
 use Rattle.job_pool.specs.Workers.{Pairs}
 use Rattle.ws_core.specs.States.{Moment}
@@ -10,6 +11,7 @@ use Rattle.run_order.specs.Fronts.{enters, Front}
 use Rattle.run_order.proofs.Lists.{begins_on, own_append}
 use Rattle.run_order.proofs.Meetings.{above}
 use Rattle.phase_pool.specs.Passes.{Known, LooksOn}
+use Rattle.phase_pool.specs.Phases.{Came}
 use Rattle.phase_pool.specs.Workers.{Hand, Together, nobody, worker_at}
 use Rattle.phase_pool.specs.Inside.Meeting.{Gathers, HasSeen, IsOfOne}
 use Rattle.phase_pool.proofs.Pairs.{pairs_at, pairs_len}
@@ -70,6 +72,7 @@ module _ {Kept : ℕ → List Entry → Type 0} {s : Moment} {n gone : ℕ} {k0 
   pub ended_of : (m : ℕ) → n ≤ m → ((i : ℕ) → i < length vs → Kept (worker_at vs i).known.number (worker_at vs i).known.seen) → Ended Kept m k0 vs
   ended_of m le now = let e = a.len in record {
     zeroth = a.zeroth;
+    len = omega (arith, e, le);
     seen = a.seen;
     some = λ i lt. let f = a.numbers i lt in omega (arith, f);
     few = λ i lt. let f = a.numbers i lt in omega (arith, f, e, lt, le);
@@ -120,3 +123,18 @@ module _ {Kept : ℕ → List Entry → Type 0} {s : Moment} {n gone : ℕ} {k0 
       absent = λ j p q. gone_after k2.seen begins j p q;
       kept = λ j p q. subst (Kept j) (sym same_seen) (a.kept j p q);
     }
+
+-- ---- as many workers as before
+
+pub gathered_len : {W : Type 0} (f : W → Hand) (k k' : Known) (xs ys : List W) → Gathers k k' (map f xs) (map f ys) → length ys ≡ length xs
+gathered_len f k k' xs ys g = sym (length-map ys f) ∙ (pairs_len (HasSeen k'.seen) (map f xs) (map f ys) g.workers ∙ length-map xs f)
+
+-- ---- where all came to what nothing is new behind
+
+pub came_still : (Kept : ℕ → List Entry → Type 0) (s : Moment) (P : List Entry → Type 0) (k k1 k2 : Known) (vs ws zs : List Hand) → Came s P k vs k1 ws
+    → ((n : ℕ) (gone : ℕ) → Assembled Kept s n gone k1 ws → Assembled Kept s n gone k2 zs) → k2.seen ≡ k1.seen → Came s P k vs k2 zs
+came_still Kept s P k k1 k2 vs ws zs c f same =
+    let a = f (length ws) 0 (assembled_of Kept s k1 ws c.together) in
+    let e = a.len in
+    let d = c.len in
+    record { len = omega (arith, e, d); together = together_of Kept s (length ws) k2 zs a; grew = subst (Grew P k.seen) (sym same) c.grew }

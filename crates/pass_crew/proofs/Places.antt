@@ -1,5 +1,5 @@
 -- Workers by their places.
-use Rattle.std.proofs.Common.{◌≡◌, ◌∙◌, ◌<◌, ◌+◌, ℕ, zero, suc, List, [], ◌∷◌, ◌++◌, length, map, take, drop, get_or, refl, sym, ap, subst, arith}
+use Rattle.std.proofs.Common.{◌≡◌, ◌∙◌, ◌<◌, ◌+◌, ℕ, zero, suc, List, [], ◌∷◌, ◌++◌, length, map, take, drop, get_or, refl, sym, ap, subst, arith, length-append}
 use Rattle.std.specs.Prelude.{slice_index_or}
 use Rattle.std.specs.List.{AllByRecursion}
 use Rattle.phase_pool.specs.Workers.{Hand, nobody, worker_at}
@@ -54,3 +54,14 @@ all_both P Q R f (w ∷ ws) p q = (f w p.0 q.0, all_both P Q R f ws p.1 q.1)
 pub all_mapped : {W X : Type 0} (f : W → X) (P : X → Type 0) (ws : List W) → AllByRecursion (λ w. P (f w)) ws → AllByRecursion P (map f ws)
 all_mapped f P [] all = tt
 all_mapped f P (w ∷ ws) all = (all.0, all_mapped f P ws all.1)
+
+-- ---- one that is pushed
+
+pub pushed : {W X : Type 0} (f : W → X) (xs ys zs : List W) (y : W) → ys ≡ xs → zs ≡ ys ++ y ∷ [] → map f zs ≡ map f xs ++ f y ∷ []
+pushed f xs ys zs y d e = ap (map f) (e ∙ ap (λ l. l ++ y ∷ []) d) ∙ map_more f xs y
+
+pub all_pushed : {W : Type 0} (P : W → Type 0) (xs ys zs : List W) (y : W) → ys ≡ xs → zs ≡ ys ++ y ∷ [] → AllByRecursion P xs → P y → AllByRecursion P zs
+all_pushed P xs ys zs y d e all p = subst (AllByRecursion P) (sym (e ∙ ap (λ l. l ++ y ∷ []) d)) (all_more P xs y all p)
+
+pub pushed_len : {W : Type 0} (xs ys zs : List W) (y : W) → ys ≡ xs → zs ≡ ys ++ y ∷ [] → length zs ≡ length xs + 1
+pushed_len xs ys zs y d e = ap length (e ∙ ap (λ l. l ++ y ∷ []) d) ∙ length-append xs (y ∷ [])

@@ -1,5 +1,6 @@
 -- How a run comes to be whole, or cut.
-use Rattle.std.proofs.Common.{◌≡◌, ◌∙◌, inl, inr, ◌<◌, ◌≤◌, ◌+◌, ℕ, zero, suc, List, [], ◌∷◌, ◌++◌, length, map, refl, sym, ap, subst, arith, append-nil, append_assoc}
+use Rattle.std.proofs.Common.{◌≡◌, ◌∙◌, inl, inr, ◌<◌, ◌≤◌, ◌+◌, ◌==◌, ℕ, zero, suc, false, List, [], ◌∷◌, ◌++◌, length, map, refl, sym, ap, subst, arith, append-nil, append_assoc}
+use Rattle.std.proofs.lemmas.Bool.{false≢true}
 use Rattle.core_event.specs.declared.entry.Entry.{Entry}
 use Rattle.core_event.specs.declared.event.Event.{Event}
 use Rattle.core_event.specs.declared.event.Event.TheVariants.{Leave}
@@ -12,6 +13,7 @@ use Rattle.run_order.proofs.Lists.{acts_append, acts_cut, cut_none, some_acts}
 use Rattle.run_order.proofs.Whole.{cut_between, cut_entering, run_whole}
 use Rattle.phase_pool.specs.Phases.{CutPhases}
 use Rattle.pass_crew.specs.Passes.{Leaving}
+use Rattle.pass_crew.specs.Inside.Running.{GoesPartly, GoesThrough}
 use Rattle.pass_crew.proofs.Places.{map_more}
 
 -- ---- passes leave, one after another
@@ -29,7 +31,7 @@ leaves_more m a b p q =
     ∙ (sym (map_more left_by (numbers m) (m + 1)) ∙ (ap (λ k. map left_by (numbers m ++ k ∷ [])) (sym on) ∙ ap (λ k. map left_by (numbers k)) on))))
 
 numbers_front : (m d : ℕ) → (ys : List ℕ) × (numbers (d + m) ≡ numbers m ++ ys)
-numbers_front m zero = ([], sym (append-nil (numbers m)))
+numbers_front m zero = let e : zero + m ≡ m = omega arith in ([], ap numbers e ∙ sym (append-nil (numbers m)))
 numbers_front m (suc d) =
     let r = numbers_front m d in
     let on : suc (d + m) ≡ suc d + m = omega arith in
@@ -92,3 +94,15 @@ module _ {C : Type 0} (Made : Making C) (s : Moment) (ps : List (Phase C)) (n : 
   -- while they left
   pub cut_leaving : (g h h' : List Entry) → Enters n g → Phases Made n s ps g h → Grew (Cut (Leaves n)) h h' → IsCutRun Made s ps n h'
   cut_leaving g h h' enter run l = subst (IsCutRun Made s ps n) (sym l.1) (subst (λ z. IsCutRun Made s z n (h ++ l.0)) (append-nil ps) (cut_between Made s ps [] n g h l.0 enter run l.2))
+
+  -- once passes were let in
+  pub run_through : (g h : List Entry) → Enters n g → GoesThrough Made n s ps g h → IsRun Made s ps n h
+  run_through g h enter w = run_of g w.0 h enter w.1 w.2
+
+  pub cut_through : (g h : List Entry) → Enters n g → GoesPartly Made n s ps g h → IsCutRun Made s ps n h
+  cut_through g h enter w = elim w [ inl c ↦ cut_running g h enter c | inr l ↦ cut_leaving g l.0 h enter l.1 l.2 ]
+
+-- there is a phase
+pub some_phases : {C D : Type 0} (plan : D → Phase C) (ds : List D) → false ≡ (length ds == 0) → 0 < length (map plan ds)
+some_phases plan [] e = absurd (false≢true e)
+some_phases plan (d ∷ ds) e = omega arith

@@ -1,3 +1,4 @@
 pub mod Admitted
 pub mod Assembled
+pub mod Running
 pub mod Telling

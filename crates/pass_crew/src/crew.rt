@@ -17,12 +17,6 @@ use std::sync::Wait;
 
 /// Where scripts are run: a place where phases are run, at which passes come and go, and whose entries may be told.
 pub trait Crew: Host {
-    // a pass that is here has entered, and hasn't left
-    ghost here_there: { (w : Self) (p : Self.Pass) → Self.here w p → has_entered (Self.knows p).number (replay (Self.opened w) (Self.knows p).seen) ≡ true };
-
-    // what holds of a pass holds still where it makes nothing
-    ghost stays_good: { (w : Self) (k : ℕ) (g h : List Entry) → Self.good w k g → Begins g h → own k h ≡ own k g → Self.good w k h };
-
     /// The pass lets another in, which has seen as much: that is its next entry. Where memory wants it makes none.
     fn let_in<R: Wait>(
         &self,
@@ -68,4 +62,10 @@ pub trait Crew: Host {
         ensures looked { LooksOn (Self.knows pass.old) (Self.knows pass.new) }
         ensures told { HeardMore (told_of (drop from (Self.knows pass.new).seen)) (map (λ l. L.heard l) listeners.old) (map (λ l. L.heard l) listeners.new) }
         ensures counted { result ≡ length (Self.knows pass.new).seen };
+
+    // a pass that is here has entered, and hasn't left
+    ghost here_there: { (w : Self) (p : Self.Pass) → Self.Host.here w p → has_entered (Self.Host.knows p).number (replay (Self.Host.opened w) (Self.Host.knows p).seen) ≡ true };
+
+    // what holds of a pass holds still where it makes nothing
+    ghost stays_good: { (w : Self) (k : ℕ) (g h : List Entry) → Self.Host.good w k g → Begins g h → own k h ≡ own k g → Self.Host.good w k h };
 }

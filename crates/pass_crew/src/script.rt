@@ -6,15 +6,17 @@ ghost use Rattle.ws_core.specs.Histories.{has_entered, replay};
 ghost use Rattle.run_order.specs.Fronts.{enters};
 ghost use Rattle.run_order.specs.Lists.{own};
 ghost use Rattle.run_order.specs.Orders.{CutShuffle, IsCutRun, IsRun, Shuffle};
-ghost use Rattle.phase_pool.specs.Workers.{hand};
+ghost use Rattle.phase_pool.specs.Workers.{AllGoOn, Together, hand};
 ghost use Rattle.pass_crew.specs.Ends.{OneIsThere};
 ghost use Rattle.pass_crew.specs.Heard.{HeardAll, HeardFront};
 ghost use Rattle.pass_crew.specs.Told.{HasTold};
 ghost use Rattle.pass_crew.specs.Inside.Assembled.{Ended, IsKept};
+ghost use Rattle.pass_crew.specs.Inside.Running.{GoesPartly, GoesThrough};
+ghost use Rattle.pass_crew.specs.Inside.Telling.{Tells, TellsFront};
 
 use crate::admitting::admit_all;
 use crate::crew::Crew;
-use crate::leaving::{leave_all, passes_of};
+use crate::leaving::{leave_and_tell, passes_of};
 use crate::phases::run_each;
 use crate::stopped::{Stays, Stopped};
 use crate::telling::tell;
@@ -23,6 +25,42 @@ use save_parts::{Listener, Listeners};
 use std::alloc::Global;
 use std::sync::Wait;
 use std::thread::Threads;
+
+/// The phases are run by the passes that were let in, and these are taken in again: all that was told before are so many
+/// entries. Those that are still there come back.
+fn run_through<R: Threads + Wait + Sync, C: Crew + Sync, L: Listener>(
+    rt: &R,
+    alloc: Global,
+    crew: &C,
+    first: &mut C::Pass,
+    workers: Vec<Worker<C::Pass>>,
+    listeners: &mut Listeners<L>,
+    phases: &[C::Phase],
+    from: u64,
+) -> (Vec<Worker<C::Pass>>, Result<(), Stays>)
+where
+    C::Pass: Send,
+    C::Phase: Sync,
+    requires some { 0 < length workers.items }
+    requires here { C.here crew.now first.old × AllByRecursion (λ w. C.here crew.now w.pass) workers.items }
+    requires together { Together (C.opened crew.now) (C.knows first.old) (map (hand C.knows) workers.items) }
+    requires all_go_on { AllGoOn (map (hand C.knows) workers.items) }
+    requires from { from ≡ length (C.knows first.old).seen }
+    ensures here { C.here crew.now first.new × AllByRecursion (λ w. C.here crew.now w.pass) result.0.items }
+    ensures ended { Ended (IsKept (C.good crew.now) C.knows (C.tells crew.now)) (length workers.items) (C.knows first.new) (map (hand C.knows) result.0.items) }
+    ensures whole { OnOk result.1 (GoesThrough (C.makes crew.now) (length workers.items) (C.opened crew.now) (map (λ p. C.plan p) phases.now) (C.knows first.old).seen (C.knows first.new).seen) }
+    ensures all_in { OnOk result.1 (enters (own 0 (C.knows first.new).seen) ≡ length workers.items) }
+    ensures told { OnOk result.1 (Tells (C.knows first.old).seen (C.knows first.new).seen (map (λ l. L.heard l) listeners.old) (map (λ l. L.heard l) listeners.new)) }
+    ensures cut { OnErr result.1 (GoesPartly (C.makes crew.now) (length workers.items) (C.opened crew.now) (map (λ p. C.plan p) phases.now) (C.knows first.old).seen (C.knows first.new).seen) }
+    ensures some_left { OnErr result.1 (0 < length result.0.items) }
+    ensures told_some { OnErr result.1 (TellsFront (C.knows first.old).seen (C.knows first.new).seen (map (λ l. L.heard l) listeners.old) (map (λ l. L.heard l) listeners.new)) }
+{
+    let (workers, ran) = run_each(rt, alloc, crew, first, workers, listeners, phases, from);
+    match ran {
+        Ok(told) => leave_and_tell(rt, alloc, crew, first, workers, listeners, told),
+        Err(_) => (workers, Err(Stays::Memory)),
+    }
+}
 
 /// So many passes are let in, the phases are run by them, and they are taken in again. Those that are still there come back.
 fn run_all<R: Threads + Wait + Sync, C: Crew + Sync, L: Listener>(
@@ -44,31 +82,20 @@ where
     requires opened { (C.opened crew.now).manager.passes ≡ first_pass }
     ensures here { C.here crew.now first.new × AllByRecursion (λ w. C.here crew.now w.pass) result.0.items }
     ensures ended { Ended (IsKept (C.good crew.now) C.knows (C.tells crew.now)) count (C.knows first.new) (map (hand C.knows) result.0.items) }
-    ensures few { length result.0.items ≤ count }
     ensures whole { OnOk result.1 (IsRun (C.makes crew.now) (C.opened crew.now) (map (λ p. C.plan p) phases.now) count (C.knows first.new).seen) }
     ensures all_in { OnOk result.1 (enters (own 0 (C.knows first.new).seen) ≡ count) }
-    ensures none_left { OnOk result.1 (result.0.items ≡ []) }
     ensures told { OnOk result.1 (HeardAll (C.knows first.new).seen (map (λ l. L.heard l) listeners.old) (map (λ l. L.heard l) listeners.new)) }
     ensures cut { OnErr result.1 (IsCutRun (C.makes crew.now) (C.opened crew.now) (map (λ p. C.plan p) phases.now) count (C.knows first.new).seen) }
     ensures some_left { OnErr result.1 (((C.knows first.new).seen ≡ []) ⊎ (0 < length result.0.items)) }
     ensures told_some { OnErr result.1 (HeardFront (C.knows first.new).seen (map (λ l. L.heard l) listeners.old) (map (λ l. L.heard l) listeners.new)) }
 {
     let mut workers = Vec::new(alloc);
-    if admit_all(rt, alloc, crew, first, &mut workers, count).is_err() {
-        return (workers, Err(Stays::Memory));
-    }
-    let told = tell(rt, alloc, crew, first, &mut workers, listeners, 0);
-    let (mut workers, ran) = run_each(rt, alloc, crew, first, workers, listeners, phases, told);
-    let told = match ran {
-        Ok(told) => told,
-        Err(_) => return (workers, Err(Stays::Memory)),
-    };
-    match leave_all(rt, alloc, crew, first, &mut workers) {
+    match admit_all(rt, alloc, crew, first, &mut workers, count) {
         Ok(()) => {
-            tell(rt, alloc, crew, first, &mut workers, listeners, told);
-            (workers, Ok(()))
+            let told = tell(rt, alloc, crew, first, &mut workers, listeners, 0);
+            run_through(rt, alloc, crew, first, workers, listeners, phases, told)
         }
-        Err(why) => (workers, Err(why)),
+        Err(_) => (workers, Err(Stays::Memory)),
     }
 }
 

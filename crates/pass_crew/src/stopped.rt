@@ -1,7 +1,7 @@
 //! Runs that stopped early.
 
 /// Why a pass that was to leave is still there.
-#[derive(Clone, Copy, Debug, PartialEq, Eq, Drop)]
+#[derive(Clone, Copy, Debug, PartialEq, Eq)]
 pub enum Stays {
     /// It has something that it must give back first.
     Busy,

@@ -33,6 +33,7 @@ pub record LeftOne (Kept : ℕ → List Entry → Type 0) (s : Moment) (n gone :
 -- Where a run ended: the workers have seen what pass 0 has, and so much is known of each pass that pass 0 let in
 pub record Ended (Kept : ℕ → List Entry → Type 0) (n : ℕ) (k : Known) (hands : List Hand) : Type 0 where
   pub zeroth : k.number ≡ 0
+  pub len : length hands ≤ n
   pub seen : (i : ℕ) → i < length hands → (worker_at hands i).known.seen ≡ k.seen
   pub some : (i : ℕ) → i < length hands → 0 < (worker_at hands i).known.number
   pub few : (i : ℕ) → i < length hands → (worker_at hands i).known.number ≤ n

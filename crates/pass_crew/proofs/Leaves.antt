@@ -188,6 +188,7 @@ module _ {Kept : ℕ → List Entry → Type 0} {s : Moment} {n gone : ℕ} {k0 
         grew = grew_after k2 ws (Cut (Leaving (gone + 1))) (cut_leaving_quiet (gone + 1)) stay_begins legal stay_looks stay_at stay_made;
         ended = record {
           zeroth = stay_looks.number ∙ a.zeroth;
+          len = (let f = stay_len in let e = a.len in omega (arith, e, f));
           seen = λ i lt. (each i lt).seen;
           some = λ i lt. (numbered i lt).0;
           few = λ i lt. (numbered i lt).1;
