@@ -16,6 +16,12 @@ use Rattle.pass_crew.specs.Told.{HasTold}
 use Rattle.pass_crew.specs.Inside.Assembled.{Ended, IsKept}
 use Rattle.pass_crew.proofs.Places.{all_images, all_mapped}
 
+-- each worker's pass that is here is there
+pub all_there : {P : Type 0} (knows : P → Known) (s : Moment) (Here : P → Type 0) → ((p : P) → Here p → has_entered (knows p).number (replay s (knows p).seen) ≡ true)
+    → (ws : List (Worker P)) → AllByRecursion (λ w. Here w.pass) ws → AllByRecursion (λ w. has_entered (knows w.pass).number (replay s (knows w.pass).seen) ≡ true) ws
+all_there knows s Here law [] all = tt
+all_there knows s Here law (w ∷ ws) all = (law w.pass all.0, all_there knows s Here law ws all.1)
+
 module _ {P : Type 0} (knows : P → Known) (Good : ℕ → List Entry → Type 0) (Tells : P → List Entry → Type 0) (s : Moment) (n : ℕ) (k : Known) (ws : List (Worker P))
     (e : Ended (IsKept Good knows Tells) n k (map (hand knows) ws)) where
   -- what holds of each worker's pass in what it has seen holds of it in what pass 0 has

@@ -5,7 +5,7 @@ use Rattle.run_order.specs.Lists.{acts, own}
 use Rattle.run_order.proofs.Whole.{cut_shuffle_of, shuffle_of}
 use Rattle.phase_pool.proofs.Results.{err_at}
 use Rattle.phase_pool.proofs.Runs.{all_wider}
-use Rattle.pass_crew.proofs.Ends.{all_good, all_told, left_all, one_is_there}
+use Rattle.pass_crew.proofs.Ends.{all_there, left_all, one_is_there}
 use Rattle.pass_crew.proofs.Heard.{heard_all, heard_nothing, tells_none}
 use Rattle.pass_crew.proofs.Places.{all_mapped}
 use Rattle.pass_crew.proofs.Whole.{cut_admitting, some_phases}
@@ -41,10 +41,10 @@ returns-in-Err-ran-clause-there g c =
     let knows = g.C.Host.knows in
     let k = knows c.run_all-crowd.new.first in
     let ws = c.run_all-crowd.result.0.items in
-    let law = (g.met.C.Crew g.world.𝓛 g.world.𝓜 g.world.𝓡 ((λ s x. x), (λ x. x), (λ x. x), λ x. x)).here_there in
+    let law = (g.met.C.Crew g.world.𝓛 g.world.𝓜 g.world.𝓡 ((λ s x. x), (λ x. x), (λ x. x), λ x. x)).here_there h in
     elim (err_at c.run_all-crowd.result.1 _ c.in-Err-ran.is c.run_all-crowd.ensures.some_left) [
       | inl none ↦ inl none
-      | inr some ↦ inr (one_is_there knows (g.C.Host.good h) (g.C.Host.tells h) s c.args.workers k ws c.run_all-crowd.ensures.ended some (all_wider _ _ (λ w here. law h w.pass here) ws c.run_all-crowd.ensures.here.1))
+      | inr some ↦ inr (one_is_there knows (g.C.Host.good h) (g.C.Host.tells h) s c.args.workers k ws c.run_all-crowd.ensures.ended some (all_there knows s (g.C.Host.here h) law ws c.run_all-crowd.ensures.here.1))
     ]
 
 pub returns-in-Err-ran-clause-left_there : goal.returns-in-Err-ran-clause-left_there
@@ -53,9 +53,9 @@ returns-in-Err-ran-clause-left_there g c =
     let s = g.C.Host.opened h in
     let knows = g.C.Host.knows in
     let ws = c.run_all-crowd.result.0.items in
-    let law = (g.met.C.Crew g.world.𝓛 g.world.𝓜 g.world.𝓡 ((λ s x. x), (λ x. x), (λ x. x), λ x. x)).here_there in
+    let law = (g.met.C.Crew g.world.𝓛 g.world.𝓜 g.world.𝓡 ((λ s x. x), (λ x. x), (λ x. x), λ x. x)).here_there h in
     left_all knows (g.C.Host.good h) (g.C.Host.tells h) s c.args.workers (knows c.run_all-crowd.new.first) ws c.run_all-crowd.ensures.ended (λ p seen. has_entered (knows p).number (replay s seen) ≡ true)
-    (all_wider _ _ (λ w here. law h w.pass here) ws c.run_all-crowd.ensures.here.1) c.passes_of.result.items c.passes_of.ensures
+    (all_there knows s (g.C.Host.here h) law ws c.run_all-crowd.ensures.here.1) c.passes_of.result.items c.passes_of.ensures
 
 pub returns-in-Err-ran-clause-left_tell : goal.returns-in-Err-ran-clause-left_tell
 returns-in-Err-ran-clause-left_tell g c =
