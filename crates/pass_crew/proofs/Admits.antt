@@ -1,6 +1,5 @@
 -- One more pass is let in.
-use Rattle.std.proofs.Common.{◌≡◌, ◌≢◌, ◌∙◌, ◌⊎◌, inl, inr, ◌<◌, ◌≤◌, ◌+◌, ℕ, zero, suc, true, false, List, [], ◌∷◌, ◌++◌, length, refl, sym, ap, subst, arith, append-nil, length-append}
-use Rattle.core_event.specs.declared.entry.Entry.{Entry}
+use Rattle.std.proofs.Common.{◌≡◌, ◌∙◌, ◌⊎◌, inl, inr, ◌<◌, ◌≤◌, ◌+◌, ℕ, zero, suc, true, false, List, [], ◌∷◌, ◌++◌, length, refl, sym, ap, subst, arith, length-append}
 use Rattle.core_event.specs.declared.event.Event.TheVariants.{Enter}
 use Rattle.pass_table.specs.Passes.{Passes, first_pass}
 use Rattle.ws_core.specs.States.{Moment}
@@ -12,7 +11,7 @@ use Rattle.run_order.specs.Orders.{Enters}
 use Rattle.run_order.proofs.Lists.{begins_on, begins_same}
 use Rattle.run_order.proofs.Numbers.{Below, enters_append, first_below, within}
 use Rattle.phase_pool.specs.Passes.{Known, LooksOn}
-use Rattle.phase_pool.specs.Workers.{Hand, Together, nobody, worker_at}
+use Rattle.phase_pool.specs.Workers.{Hand, nobody, worker_at}
 use Rattle.phase_pool.specs.Inside.Meeting.{Gathers, HasSeen}
 use Rattle.phase_pool.proofs.Pairs.{pairs_at, pairs_len}
 use Rattle.phase_pool.proofs.Passes.{grew_at, same_at}
@@ -22,7 +21,7 @@ use Rattle.pass_crew.specs.Inside.Admitted.{Admitted}
 use Rattle.pass_crew.proofs.Entering.{entered_many, enters_more, own_end_no, own_end_yes}
 use Rattle.pass_crew.proofs.Gone.{both}
 use Rattle.pass_crew.proofs.Meetings.{assembled_of, assembled_still, gathered_same, same_seen, together_of}
-use Rattle.pass_crew.proofs.Places.{at_front, at_last, each_more}
+use Rattle.pass_crew.proofs.Places.{at_front, each_more}
 use Rattle.pass_crew.proofs.Stages.{below_or_not, nothing_new, stage}
 
 from_one : (n : ℕ) (Q : ℕ → Type 0) → ((i : ℕ) → i < n → Q (i + 1)) → (j : ℕ) → 0 < j → j ≤ n → Q j

@@ -1,5 +1,5 @@
 -- Entries that let passes in, and such that let none in.
-use Rattle.std.proofs.Common.{◌≡◌, ◌≢◌, ◌∙◌, ◌⊎◌, inl, inr, ◌+◌, ◌<◌, ℕ, zero, suc, List, [], ◌∷◌, ◌++◌, map, length, refl, sym, ap, subst, arith, append-nil}
+use Rattle.std.proofs.Common.{◌≡◌, ◌≢◌, ◌∙◌, ◌⊎◌, inl, inr, ◌+◌, ◌<◌, ℕ, zero, suc, List, [], ◌∷◌, ◌++◌, length, refl, ap, subst, arith, append-nil}
 use Rattle.std.proofs.Math.ListN.{replicate}
 use Rattle.core_event.specs.declared.entry.Entry.{Entry}
 use Rattle.core_event.specs.declared.event.Event.{Event}
@@ -8,7 +8,7 @@ use Rattle.run_order.specs.Lists.{acts, own, Cut}
 use Rattle.run_order.specs.Orders.{Enters}
 use Rattle.run_order.specs.Fronts.{enters, lets_in}
 use Rattle.run_order.proofs.Lists.{acts_append, own_append, own_no, own_yes}
-use Rattle.run_order.proofs.Numbers.{enters_append, enters_cut}
+use Rattle.run_order.proofs.Numbers.{enters_cut}
 use Rattle.pass_crew.specs.Passes.{Leaving}
 
 abbrev enters_by : List (ℕ × Event) → ℕ

@@ -1,5 +1,5 @@
 -- What is known of passes in what pass 0 has seen.
-use Rattle.std.proofs.Common.{◌≡◌, ◌<◌, ◌∙◌, ℕ, List, [], ◌∷◌, ◌++◌, length, map, refl, sym, append-nil}
+use Rattle.std.proofs.Common.{◌≡◌, ◌<◌, ◌∙◌, ℕ, List, [], ◌∷◌, length, map, refl, sym, append-nil}
 use Rattle.std.specs.List.{AllByRecursion}
 use Rattle.core_event.specs.declared.entry.Entry.{Entry}
 use Rattle.core_event.specs.declared.event.Event.TheVariants.{Leave}
@@ -9,7 +9,6 @@ use Rattle.phase_pool.specs.Passes.{Known}
 use Rattle.phase_pool.specs.Workers.{Hand, hand, worker_at}
 use Rattle.phase_pool.specs.declared.worker.Worker.{Worker}
 use Rattle.pass_crew.specs.Passes.{Leaving}
-use Rattle.pass_crew.specs.Told.{HasTold}
 use Rattle.pass_crew.specs.Inside.Assembled.{IsKept}
 use Rattle.pass_crew.proofs.Places.{all_images}
 

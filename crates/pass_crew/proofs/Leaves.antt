@@ -17,7 +17,7 @@ use Rattle.phase_pool.proofs.Passes.{grew_at, makes_looks, makes_wider, same_at}
 use Rattle.pass_crew.specs.Passes.{Leaving, Remains, TakesIn}
 use Rattle.pass_crew.specs.declared.stopped.Stays.{Stays}
 use Rattle.pass_crew.specs.declared.stopped.Stays.TheVariants.{Busy, Memory}
-use Rattle.pass_crew.specs.Inside.Assembled.{Assembled, Ended, LeftNone, LeftOne}
+use Rattle.pass_crew.specs.Inside.Assembled.{Assembled, LeftNone, LeftOne}
 use Rattle.pass_crew.proofs.Entering.{cut_leaving_quiet, leaving_quiet}
 use Rattle.pass_crew.proofs.Meetings.{gathered_same, gone_after, gone_same}
 use Rattle.pass_crew.proofs.Places.{at_front, at_last, each_more}

@@ -1,8 +1,7 @@
 -- Where all passes that are still there have met, and what is new at the next such meeting.
-use Rattle.std.proofs.Common.{◌≡◌, ◌∙◌, inl, inr, ◌<◌, ◌≤◌, ◌+◌, ℕ, suc, true, false, List, [], ◌∷◌, ◌++◌, length, map, refl, sym, ap, subst, arith, append-nil}
+use Rattle.std.proofs.Common.{◌≡◌, ◌∙◌, inl, inr, ◌<◌, ◌≤◌, ◌+◌, ℕ, suc, false, List, [], ◌∷◌, ◌++◌, length, map, refl, sym, ap, subst, arith, append-nil}
 use Rattle.std.proofs.lemmas.List.{length-map}
 use Rattle.core_event.specs.declared.entry.Entry.{Entry}
-use Rattle.job_pool.specs.Workers.{Pairs}
 use Rattle.ws_core.specs.States.{Moment}
 use Rattle.ws_core.specs.Histories.{has_entered, entered, replay, Legal}
 use Rattle.ws_core.proofs.Grown.{entered_append, replay_append}

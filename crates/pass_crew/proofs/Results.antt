@@ -1,6 +1,6 @@
 -- What holds of both outcomes of a call.
 use Rattle.std.proofs.Common.{◌≡◌, subst}
-use Rattle.std.specs.Prelude.{Result, Ok, Err, OnOk, OnErr, IfOk}
+use Rattle.std.specs.Prelude.{Result, Ok, Err, OnErr, IfOk}
 
 module _ {A E : Type 0} where
   pub err_holds : {P : Type 0} (r : Result A E) → P → OnErr r P

@@ -85,8 +85,7 @@ where
     let mut workers = workers;
     let mut count = from;
     for phase in phases {
-        let (back, ran) =
-            run_and_tell(rt, alloc, crew, first, workers, listeners, phase, count);
+        let (back, ran) = run_and_tell(rt, alloc, crew, first, workers, listeners, phase, count);
         workers = back;
         match ran {
             Ok(told) => count = told,

@@ -3,7 +3,6 @@ use Rattle.std.specs.List.{AllByRecursion}
 use Rattle.phase_pool.specs.Workers.{hand}
 use Rattle.phase_pool.specs.Inside.Meeting.{Gathers}
 use Rattle.phase_pool.specs.declared.worker.Worker.{Worker}
-use Rattle.pass_crew.specs.Inside.Admitted.{Admitted}
 use Rattle.pass_crew.proofs.Admits.{admitted_more, admitted_still}
 use Rattle.pass_crew.proofs.Meetings.{gathered_len}
 use Rattle.pass_crew.proofs.Places.{all_pushed, pushed, pushed_len}

@@ -1,4 +1,4 @@
-use Rattle.std.proofs.Common.{◌≡◌, length, map}
+use Rattle.std.proofs.Common.{length, map}
 use Rattle.std.specs.List.{AllByRecursion}
 use Rattle.run_order.specs.Lists.{Grew}
 use Rattle.run_order.specs.Orders.{Leaves}

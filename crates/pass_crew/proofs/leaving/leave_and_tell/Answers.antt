@@ -1,11 +1,10 @@
-use Rattle.std.proofs.Common.{◌∙◌, ◌≡◌, ◌≤◌, length, map, refl, sym, ap, subst, arith, length-append}
+use Rattle.std.proofs.Common.{◌∙◌, length, map, sym, ap, subst, arith, length-append}
 use Rattle.std.proofs.lemmas.List.{length-map}
-use Rattle.run_order.specs.Lists.{Grew, own}
+use Rattle.run_order.specs.Lists.{Grew}
 use Rattle.run_order.specs.Orders.{Leaves}
-use Rattle.run_order.specs.Fronts.{enters}
 use Rattle.phase_pool.specs.Workers.{hand}
 use Rattle.phase_pool.proofs.Runs.{all_wider}
-use Rattle.pass_crew.specs.Inside.Assembled.{Assembled, Ended, IsKept}
+use Rattle.pass_crew.specs.Inside.Assembled.{Assembled, IsKept}
 use Rattle.pass_crew.proofs.Heard.{tells_since}
 use Rattle.pass_crew.proofs.Kept.{kept_hands, kept_here}
 use Rattle.pass_crew.proofs.Meetings.{assembled_of, ended_of}

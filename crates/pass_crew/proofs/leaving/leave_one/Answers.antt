@@ -1,4 +1,4 @@
-use Rattle.std.proofs.Common.{◌≡◌, ◌∷◌, map, sym, subst, refl}
+use Rattle.std.proofs.Common.{map, subst, refl}
 use Rattle.std.specs.List.{AllByRecursion}
 use Rattle.phase_pool.specs.Workers.{hand}
 use Rattle.phase_pool.specs.Inside.Meeting.{Gathers}

@@ -1,4 +1,4 @@
-use Rattle.std.proofs.Common.{◌∙◌, ◌≡◌, ◌≤◌, length, map, refl, sym, ap, subst, arith, length-append}
+use Rattle.std.proofs.Common.{◌∙◌, length, map, ap, arith, length-append}
 use Rattle.ws_core.specs.Histories.{replay}
 use Rattle.run_order.specs.Orders.{IsPhase}
 use Rattle.phase_pool.specs.Workers.{hand}

@@ -1,4 +1,4 @@
-use Rattle.std.proofs.Common.{◌∙◌, ◌≡◌, ◌<◌, length, map, refl, sym, ap, subst, arith}
+use Rattle.std.proofs.Common.{◌∙◌, length, map, refl, sym, ap, subst, arith}
 use Rattle.std.proofs.lemmas.List.{length-map}
 use Rattle.ws_core.specs.Histories.{replay}
 use Rattle.run_order.specs.Lists.{Grew}

@@ -1,4 +1,4 @@
-use Rattle.std.proofs.Common.{◌∙◌, ◌≡◌, ◌<◌, ◌≤◌, inl, inr, ◌++◌, length, map, refl, sym, ap, subst, arith}
+use Rattle.std.proofs.Common.{◌∙◌, ◌≡◌, ◌<◌, inr, ◌++◌, length, map, sym, ap, subst, arith}
 use Rattle.std.proofs.lemmas.List.{length-map}
 use Rattle.run_order.specs.Orders.{Enters}
 use Rattle.phase_pool.specs.Workers.{hand}

@@ -1,8 +1,8 @@
-use Rattle.std.proofs.Common.{◌∙◌, ◌≡◌, ◌<◌, ◌≤◌, ◌⊎◌, inl, inr, true, length, map, refl, sym, ap, subst, arith}
+use Rattle.std.proofs.Common.{◌≡◌, inl, inr, true, map, sym, ap, subst, arith}
 use Rattle.std.specs.List.{AllByRecursion}
 use Rattle.ws_core.specs.Histories.{has_entered, replay}
 use Rattle.run_order.specs.Lists.{acts, own}
-use Rattle.run_order.proofs.Whole.{cut_shuffle_of, shuffle_of}
+use Rattle.run_order.proofs.Whole.{cut_shuffle_of}
 use Rattle.phase_pool.proofs.Results.{err_at}
 use Rattle.phase_pool.proofs.Runs.{all_wider}
 use Rattle.pass_crew.proofs.Ends.{all_there, left_all, one_is_there}

@@ -1,8 +1,7 @@
-use Rattle.std.proofs.Common.{◌∙◌, ◌≡◌, ◌<◌, inl, inr, length, map, refl, sym, ap, subst, arith}
+use Rattle.std.proofs.Common.{◌∙◌, ◌<◌, inl, inr, length, map, sym, ap, subst, arith}
 use Rattle.std.proofs.lemmas.List.{length-map}
-use Rattle.run_order.specs.Lists.{Cut, Grew, own}
+use Rattle.run_order.specs.Lists.{Cut, Grew}
 use Rattle.run_order.specs.Orders.{Leaves}
-use Rattle.run_order.specs.Fronts.{enters}
 use Rattle.phase_pool.specs.Workers.{hand}
 use Rattle.phase_pool.proofs.Results.{err_at, err_on, ok_at, ok_on}
 use Rattle.phase_pool.proofs.Runs.{all_wider}

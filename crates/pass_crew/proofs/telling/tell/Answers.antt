@@ -1,4 +1,4 @@
-use Rattle.std.proofs.Common.{◌∙◌, ◌≡◌, length, map, drop, refl, sym, ap, subst}
+use Rattle.std.proofs.Common.{◌∙◌, length, map, drop, sym, ap, subst}
 use Rattle.run_order.specs.Lists.{Begins}
 use Rattle.save_parts.specs.Heard.{HeardMore}
 use Rattle.ws_core.specs.Histories.{told_of}
