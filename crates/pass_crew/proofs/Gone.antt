@@ -8,7 +8,7 @@ use Rattle.std.proofs.lemmas.Cmp.{nat_cmp_total}
 use Rattle.job_queue.specs.Changed.{put_if, changed}
 use Rattle.job_queue.proofs.Found.{same_key}
 use Rattle.pass_table.specs.declared.pass.Pass.{Pass}
-use Rattle.pass_table.specs.Passes.{Passes, Table, has_pass, idle}
+use Rattle.pass_table.specs.Passes.{Passes, Table, first_pass, has_pass, idle}
 use Rattle.core_event.specs.declared.entry.Entry.{Entry}
 use Rattle.core_event.specs.declared.event.Event.{Event}
 use Rattle.core_event.specs.declared.event.Event.TheVariants.{Enter, Leave, Take, Finish, Batch, EndBatch}
@@ -23,6 +23,7 @@ use Rattle.run_order.specs.Lists.{own}
 use Rattle.run_order.specs.Fronts.{lets_in, enters, Front}
 use Rattle.run_order.proofs.Lists.{own_no}
 use Rattle.run_order.proofs.Managed.{step_serving}
+use Rattle.run_order.proofs.Numbers.{first_below}
 
 -- the pass isn't there, and its number was given
 abbrev pub IsGone : ℕ → JobManager → Type 0
@@ -133,3 +134,11 @@ was_given n s h f j le =
     let own_in = own_enters 0 h in
     let zeroth = f.zeroth in
     omega (arith, first, next, own_in, zeroth, le)
+
+-- where a workspace was opened pass 0 alone is there
+pub nobody_yet : (s : Moment) → s.manager.passes ≡ first_pass → (k : ℕ) → 0 < k → has_entered k s ≡ false
+nobody_yet s first k some = by (has_entered k s) refl
+  where
+    by : (b : Bool) → has_entered k s ≡ b → has_entered k s ≡ false
+    by true e = let below = first_below k (sym (ap (λ (p : Passes _). has_pass p k) first) ∙ e) in absurd (omega (arith, below, some))
+    by false e = e

@@ -6,6 +6,7 @@ ghost use Rattle.run_order.specs.Fronts.{enters};
 ghost use Rattle.run_order.specs.Lists.{Cut, Grew, own};
 ghost use Rattle.run_order.specs.Orders.{Leaves};
 ghost use Rattle.phase_pool.specs.Workers.{Together, hand};
+ghost use Rattle.pass_crew.specs.Ends.{NoneIsThere};
 ghost use Rattle.pass_crew.specs.Inside.Assembled.{Assembled, Ended, IsKept, LeftNone, LeftOne};
 ghost use Rattle.pass_crew.specs.Inside.Telling.{Tells};
 
@@ -87,6 +88,7 @@ pub(crate) fn leave_and_tell<R: Wait, C: Crew, L: Listener>(
     ensures here { C.here crew.now first.new × AllByRecursion (λ w. C.here crew.now w.pass) result.0.items }
     ensures ended { Ended (IsKept (C.good crew.now) C.knows (C.tells crew.now)) (length workers.items) (C.knows first.new) (map (hand C.knows) result.0.items) }
     ensures leave { OnOk result.1 (Grew (Leaves (length workers.items)) (C.knows first.old).seen (C.knows first.new).seen) }
+    ensures gone { OnOk result.1 (NoneIsThere (length workers.items) (C.opened crew.now) (C.knows first.new).seen) }
     ensures all_in { OnOk result.1 (enters (own 0 (C.knows first.new).seen) ≡ length workers.items) }
     ensures told { OnOk result.1 (Tells (C.knows first.old).seen (C.knows first.new).seen (map (λ l. L.heard l) listeners.old) (map (λ l. L.heard l) listeners.new)) }
     ensures cut { OnErr result.1 (Grew (Cut (Leaves (length workers.items))) (C.knows first.old).seen (C.knows first.new).seen) }

@@ -2,7 +2,7 @@
 //!
 //! `Crew` is what they work at, and `run_script` runs the phases of a script. In specs/, `Passes` says how passes come and go,
 //! `Heard` what listeners were told, `Told` what passes that have left told of their own entries, and `Ends` who is there where
-//! a run stopped.
+//! a run ended.
 #![tactic(auto)]
 
 mod admitting;

@@ -7,7 +7,7 @@ ghost use Rattle.run_order.specs.Fronts.{enters};
 ghost use Rattle.run_order.specs.Lists.{own};
 ghost use Rattle.run_order.specs.Orders.{CutShuffle, IsCutRun, IsRun, Shuffle};
 ghost use Rattle.phase_pool.specs.Workers.{AllGoOn, Together, hand};
-ghost use Rattle.pass_crew.specs.Ends.{OneIsThere};
+ghost use Rattle.pass_crew.specs.Ends.{NoneIsThere, OneIsThere};
 ghost use Rattle.pass_crew.specs.Heard.{HeardAll, HeardFront};
 ghost use Rattle.pass_crew.specs.Told.{HasTold};
 ghost use Rattle.pass_crew.specs.Inside.Assembled.{Ended, IsKept};
@@ -49,6 +49,7 @@ where
     ensures here { C.here crew.now first.new × AllByRecursion (λ w. C.here crew.now w.pass) result.0.items }
     ensures ended { Ended (IsKept (C.good crew.now) C.knows (C.tells crew.now)) (length workers.items) (C.knows first.new) (map (hand C.knows) result.0.items) }
     ensures whole { OnOk result.1 (GoesThrough (C.makes crew.now) (length workers.items) (C.opened crew.now) (map (λ p. C.plan p) phases.now) (C.knows first.old).seen (C.knows first.new).seen) }
+    ensures gone { OnOk result.1 (NoneIsThere (length workers.items) (C.opened crew.now) (C.knows first.new).seen) }
     ensures all_in { OnOk result.1 (enters (own 0 (C.knows first.new).seen) ≡ length workers.items) }
     ensures told { OnOk result.1 (Tells (C.knows first.old).seen (C.knows first.new).seen (map (λ l. L.heard l) listeners.old) (map (λ l. L.heard l) listeners.new)) }
     ensures cut { OnErr result.1 (GoesPartly (C.makes crew.now) (length workers.items) (C.opened crew.now) (map (λ p. C.plan p) phases.now) (C.knows first.old).seen (C.knows first.new).seen) }
@@ -83,6 +84,7 @@ where
     ensures here { C.here crew.now first.new × AllByRecursion (λ w. C.here crew.now w.pass) result.0.items }
     ensures ended { Ended (IsKept (C.good crew.now) C.knows (C.tells crew.now)) count (C.knows first.new) (map (hand C.knows) result.0.items) }
     ensures whole { OnOk result.1 (IsRun (C.makes crew.now) (C.opened crew.now) (map (λ p. C.plan p) phases.now) count (C.knows first.new).seen) }
+    ensures gone { OnOk result.1 (NoneIsThere count (C.opened crew.now) (C.knows first.new).seen) }
     ensures all_in { OnOk result.1 (enters (own 0 (C.knows first.new).seen) ≡ count) }
     ensures told { OnOk result.1 (HeardAll (C.knows first.new).seen (map (λ l. L.heard l) listeners.old) (map (λ l. L.heard l) listeners.new)) }
     ensures cut { OnErr result.1 (IsCutRun (C.makes crew.now) (C.opened crew.now) (map (λ p. C.plan p) phases.now) count (C.knows first.new).seen) }
@@ -128,6 +130,7 @@ where
     requires opened { (C.opened crew.now).manager.passes ≡ first_pass }
     ensures here { C.here crew.now first.new × IfErr result (λ e. AllByRecursion (λ p. C.here crew.now p) e.left.items) }
     ensures whole { OnOk result (Shuffle (C.makes crew.now) (C.opened crew.now) (map (λ p. C.plan p) phases.now) workers (C.knows first.new).seen) }
+    ensures gone { OnOk result (NoneIsThere workers (C.opened crew.now) (C.knows first.new).seen) }
     ensures all_in { OnOk result ((phases.now ≡ []) ⊎ (enters (own 0 (C.knows first.new).seen) ≡ workers)) }
     ensures told { OnOk result (HeardAll (C.knows first.new).seen (map (λ l. L.heard l) listeners.old) (map (λ l. L.heard l) listeners.new)) }
     ensures cut { OnErr result (CutShuffle (C.makes crew.now) (C.opened crew.now) (map (λ p. C.plan p) phases.now) workers (C.knows first.new).seen) }

@@ -52,3 +52,6 @@ returns-in-Ok-clause-told g c =
     let grew = c.in-Ok.ensures.leave in
     tells_since (knows c.args.first.now).seen (knows c.tell.new.first).seen grew.0 c.args.from (map (λ l. g.L.Listener.heard l) c.args.listeners.now) (map (λ l. g.L.Listener.heard l) c.tell.new.listeners)
     c.requires.from (c.tell.ensures.same ∙ grew.1) c.tell.ensures.told
+
+pub returns-in-Ok-clause-gone : goal.returns-in-Ok-clause-gone
+returns-in-Ok-clause-gone g c = let n = length c.args.workers.items in (c.tell.ensures.assembled n n c.in-Ok.ensures.all).absent

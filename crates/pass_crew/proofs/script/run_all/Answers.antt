@@ -4,6 +4,7 @@ use Rattle.run_order.specs.Orders.{Enters}
 use Rattle.phase_pool.specs.Workers.{hand}
 use Rattle.phase_pool.proofs.Results.{err_on, ok_on}
 use Rattle.phase_pool.proofs.Runs.{all_wider}
+use Rattle.pass_crew.specs.Ends.{NoneIsThere}
 use Rattle.pass_crew.specs.Inside.Assembled.{Ended, IsKept}
 use Rattle.pass_crew.specs.Inside.Running.{GoesPartly, GoesThrough}
 use Rattle.pass_crew.specs.Inside.Telling.{Tells}
@@ -113,6 +114,23 @@ returns-in-Ok-clause-all_in g c =
     let all = c.in-Ok.ensures.all in
     let len : length zs ≡ c.args.count = omega (arith, d, e, e', all) in
     ok_on c.run_through.result.1 (λ in_all. in_all ∙ len) c.run_through.ensures.all_in
+
+pub returns-in-Ok-clause-gone : goal.returns-in-Ok-clause-gone
+returns-in-Ok-clause-gone g c =
+    let h = c.args.crew.now in
+    let s = g.C.Host.opened h in
+    let knows = g.C.Host.knows in
+    let f = hand knows in
+    let kept = IsKept (g.C.Host.good h) knows (g.C.Host.tells h) in
+    let xs = c.admit_all.new.workers.items in
+    let zs = c.tell-told.new.workers.items in
+    let a = c.tell-told.ensures.assembled (length (map f xs)) 0 (assembled_of kept s (knows c.admit_all.new.first) (map f xs) c.admit_all.ensures.admitted.together) in
+    let d = a.len in
+    let e = length-map xs f in
+    let e' = length-map zs f in
+    let all = c.in-Ok.ensures.all in
+    let len : length zs ≡ c.args.count = omega (arith, d, e, e', all) in
+    ok_on c.run_through.result.1 (λ none. subst (λ n. NoneIsThere n s (knows c.run_through.new.first).seen) len none) c.run_through.ensures.gone
 
 pub returns-in-Ok-clause-cut : goal.returns-in-Ok-clause-cut
 returns-in-Ok-clause-cut g c =

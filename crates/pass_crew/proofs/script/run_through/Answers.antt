@@ -5,6 +5,7 @@ use Rattle.run_order.specs.Orders.{Leaves}
 use Rattle.phase_pool.specs.Workers.{hand}
 use Rattle.phase_pool.proofs.Results.{err_at, err_on, ok_at, ok_on}
 use Rattle.phase_pool.proofs.Runs.{all_wider}
+use Rattle.pass_crew.specs.Ends.{NoneIsThere}
 use Rattle.pass_crew.specs.Inside.Assembled.{Ended, IsKept}
 use Rattle.pass_crew.proofs.Heard.{tells_on, tells_stop}
 use Rattle.pass_crew.proofs.Kept.{kept_hands, kept_here}
@@ -77,3 +78,7 @@ returns-in-Err-clause-some_left g c = subst (λ n. 0 < n) (sym c.run_each-worker
 
 pub returns-in-Err-clause-told_some : goal.returns-in-Err-clause-told_some
 returns-in-Err-clause-told_some g c = err_at c.run_each-workers.result.1 _ c.in-Err.is c.run_each-workers.ensures.told_some
+
+pub returns-in-Ok-clause-gone : goal.returns-in-Ok-clause-gone
+returns-in-Ok-clause-gone g c = ok_on c.leave_and_tell.result.1
+    (λ none. subst (λ n. NoneIsThere n (g.C.Host.opened c.args.crew.now) (g.C.Host.knows c.leave_and_tell.new.first).seen) c.run_each-workers.ensures.len none) c.leave_and_tell.ensures.gone
