@@ -1,0 +1,11 @@
+pub mod Idle
+pub mod Coming
+pub mod First
+pub mod Hosted
+pub mod Hosting
+pub mod Serving
+pub mod Begun
+pub mod Lent
+pub mod Closing
+pub mod Returned
+pub mod Built

@@ -1,0 +1,3 @@
+pub mod Steps
+-- Words that private code alone speaks of.
+pub mod Inside

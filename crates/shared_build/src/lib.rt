@@ -1,0 +1,18 @@
+//! Builds of a pass of a workspace that many threads share.
+//!
+//! - `vow`: a `BuildVow`, a promise of the builders that builds keep.
+//! - `lent`: the services of a workspace as a build has them.
+//! - `room`: a workspace as a room whose passes may build.
+//! - `building`: a build by a pass.
+#![tactic(auto)]
+
+mod building;
+mod lent;
+mod room;
+mod vow;
+
+pub use building::build;
+pub use lent::Lent;
+pub use res_path::NoMemory;
+pub use room::SharedRoom;
+pub use vow::BuildVow;
