@@ -1,6 +1,7 @@
 //! A workspace as a room whose passes may build.
 ghost use Rattle.std.specs.Prelude.{◌≡◌};
 
+use crate::asking::ask;
 use crate::{BuildVow, Lent, NoMemory};
 use builder_api::{BuildKind, BuildOutcome, Builder};
 use core_event::{Answer, Outcomes, Purpose, Reply};
@@ -9,12 +10,15 @@ use res_path::Name;
 use save_round::Participant;
 use std::alloc::Global;
 use std::sync::Wait;
+use std::sync::atomic::AtomicBool;
 use ws_outside::Disk;
 use ws_shared::{Pass, Workspace};
 
 /// A workspace as a room whose passes may build.
 pub struct SharedRoom<'a, D: Disk, B: Builder, P: Participant, V: BuildVow> {
     pub workspace: &'a Workspace<D, B, P, V>,
+    /// A pass that waits for the rule of the root gives it up once this is set.
+    pub stop: &'a AtomicBool,
 }
 
 /// What was answered.
@@ -61,20 +65,10 @@ impl<'a, D: Disk, B: Builder, P: Participant, V: BuildVow> BuildRoom
         pass: &mut Pass<D, B, P, V>,
         step: Step,
     ) -> Result<Answer, NoMemory> {
-        let reply = match step {
-            Step::Begin(rule) => self.workspace.begin_rule(rt, alloc, pass, rule)?,
-            Step::Batch => self.workspace.batch(rt, alloc, pass)?,
-            Step::Hand(project, index, kind) => self
-                .workspace
-                .build_begin(rt, alloc, pass, project, index, kind)?,
-            Step::Commit(edits) => self.workspace.build_commit(rt, alloc, pass, edits)?,
-            Step::Clear(project, index) => self
-                .workspace
-                .build_clean(rt, alloc, pass, project, index)?,
-            Step::EndBatch => self.workspace.end_batch(rt, alloc, pass)?,
-            Step::End(rule) => self.workspace.end_rule(rt, alloc, pass, rule)?,
-        };
-        Ok(answer_of(reply))
+        match ask(rt, self.workspace, alloc, pass, step, self.stop) {
+            Ok(reply) => Ok(answer_of(reply)),
+            Err(error) => Err(error),
+        }
     }
 
     fn check_out<R: Wait>(
@@ -86,11 +80,10 @@ impl<'a, D: Disk, B: Builder, P: Participant, V: BuildVow> BuildRoom
         project: Option<Name>,
     ) -> Result<(Answer, Option<Lent<D, B, P>>), NoMemory> {
         let purpose = Purpose::Build(kind, project);
-        let (reply, services) = self.workspace.checkout(rt, alloc, pass, purpose)?;
-        let answer = answer_of(reply);
-        match services {
-            Some(services) => Ok((answer, Some(Lent { services }))),
-            None => Ok((answer, None)),
+        match self.workspace.checkout(rt, alloc, pass, purpose) {
+            Ok((reply, Some(services))) => Ok((answer_of(reply), Some(Lent { services }))),
+            Ok((reply, None)) => Ok((answer_of(reply), None)),
+            Err(error) => Err(error),
         }
     }
 
@@ -103,6 +96,7 @@ impl<'a, D: Disk, B: Builder, P: Participant, V: BuildVow> BuildRoom
         outcome: BuildOutcome,
     ) -> Answer {
         let Lent { services } = services;
+        let _ = pass.at();
         match self
             .workspace
             .check_in(rt, alloc, pass, services, Outcomes::Build(outcome))
