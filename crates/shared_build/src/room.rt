@@ -31,8 +31,7 @@ fn answer_of(reply: Reply) -> Answer
 }
 
 impl<'a, D: Disk, B: Builder, P: Participant, V: BuildVow> BuildRoom
-    for SharedRoom<'a, D, B, P, V>
-{
+    for SharedRoom<'a, D, B, P, V> {
     ghost use Rattle.std.specs.Prelude.{◌≡◌, None};
     ghost use Rattle.save_history.specs.Rounds.{rounds_of};
     ghost use Rattle.pass_turns.specs.Turns.{knows};

@@ -40,13 +40,13 @@ unreachable-requires g c =
     let m = c.made-answer.ensures in
     let meaning = g.T.Told.Meanings.meaning in
     let hosted =
-        subst (λ x. IsHosted meaning c.args.kind project o k.number n.plan.now n.ended.now k.seen (t.knows x).seen (t.knows n.last.now.value).seen (t.knows n.pass.now).seen told (tells n.services.now)) c.of-taker.ensures
-        (subst (λ x. IsHosted meaning c.args.kind project o k.number n.plan.now n.ended.now k.seen (t.knows c.of-taker.result.value).seen (t.knows n.last.now.value).seen (t.knows n.pass.now).seen (tells x) (tells n.services.now)) c.of-lent.ensures m.hosted) in
+    subst (λ x. IsHosted meaning c.args.kind project o k.number n.plan.now n.ended.now k.seen (t.knows x).seen (t.knows n.last.now.value).seen (t.knows n.pass.now).seen told (tells n.services.now)) c.of-taker.ensures
+    (subst (λ x. IsHosted meaning c.args.kind project o k.number n.plan.now n.ended.now k.seen (t.knows c.of-taker.result.value).seen (t.knows n.last.now.value).seen (t.knows n.pass.now).seen (tells x) (tells n.services.now)) c.of-lent.ensures m.hosted) in
     let now = shown_in o k n.plan.now n.ended.now (tells n.began.now.value) (tells n.services.now) (t.knows n.last.now.value).seen in
     let answered =
-        subst (λ x. IfOk c.made-answer.result (λ a. IsAnswered meaning c.args.kind project (shown_in o k (Some c.args.plan) None (tells c.of-began.result.value) told (t.knows x).seen) a now)) c.of-last.ensures m.answered in
+    subst (λ x. IfOk c.made-answer.result (λ a. IsAnswered meaning c.args.kind project (shown_in o k (Some c.args.plan) None (tells c.of-began.result.value) told (t.knows x).seen) a now)) c.of-last.ensures m.answered in
     let unanswered =
-        subst (λ x. OnErr c.made-answer.result (IsUnanswered meaning c.args.kind project (shown_in o k (Some c.args.plan) None (tells c.of-began.result.value) told (t.knows x).seen) now)) c.of-last.ensures m.unanswered in
+    subst (λ x. OnErr c.made-answer.result (IsUnanswered meaning c.args.kind project (shown_in o k (Some c.args.plan) None (tells c.of-began.result.value) told (t.knows x).seen) now)) c.of-last.ensures m.unanswered in
     never_stops_so meaning g.T.Told.Meanings.sound c.args.kind project o k.number c.requires.opening k.seen j.seen c.requires.begun.begun c.requires.begun.goes_on told (tells c.of-began.result.value) c.args.plan
     n.plan.now n.ended.now (t.knows n.last.now.value).seen (t.knows n.pass.now).seen (tells n.began.now.value) (tells n.services.now) hosted c.made-answer.result answered unanswered c.in-Some.outcome c.in-Ok-Stopped.field-0 c.in-Some.is c.in-Ok-Stopped.is
 
@@ -63,13 +63,13 @@ unreachable-requires-2 g c =
     let m = c.made-answer.ensures in
     let meaning = g.T.Told.Meanings.meaning in
     let hosted =
-        subst (λ x. IsHosted meaning c.args.kind project o k.number n.plan.now n.ended.now k.seen (t.knows x).seen (t.knows n.last.now.value).seen (t.knows n.pass.now).seen told (tells n.services.now)) c.of-taker.ensures
-        (subst (λ x. IsHosted meaning c.args.kind project o k.number n.plan.now n.ended.now k.seen (t.knows c.of-taker.result.value).seen (t.knows n.last.now.value).seen (t.knows n.pass.now).seen (tells x) (tells n.services.now)) c.of-lent.ensures m.hosted) in
+    subst (λ x. IsHosted meaning c.args.kind project o k.number n.plan.now n.ended.now k.seen (t.knows x).seen (t.knows n.last.now.value).seen (t.knows n.pass.now).seen told (tells n.services.now)) c.of-taker.ensures
+    (subst (λ x. IsHosted meaning c.args.kind project o k.number n.plan.now n.ended.now k.seen (t.knows c.of-taker.result.value).seen (t.knows n.last.now.value).seen (t.knows n.pass.now).seen (tells x) (tells n.services.now)) c.of-lent.ensures m.hosted) in
     let now = shown_in o k n.plan.now n.ended.now (tells n.began.now.value) (tells n.services.now) (t.knows n.last.now.value).seen in
     let answered =
-        subst (λ x. IfOk c.made-answer.result (λ a. IsAnswered meaning c.args.kind project (shown_in o k (Some c.args.plan) None (tells c.of-began.result.value) told (t.knows x).seen) a now)) c.of-last.ensures m.answered in
+    subst (λ x. IfOk c.made-answer.result (λ a. IsAnswered meaning c.args.kind project (shown_in o k (Some c.args.plan) None (tells c.of-began.result.value) told (t.knows x).seen) a now)) c.of-last.ensures m.answered in
     let unanswered =
-        subst (λ x. OnErr c.made-answer.result (IsUnanswered meaning c.args.kind project (shown_in o k (Some c.args.plan) None (tells c.of-began.result.value) told (t.knows x).seen) now)) c.of-last.ensures m.unanswered in
+    subst (λ x. OnErr c.made-answer.result (IsUnanswered meaning c.args.kind project (shown_in o k (Some c.args.plan) None (tells c.of-began.result.value) told (t.knows x).seen) now)) c.of-last.ensures m.unanswered in
     never_cut_so meaning g.T.Told.Meanings.sound c.args.kind project o k.number c.requires.opening k.seen j.seen c.requires.begun.begun c.requires.begun.goes_on told (tells c.of-began.result.value) c.args.plan
     n.plan.now n.ended.now (t.knows n.last.now.value).seen (t.knows n.pass.now).seen (tells n.began.now.value) (tells n.services.now) hosted c.made-answer.result answered unanswered c.in-Some.outcome c.in-Err.field-0 c.in-Some.is c.in-Err.is
 
@@ -86,13 +86,13 @@ returns-in-Ok-Ended-clause-through g c =
     let m = c.made-answer.ensures in
     let meaning = g.T.Told.Meanings.meaning in
     let hosted =
-        subst (λ x. IsHosted meaning c.args.kind project o k.number n.plan.now n.ended.now k.seen (t.knows x).seen (t.knows n.last.now.value).seen (t.knows n.pass.now).seen told (tells n.services.now)) c.of-taker.ensures
-        (subst (λ x. IsHosted meaning c.args.kind project o k.number n.plan.now n.ended.now k.seen (t.knows c.of-taker.result.value).seen (t.knows n.last.now.value).seen (t.knows n.pass.now).seen (tells x) (tells n.services.now)) c.of-lent.ensures m.hosted) in
+    subst (λ x. IsHosted meaning c.args.kind project o k.number n.plan.now n.ended.now k.seen (t.knows x).seen (t.knows n.last.now.value).seen (t.knows n.pass.now).seen told (tells n.services.now)) c.of-taker.ensures
+    (subst (λ x. IsHosted meaning c.args.kind project o k.number n.plan.now n.ended.now k.seen (t.knows c.of-taker.result.value).seen (t.knows n.last.now.value).seen (t.knows n.pass.now).seen (tells x) (tells n.services.now)) c.of-lent.ensures m.hosted) in
     let now = shown_in o k n.plan.now n.ended.now (tells n.began.now.value) (tells n.services.now) (t.knows n.last.now.value).seen in
     let answered =
-        subst (λ x. IfOk c.made-answer.result (λ a. IsAnswered meaning c.args.kind project (shown_in o k (Some c.args.plan) None (tells c.of-began.result.value) told (t.knows x).seen) a now)) c.of-last.ensures m.answered in
+    subst (λ x. IfOk c.made-answer.result (λ a. IsAnswered meaning c.args.kind project (shown_in o k (Some c.args.plan) None (tells c.of-began.result.value) told (t.knows x).seen) a now)) c.of-last.ensures m.answered in
     let unanswered =
-        subst (λ x. OnErr c.made-answer.result (IsUnanswered meaning c.args.kind project (shown_in o k (Some c.args.plan) None (tells c.of-began.result.value) told (t.knows x).seen) now)) c.of-last.ensures m.unanswered in
+    subst (λ x. OnErr c.made-answer.result (IsUnanswered meaning c.args.kind project (shown_in o k (Some c.args.plan) None (tells c.of-began.result.value) told (t.knows x).seen) now)) c.of-last.ensures m.unanswered in
     (ended_so meaning g.T.Told.Meanings.sound c.args.kind project o k.number c.requires.opening k.seen j.seen c.requires.begun.begun c.requires.begun.goes_on told (tells c.of-began.result.value) c.args.plan
     n.plan.now n.ended.now (t.knows n.last.now.value).seen (t.knows n.pass.now).seen (tells n.began.now.value) (tells n.services.now) hosted c.made-answer.result answered unanswered c.in-Some.outcome c.in-Ok-Ended.answer c.in-Some.is c.in-Ok-Ended.is).0
 
@@ -109,13 +109,13 @@ returns-in-Ok-Ended-clause-twice g c =
     let m = c.made-answer.ensures in
     let meaning = g.T.Told.Meanings.meaning in
     let hosted =
-        subst (λ x. IsHosted meaning c.args.kind project o k.number n.plan.now n.ended.now k.seen (t.knows x).seen (t.knows n.last.now.value).seen (t.knows n.pass.now).seen told (tells n.services.now)) c.of-taker.ensures
-        (subst (λ x. IsHosted meaning c.args.kind project o k.number n.plan.now n.ended.now k.seen (t.knows c.of-taker.result.value).seen (t.knows n.last.now.value).seen (t.knows n.pass.now).seen (tells x) (tells n.services.now)) c.of-lent.ensures m.hosted) in
+    subst (λ x. IsHosted meaning c.args.kind project o k.number n.plan.now n.ended.now k.seen (t.knows x).seen (t.knows n.last.now.value).seen (t.knows n.pass.now).seen told (tells n.services.now)) c.of-taker.ensures
+    (subst (λ x. IsHosted meaning c.args.kind project o k.number n.plan.now n.ended.now k.seen (t.knows c.of-taker.result.value).seen (t.knows n.last.now.value).seen (t.knows n.pass.now).seen (tells x) (tells n.services.now)) c.of-lent.ensures m.hosted) in
     let now = shown_in o k n.plan.now n.ended.now (tells n.began.now.value) (tells n.services.now) (t.knows n.last.now.value).seen in
     let answered =
-        subst (λ x. IfOk c.made-answer.result (λ a. IsAnswered meaning c.args.kind project (shown_in o k (Some c.args.plan) None (tells c.of-began.result.value) told (t.knows x).seen) a now)) c.of-last.ensures m.answered in
+    subst (λ x. IfOk c.made-answer.result (λ a. IsAnswered meaning c.args.kind project (shown_in o k (Some c.args.plan) None (tells c.of-began.result.value) told (t.knows x).seen) a now)) c.of-last.ensures m.answered in
     let unanswered =
-        subst (λ x. OnErr c.made-answer.result (IsUnanswered meaning c.args.kind project (shown_in o k (Some c.args.plan) None (tells c.of-began.result.value) told (t.knows x).seen) now)) c.of-last.ensures m.unanswered in
+    subst (λ x. OnErr c.made-answer.result (IsUnanswered meaning c.args.kind project (shown_in o k (Some c.args.plan) None (tells c.of-began.result.value) told (t.knows x).seen) now)) c.of-last.ensures m.unanswered in
     (ended_so meaning g.T.Told.Meanings.sound c.args.kind project o k.number c.requires.opening k.seen j.seen c.requires.begun.begun c.requires.begun.goes_on told (tells c.of-began.result.value) c.args.plan
     n.plan.now n.ended.now (t.knows n.last.now.value).seen (t.knows n.pass.now).seen (tells n.began.now.value) (tells n.services.now) hosted c.made-answer.result answered unanswered c.in-Some.outcome c.in-Ok-Ended.answer c.in-Some.is c.in-Ok-Ended.is).1
 
@@ -132,12 +132,12 @@ returns-in-None-clause-through g c =
     let m = c.made-answer.ensures in
     let meaning = g.T.Told.Meanings.meaning in
     let hosted =
-        subst (λ x. IsHosted meaning c.args.kind project o k.number n.plan.now n.ended.now k.seen (t.knows x).seen (t.knows n.last.now.value).seen (t.knows n.pass.now).seen told (tells n.services.now)) c.of-taker.ensures
-        (subst (λ x. IsHosted meaning c.args.kind project o k.number n.plan.now n.ended.now k.seen (t.knows c.of-taker.result.value).seen (t.knows n.last.now.value).seen (t.knows n.pass.now).seen (tells x) (tells n.services.now)) c.of-lent.ensures m.hosted) in
+    subst (λ x. IsHosted meaning c.args.kind project o k.number n.plan.now n.ended.now k.seen (t.knows x).seen (t.knows n.last.now.value).seen (t.knows n.pass.now).seen told (tells n.services.now)) c.of-taker.ensures
+    (subst (λ x. IsHosted meaning c.args.kind project o k.number n.plan.now n.ended.now k.seen (t.knows c.of-taker.result.value).seen (t.knows n.last.now.value).seen (t.knows n.pass.now).seen (tells x) (tells n.services.now)) c.of-lent.ensures m.hosted) in
     let now = shown_in o k n.plan.now n.ended.now (tells n.began.now.value) (tells n.services.now) (t.knows n.last.now.value).seen in
     let answered =
-        subst (λ x. IfOk c.made-answer.result (λ a. IsAnswered meaning c.args.kind project (shown_in o k (Some c.args.plan) None (tells c.of-began.result.value) told (t.knows x).seen) a now)) c.of-last.ensures m.answered in
+    subst (λ x. IfOk c.made-answer.result (λ a. IsAnswered meaning c.args.kind project (shown_in o k (Some c.args.plan) None (tells c.of-began.result.value) told (t.knows x).seen) a now)) c.of-last.ensures m.answered in
     let unanswered =
-        subst (λ x. OnErr c.made-answer.result (IsUnanswered meaning c.args.kind project (shown_in o k (Some c.args.plan) None (tells c.of-began.result.value) told (t.knows x).seen) now)) c.of-last.ensures m.unanswered in
+    subst (λ x. OnErr c.made-answer.result (IsUnanswered meaning c.args.kind project (shown_in o k (Some c.args.plan) None (tells c.of-began.result.value) told (t.knows x).seen) now)) c.of-last.ensures m.unanswered in
     unended_so meaning g.T.Told.Meanings.sound c.args.kind project o k.number c.requires.opening k.seen j.seen c.requires.begun.begun c.requires.begun.goes_on told (tells c.of-began.result.value) c.args.plan
     n.plan.now n.ended.now (t.knows n.last.now.value).seen (t.knows n.pass.now).seen (tells n.began.now.value) (tells n.services.now) hosted c.made-answer.result answered unanswered c.in-None.is
