@@ -119,7 +119,7 @@ came_from ms kind project b c o last mine told has x = record {
   from_scratch = x.from_scratch;
 }
 
-pub has_same : (s : Moment) (g h : List Entry) → (λ (name : List ℕ). list_any (bytes_eq name) (replay s h).desk.builders) ≡ (λ (name : List ℕ). list_any (bytes_eq name) (replay s g).desk.builders)
+pub has_same : (s : Moment) (g h : List Entry) → ◌≡◌ {A = List ℕ → Bool} (λ name. list_any (bytes_eq name) (replay s h).desk.builders) (λ name. list_any (bytes_eq name) (replay s g).desk.builders)
 has_same s g h = ap (λ (names : Names). λ (name : List ℕ). list_any (bytes_eq name) names) (replay_names s h ∙ sym (replay_names s g))
 
 -- ---- the host's build

@@ -82,7 +82,7 @@ shown_closes None None before b o is = record {
 never_none : {X : Type 0} (P : X → Type 0) → ForSome None P
 never_none P = λ x e. let no : None ≡ Some x = e in cc
 
-never_some : {T : Type 0} → is_some None ≡ true → T
+never_some : {T : Type 0} → is_some {T = Plan} None ≡ true → T
 never_some e = let no : false ≡ true = e in cc
 
 module _ (ms : Meanings) (kind : BuildKind) (project : Option (List ℕ)) (s : Moment) (n : ℕ) (opening : IsOpening s) (k g : List Entry) (old : List Told) where

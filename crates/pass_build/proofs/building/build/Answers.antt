@@ -59,8 +59,8 @@ returns-in_err-close-in-Began-clause-built g c =
     (built_unclosed ms c.args.kind project o c.requires.opening k j c.at.ensures.own (same_on k l j same c.close.ensures.same) c.served-outcome.result i.seen l.seen (rw c.in-Began.is at c.in_ok-number.ensures.opened).0.grew returned p.0
     (subst (λ n. IsUnclosed o n l.seen j.seen) same.number c.in_err-close-in-Began.ensures.unclosed))
 
-pub returns-in_ok-close-in-Began-clause-built : goal.returns-in_ok-close-in-Began-clause-built
-returns-in_ok-close-in-Began-clause-built g c =
+pub returns-clause-built : goal.returns-clause-built
+returns-clause-built g c =
     let t = g.T.BuildRoom in
     let ms = g.T.Told.Meanings.meaning in
     let project = option_copied c.args.project in

@@ -50,8 +50,8 @@ unreachable-requires g c =
     never_stops_so meaning g.T.Told.Meanings.sound c.args.kind project o k.number c.requires.opening k.seen j.seen c.requires.begun.begun c.requires.begun.goes_on told (tells c.of-began.result.value) c.args.plan
     n.plan.now n.ended.now (t.knows n.last.now.value).seen (t.knows n.pass.now).seen (tells n.began.now.value) (tells n.services.now) hosted c.made-answer.result answered unanswered c.in-Some.outcome c.in-Ok-Stopped.field-0 c.in-Some.is c.in-Ok-Stopped.is
 
-pub unreachable-requires-2 : goal.unreachable-requires-2
-unreachable-requires-2 g c =
+pub unreachable-requires-in-Err : goal.unreachable-requires-in-Err
+unreachable-requires-in-Err g c =
     let t = g.T.BuildRoom in
     let tells = g.T.Services.BuildServices.tells in
     let o = t.opened c.args.room.now in
@@ -119,8 +119,8 @@ returns-in-Ok-Ended-clause-twice g c =
     (ended_so meaning g.T.Told.Meanings.sound c.args.kind project o k.number c.requires.opening k.seen j.seen c.requires.begun.begun c.requires.begun.goes_on told (tells c.of-began.result.value) c.args.plan
     n.plan.now n.ended.now (t.knows n.last.now.value).seen (t.knows n.pass.now).seen (tells n.began.now.value) (tells n.services.now) hosted c.made-answer.result answered unanswered c.in-Some.outcome c.in-Ok-Ended.answer c.in-Some.is c.in-Ok-Ended.is).1
 
-pub returns-in-None-clause-through : goal.returns-in-None-clause-through
-returns-in-None-clause-through g c =
+pub returns-clause-through : goal.returns-clause-through
+returns-clause-through g c =
     let t = g.T.BuildRoom in
     let tells = g.T.Services.BuildServices.tells in
     let o = t.opened c.args.room.now in
@@ -141,3 +141,21 @@ returns-in-None-clause-through g c =
     subst (λ x. OnErr c.made-answer.result (IsUnanswered meaning c.args.kind project (shown_in o k (Some c.args.plan) None (tells c.of-began.result.value) told (t.knows x).seen) now)) c.of-last.ensures m.unanswered in
     unended_so meaning g.T.Told.Meanings.sound c.args.kind project o k.number c.requires.opening k.seen j.seen c.requires.begun.begun c.requires.begun.goes_on told (tells c.of-began.result.value) c.args.plan
     n.plan.now n.ended.now (t.knows n.last.now.value).seen (t.knows n.pass.now).seen (tells n.began.now.value) (tells n.services.now) hosted c.made-answer.result answered unanswered c.in-None.is
+
+pub returns-in-Ok-Ended-clause-of : goal.returns-in-Ok-Ended-clause-of
+returns-in-Ok-Ended-clause-of g c = c.made-answer.ensures.of
+
+pub returns-in-Ok-Ended-clause-same : goal.returns-in-Ok-Ended-clause-same
+returns-in-Ok-Ended-clause-same g c = c.made-answer.ensures.same
+
+pub returns-in-Ok-Ended-clause-rest : goal.returns-in-Ok-Ended-clause-rest
+returns-in-Ok-Ended-clause-rest g c = c.made-answer.ensures.rest ∙ ap g.T.Services.BuildServices.rest c.of-lent.ensures
+
+pub returns-clause-of : goal.returns-clause-of
+returns-clause-of g c = ?
+
+pub returns-clause-same : goal.returns-clause-same
+returns-clause-same g c = c.made-answer.ensures.same
+
+pub returns-clause-rest : goal.returns-clause-rest
+returns-clause-rest g c = c.made-answer.ensures.rest ∙ ap g.T.Services.BuildServices.rest c.of-lent.ensures

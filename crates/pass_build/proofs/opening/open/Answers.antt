@@ -64,13 +64,8 @@ unreachable-requires g c =
     let r = c.in_ok-started.ensures.answered in
     true≢false (sym (planned_done r.0 c.in-Plan.plan (r.2 ∙ ap Some c.in-Plan.is)) ∙ (sym r.3 ∙ ap is_some c.in-None.is))
 
-pub returns-in-Plan-clause-same : goal.returns-in-Plan-clause-same
-returns-in-Plan-clause-same g c =
-    let t = g.T.BuildRoom in
-    same_on (t.knows c.args.pass.now) (t.knows c.did.new.pass) (t.knows c.check_out.new.pass) (same_on (t.knows c.args.pass.now) (t.knows c.begin.new.pass) (t.knows c.did.new.pass) c.begin.ensures.same c.did.ensures.same) c.check_out.ensures.same
-
-pub returns-in-Plan-clause-opened : goal.returns-in-Plan-clause-opened
-returns-in-Plan-clause-opened g c =
+pub returns-in-Some-services-clause-opened : goal.returns-in-Some-services-clause-opened
+returns-in-Some-services-clause-opened g c =
     let t = g.T.BuildRoom in
     let o = t.opened c.args.room.now in
     let k = t.knows c.args.pass.now in
@@ -84,7 +79,7 @@ returns-in-Plan-clause-opened g c =
     let r = c.in_ok-started.ensures.answered in (
       opened c.args.kind (option_copied c.args.project) o k.number c.requires.opening k.seen b.0 g1 b.1 (sym b.2 ∙ c.in_default.is) d.0 g2 (subst (λ n. Answered n events.Batch o d.0 g1 g2) first d.1)
           r.0 g3 (subst (λ n. Answered n (checkout c.args.kind (option_copied c.args.project)) o r.0 g2 g3) (second ∙ first) r.1) c.in-Plan.plan (r.2 ∙ ap Some c.in-Plan.is),
-      (c.in_ok-started.ensures.fits, c.in_ok-started.ensures.served),
+      (rw c.in-Some-services.is at c.in_ok-started.ensures.fits, rw c.in-Some-services.is at c.in_ok-started.ensures.served),
     )
 
 pub returns-in_err-close-in-Refused-clause-same : goal.returns-in_err-close-in-Refused-clause-same

@@ -97,8 +97,8 @@ returns-in-Some-clause-cleaned g c =
     (subst (λ (name : List ℕ). Answered j.number (Service (services.Clean name c.args.index)) o c.in_ok-answer.answer j.seen l.seen) c.in_ok-project.ensures c.in_ok-answer.ensures.answered))
     c.requires.described c.in-Some.number (sym c.number_of.ensures ∙ c.in-Some.is)
 
-pub returns-in-None-clause-stays : goal.returns-in-None-clause-stays
-returns-in-None-clause-stays g c =
+pub returns-clause-stays : goal.returns-clause-stays
+returns-clause-stays g c =
     let t = g.T.BuildRoom in
     let tells = g.T.Services.BuildServices.tells in
     let s = c.args.self.now in
@@ -130,8 +130,8 @@ returns-in-None-clause-stays g c =
       ),
     )
 
-pub returns-in-None-clause-cleaned : goal.returns-in-None-clause-cleaned
-returns-in-None-clause-cleaned g c =
+pub returns-clause-cleaned : goal.returns-clause-cleaned
+returns-clause-cleaned g c =
     let t = g.T.BuildRoom in
     let tells = g.T.Services.BuildServices.tells in
     let s = c.args.self.now in

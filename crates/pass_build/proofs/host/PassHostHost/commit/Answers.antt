@@ -61,8 +61,8 @@ unreachable-requires g c =
     (t.knows c.turn.new.last.value).seen (tells s.began.now.value) (tells s.services.now) c.requires.ready.4 c.requires.serving (ap (λ (z : Knows Entry). z.seen) c.in_ok-answer.ensures.last) c.args.edits c.in_ok-answer.answer
     (subst (λ n. Answered n (Service (services.Commit c.args.edits)) o c.in_ok-answer.answer j.seen l.seen) c.requires.ready.2.number c.in_ok-answer.ensures.answered) (sym c.taken_of.ensures ∙ c.in-None.is)
 
-pub returns-in-Some-clause-stays : goal.returns-in-Some-clause-stays
-returns-in-Some-clause-stays g c =
+pub returns-clause-stays : goal.returns-clause-stays
+returns-clause-stays g c =
     let t = g.T.BuildRoom in
     let tells = g.T.Services.BuildServices.tells in
     let s = c.args.self.now in
@@ -91,8 +91,8 @@ returns-in-Some-clause-stays g c =
       ),
     )
 
-pub returns-in-Some-clause-taken : goal.returns-in-Some-clause-taken
-returns-in-Some-clause-taken g c =
+pub returns-clause-taken : goal.returns-clause-taken
+returns-clause-taken g c =
     let t = g.T.BuildRoom in
     let tells = g.T.Services.BuildServices.tells in
     let s = c.args.self.now in

@@ -63,8 +63,8 @@ unreachable-requires g c =
     (subst (λ (name : List ℕ). Answered j.number (Service (services.Handed name c.args.index c.args.kind)) o c.in_ok-answer.answer j.seen l.seen) c.in_ok-project.ensures c.in_ok-answer.ensures.answered))
     c.requires.described (sym c.given_of.ensures ∙ c.in-None.is)
 
-pub returns-in-Some-clause-stays : goal.returns-in-Some-clause-stays
-returns-in-Some-clause-stays g c =
+pub returns-clause-stays : goal.returns-clause-stays
+returns-clause-stays g c =
     let t = g.T.BuildRoom in
     let tells = g.T.Services.BuildServices.tells in
     let s = c.args.self.now in
@@ -95,8 +95,8 @@ returns-in-Some-clause-stays g c =
       ),
     )
 
-pub returns-in-Some-clause-given : goal.returns-in-Some-clause-given
-returns-in-Some-clause-given g c =
+pub returns-clause-given : goal.returns-clause-given
+returns-clause-given g c =
     let t = g.T.BuildRoom in
     let tells = g.T.Services.BuildServices.tells in
     let s = c.args.self.now in

@@ -57,7 +57,7 @@ returns-clause-done g c =
     let s = c.args.self.now in
     let o = t.opened s.room.now in
     let k = t.knows s.before.now.value in
-    done_so (Called (item c.args.project.now c.args.index c.args.command.now) c.args.handed.now c.in-Some.answer) s.plan.now s.ended.now (entries_of k.number o k.seen) (book_in o k.number (length k.seen) (tells s.began.now.value) (tells s.services.now) (t.knows s.last.now.value).seen)
+    done_so (Called (item c.args._project.now c.args._index c.args.command.now) c.args.handed.now c.in-Some.answer) s.plan.now s.ended.now (entries_of k.number o k.seen) (book_in o k.number (length k.seen) (tells s.began.now.value) (tells s.services.now) (t.knows s.last.now.value).seen)
     (book_in o k.number (length k.seen) (tells s.began.now.value) (tells c.build_first.new.self) (t.knows s.last.now.value).seen) (c.in-Some.ensures.called, λ is. c.in-Some.ensures.failed (ap Some is))
 
 pub returns-clause-book : goal.returns-clause-book
