@@ -106,10 +106,10 @@ fn hand_over<R: Wait + Abort, D: Disk, B: Builder, P: Participant, V: Vow>(
     first: &mut Pass<D, B, P, V>,
     other: &mut Pass<D, B, P, V>,
 )
-    requires of { IsOf space.now first.old × IsOf space.now other.old }
-    requires behind { StartsWith (knows first.old).seen (knows other.old).seen }
+    requires { IsOf space.now first.old × IsOf space.now other.old }
     ensures { IsOf space.now first.new × IsOf space.now other.new }
 {
+    space.meet(first, other);
     let services = take(rt, alloc, space, first);
     space.meet(other, first);
     match give(rt, alloc, space, other, services) {
