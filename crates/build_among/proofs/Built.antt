@@ -54,11 +54,11 @@ none_more a (x ∷ l) m e =
 
 module _ (ms : Meanings) (kind : BuildKind) (project : Option (List ℕ)) (s : Moment) (k j : Knows Entry) (f : IsFaithful pass_of k) where
   -- what the pass made after a history, where it knows what it made in all
-  its_since : (since l : List Entry) → own k.number (k.seen ++ since) ≡ k.mine ++ l → own k.number since ≡ l
+  pub its_since : (since l : List Entry) → own k.number (k.seen ++ since) ≡ k.mine ++ l → own k.number since ≡ l
   its_since since l e = own_more k.number k.seen since l (e ∙ ap (λ z. z ++ l) (sym f.own))
 
   module _ (r : Result BuildAnswer AllocError) (w : WasBuilt ms kind project s r k j) where
-    mine_is : own k.number j.seen ≡ k.mine ++ w.made.0
+    pub mine_is : own k.number j.seen ≡ k.mine ++ w.made.0
     mine_is = subst (λ n. own n j.seen ≡ k.mine ++ w.made.0) w.number (w.faithful.own ∙ w.made.1)
 
     whole : (a : BuildAnswer) → IsBuildBeside ms k.number kind project s k.seen j.seen a → IsBuildAmong ms k.number kind project w.made.0

@@ -1,3 +1,4 @@
 pub mod Cutting
 pub mod Built
 pub mod Kept
+pub mod Calm

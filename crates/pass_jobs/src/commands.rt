@@ -147,12 +147,13 @@ fn do_command<W: Wait, R: JobRoom>(
     }
 }
 
-/// The pass does the commands, in order.
+/// The pass does the commands of the job, in order, and tells the room after each.
 fn do_commands<W: Wait, R: JobRoom>(
     rt: &W,
     room: &R,
     alloc: Global,
     pass: &mut R::Pass,
+    job: &Name,
     commands: &[Command],
     stop: &AtomicBool,
 ) -> Result<(), NoMemory>
@@ -160,9 +161,9 @@ fn do_commands<W: Wait, R: JobRoom>(
     ensures here { R.is_of room.now pass.new × IsHere (R.opened room.now) (R.Builds.good (R.opened room.now)) (R.knows pass.new) }
     ensures done { Does result (InTurn (Made (R.Builds.makes (R.opened room.now)) (R.knows pass.old).number) commands.now) (known (R.knows pass.old)) (known (R.knows pass.new)) }
 {
-    for command in commands {
+    for (index, command) in commands.iter().enumerate() {
         match do_command(rt, room, alloc, pass, command, stop) {
-            Ok(()) => {}
+            Ok(()) => room.after(job, index as u64),
             Err(error) => return Err(error),
         }
     }
@@ -175,6 +176,7 @@ pub(crate) fn do_job<W: Wait, R: JobRoom>(
     room: &R,
     alloc: Global,
     pass: &mut R::Pass,
+    job: &Name,
     commands: &[Command],
     stop: &AtomicBool,
 ) -> Result<(), NoMemory>
@@ -182,7 +184,7 @@ pub(crate) fn do_job<W: Wait, R: JobRoom>(
     ensures here { R.is_of room.now pass.new × IsHere (R.opened room.now) (R.Builds.good (R.opened room.now)) (R.knows pass.new) }
     ensures done { Does result (IsRest (Made (R.Builds.makes (R.opened room.now))) (R.knows pass.old).number commands.now) (known (R.knows pass.old)) (known (R.knows pass.new)) }
 {
-    match do_commands(rt, room, alloc, pass, commands, stop) {
+    match do_commands(rt, room, alloc, pass, job, commands, stop) {
         Ok(()) => do_event(rt, room, alloc, pass, Event::Finish, stop),
         Err(error) => Err(error),
     }

@@ -76,7 +76,8 @@ impl<R: JobRoom> Host for Floor<R> {
         job: Name,
         stop: &AtomicBool,
     ) -> Result<(), NoMemory> {
-        do_job(rt, &self.room, alloc, pass, phase.commands(&job), stop)
+        let commands = phase.commands(&job);
+        do_job(rt, &self.room, alloc, pass, &job, commands, stop)
     }
 
     fn live_jobs<W: Wait>(&self, rt: &W, alloc: Global, pass: &mut R::Pass) -> u64 {

@@ -146,4 +146,8 @@ pub trait JobRoom {
         requires { is_of self.now pass.old }
         ensures of { is_of self.now pass.new }
         ensures saved { WentOn (opened self.now) (AllOrNone (IsSave (knows pass.old).number kind) result) (knows pass.old) (knows pass.new) };
+
+    /// Is told that a pass has made the last entry of the command of this number, from 0, of the job. Nothing that a run promises
+    /// comes of it.
+    fn after(&self, job: &Name, command: u64);
 }

@@ -5,3 +5,4 @@ pub mod Orders
 pub mod Fronts
 pub mod Counts
 pub mod Alone
+pub mod Calm

@@ -1,5 +1,5 @@
--- The opening, and the steps on seats: a new pass, a note, what a note told, and a pass that is joined to another. Each keeps the rule.
-use Rattle.std.proofs.Common.{◌⊎◌, ◌≡◌, ◌≢◌, ◌^◌, ◌<◌, ℕ, zero, suc, false, eqb, List, [], ◌∷◌, ◌++◌, length, Option, Some, None, set, get_or, sym, refl, ap, ◌∙◌, subst, ⊎_elim, inl, inr, arith, length-set, get_or-set_other, cond, ◌||◌, true≢false, eq-eqb, ne_eqb}
+-- The opening, the ring of a bell, and the steps on seats: a new pass, a note, what a note told, and a pass that is joined to another. Each keeps the rule.
+use Rattle.std.proofs.Common.{◌⊎◌, ◌≡◌, ◌≢◌, ◌^◌, ◌%◌, ◌+◌, ◌<◌, ◌≤◌, ℕ, zero, suc, false, eqb, List, [], ◌∷◌, ◌++◌, length, replicate, Option, Some, None, set, get_or, sym, refl, ap, ◌∙◌, subst, ⊎_elim, inl, inr, arith, length-set, get_or-set_other, cond, ◌||◌, true≢false, eq-eqb, ne_eqb}
 use mathlib.Core.Logic.{dite}
 use mathlib.Core.Option.{some, none, some-injective}
 use native.Mathlib.Decide.{ℕ_discrete}
@@ -11,7 +11,7 @@ use Rattle.atomic_table.proofs.Lists.{at_longer, set_else, set_again}
 use Rattle.ws_turn.specs.declared.view.View.{View}
 use Rattle.ws_turn.specs.Lists.{StartsWith, of, has, put_before}
 use Rattle.ws_turn.specs.Inside.Turn.{Fate, unused, pending, living, joined, lost, is_had, is_used, Now, Knows, Lives, Turn}
-use Rattle.ws_turn.specs.Inside.Steps.{first_view, note, over, told_of, first_of, rest_of, fork, forked, merged, informed, Learns}
+use Rattle.ws_turn.specs.Inside.Steps.{first_view, note, over, told_of, first_of, rest_of, fork, forked, merged, informed, Learns, Rings}
 use Rattle.ws_turn.proofs.Lists.{some_same, none_some, by_bool, or_right, starts_both, none_before, none_within, between, longer_is, has_append, eqb_same, some_of}
 use Rattle.ws_turn.proofs.Views.{at_end, one_changed, lives_here, lives_else, still_one, one_ticket, apart_from_joined, living_same}
 
@@ -38,7 +38,7 @@ module _ {S E B : Type 0} (list : S → List E) (base : S → B) (by : E → ℕ
   first_fate : ℕ → Fate
   first_fate n = cond (eqb n 0) (living 0) unused
 
-  pub opens : (x : S) → list x ≡ [] → Turn list base by deals (base x) (opening (0 ∷ 0 ∷ 0 ∷ []) (Some x ∷ []) (first_view (base x)))
+  pub opens : (x : S) → list x ≡ [] → Turn list base by deals (base x) (opening (replicate 67 0) (Some x ∷ []) (first_view (base x)))
   unfolding first_fate
   opens x blank = record {
     now = record { history = []; drawn = 0; served = 0; fate = first_fate; named = λ _. 0 };
@@ -207,6 +207,34 @@ module _ {S E B : Type 0} (list : S → List E) (base : S → B) (by : E → ℕ
           silent = r.silent;
         },
         (refl, long.left, long.right, (λ n z. (own n z, apart_from_joined list base by deals key t id v mine n z), none_within by v.lost t.history w.seen long.within (λ n e. r.silent n (ap is_had (mine.lost_is n e)))), λ e. let x = some_of v.held e in let q = (mine.held x.0 x.1).1 in whole q ∙ sym q),
+      )
+
+  -- ---- a bell is rung
+
+  pub rings : (key : B) (slots id : ℕ) (me : Me (Option S) V) (i : ℕ) → 3 ≤ i
+      → Allows (Turn list base by deals key) slots id me i (λ k. (k + 1) % 2 ^ 64) (Rings list base by deals (step slots i 1 0 none) me)
+  rings key slots id me i high s r deep at small =
+      let rung : List ℕ = set s.words i ((get_or s.words i 0 + 1) % 2 ^ 64) in
+      let kept : Turn list base by deals key (record { words = rung; homes = s.homes; views = s.views }) = record {
+        now = r.now;
+        wide = length-set s.words i _ ∙ r.wide;
+        next_ticket = get_or-set_other s.words i 0 _ 0 (λ e. omega (arith, e, high)) ∙ r.next_ticket;
+        serving = get_or-set_other s.words i 1 _ 0 (λ e. omega (arith, e, high)) ∙ r.serving;
+        count = get_or-set_other s.words i 2 _ 0 (λ e. omega (arith, e, high)) ∙ r.count;
+        value = r.value;
+        views = r.views;
+        behind = r.behind;
+        queue = r.queue;
+        first = r.first;
+        given_is = r.given_is;
+        given_once = r.given_once;
+        silent = r.silent;
+      } in (
+        me.0,
+        keeps,
+        tt,
+        subst (λ (vs : List V). Turn list base by deals key (record { words = rung; homes = s.homes; views = vs })) (sym (set_again s.views id me.0 at)) kept,
+        refl,
       )
 
   -- ---- a new pass

@@ -55,6 +55,15 @@ impl<S: Logged> Play<Option<S>, View<S, S::Entry, S::Base>> for HandOn {
     ghost then = { HandsOn S.list S.base S.by S.gives };
 }
 
+/// Rings a bell.
+pub(crate) struct Ring;
+
+impl<S: Logged> Play<Option<S>, View<S, S::Entry, S::Base>> for Ring {
+    ghost use Rattle.ws_turn.specs.Inside.Steps.{Rings};
+
+    ghost then = { Rings S.list S.base S.by S.gives };
+}
+
 /// Looks at the serving word, and sees what was told.
 pub(crate) struct Learn;
 

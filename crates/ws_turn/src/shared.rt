@@ -5,7 +5,9 @@ use crate::NoMemory;
 use crate::logged::Logged;
 use crate::pass::Pass;
 use crate::plays::Fork;
-use crate::steps::{await_turn, draw_ticket, hand_back, learn_from, merge_in, raise_for, take_out};
+use crate::steps::{
+    WORDS, await_turn, draw_ticket, hand_back, learn_from, merge_in, raise_for, take_out,
+};
 use crate::view::{Turns, View};
 use atomic_table::Table;
 use std::alloc::{AllocError, Global};
@@ -25,7 +27,7 @@ pub struct Shared<S: Logged> {
         Turns<S>,
         Global,
     >,
-    ghost sized: { (table.shared.table_id.words ≡ 3) × (table.shared.table_id.slots ≡ 1) },
+    ghost sized: { (table.shared.table_id.words ≡ 67) × (table.shared.table_id.slots ≡ 1) },
 }
 
 impl<S: Logged> Shared<S> {
@@ -46,7 +48,7 @@ impl<S: Logged> Shared<S> {
             Err(error) => return Err((error, value)),
         };
         slots.push_reserved(Some(value));
-        match Table::new(alloc, &[0, 0, 0], slots, &about) {
+        match Table::new(alloc, &[0; WORDS], slots, &about) {
             Ok((table, seat)) => Ok((
                 Shared { table },
                 Pass {

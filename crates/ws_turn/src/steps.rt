@@ -1,10 +1,10 @@
 //! The steps of a seat.
-ghost use Rattle.std.specs.Prelude.{◌≡◌, ◌≢◌, ℕ, ◌<◌, ◌%◌, ◌^◌, ◌++◌, ◌∷◌, [], false, true, List, Some, None, is_some};
+ghost use Rattle.std.specs.Prelude.{◌≡◌, ◌≢◌, ℕ, ◌<◌, ◌≤◌, ◌%◌, ◌^◌, ◌++◌, ◌∷◌, [], false, true, List, Some, None, is_some};
 ghost use Rattle.ws_turn.specs.Lists.{StartsWith, HasNoneOf, longer, of, put_before};
 ghost use Rattle.ws_turn.specs.Inside.Steps.{queued, IsHanded, MayRaise, raised, handed_on, told_of, informed, Agrees};
 
 use crate::logged::Logged;
-use crate::plays::{Draw, HandOn, Learn, Look, Merge, Note, Raise, Told};
+use crate::plays::{Draw, HandOn, Learn, Look, Merge, Note, Raise, Ring, Told};
 use crate::view::{Chair, Desk};
 use std::marker::Brand;
 use std::sync::Wait;
@@ -16,6 +16,15 @@ const SERVING: usize = 1;
 
 const COUNT: usize = 2;
 
+/// The first bell.
+const BELL: usize = 3;
+
+/// How many bells there are. Of so many threads that wait, no two share one.
+const BELLS: u64 = 64;
+
+/// How many words the lock has: three, and the bells.
+pub(crate) const WORDS: usize = 67;
+
 const VALUE: usize = 0;
 
 /// How often the thread whose turn is next looks before it sleeps.
@@ -23,7 +32,7 @@ const SPINS: u32 = 64;
 
 /// A ticket, up to wrapping.
 pub(crate) fn draw_ticket<S: Logged>(desk: &Desk<S>, chair: &mut Chair<S>) -> u64
-    requires here { (chair.old.table_id ≡ desk.now.table_id) × (desk.now.table_id.words ≡ 3) }
+    requires here { (chair.old.table_id ≡ desk.now.table_id) × (desk.now.table_id.words ≡ 67) }
     requires live { chair.old.me.0.spent ≡ false }
     requires idle { (chair.old.me.0.ticket ≡ None) × (chair.old.me.0.held ≡ None) }
     requires number { (n : ℕ) × (chair.old.me.0.number ≡ Some n) }
@@ -35,7 +44,7 @@ pub(crate) fn draw_ticket<S: Logged>(desk: &Desk<S>, chair: &mut Chair<S>) -> u6
 
 /// Looks at the serving word once.
 fn look_once<S: Logged>(desk: &Desk<S>, chair: &mut Chair<S>) -> u64
-    requires here { (chair.old.table_id ≡ desk.now.table_id) × (desk.now.table_id.words ≡ 3) }
+    requires here { (chair.old.table_id ≡ desk.now.table_id) × (desk.now.table_id.words ≡ 67) }
     requires live { (chair.old.me.0.spent ≡ false) × (chair.old.me.0.held ≡ None) }
     requires queued { (k : ℕ) × (chair.old.me.0.ticket ≡ Some k) }
     ensures same { (chair.new.table_id ≡ chair.old.table_id) × (chair.new.id ≡ chair.old.id) }
@@ -52,21 +61,32 @@ fn may_spin(spins: u32, found: u64, ticket: u64) -> bool
     spins < SPINS && found.wrapping_add(1) == ticket
 }
 
-/// Waits for the turn, and takes the slot in hand. Who isn't next sleeps at once.
+/// The bell of those that wait with this ticket.
+fn bell_of(ticket: u64) -> usize
+    ensures { (3 ≤ result) × (result < 67) }
+{
+    BELL + (ticket % BELLS) as usize
+}
+
+/// Waits for the turn, and takes the slot in hand. Who isn't next sleeps at once, on the bell of its ticket.
+/// No wake is lost: it reads the bell before it looks, and who serves its ticket rings only then, so behind a look that
+/// came too early there is a ring that the read didn't see, which keeps it from sleeping or wakes it.
 pub(crate) fn await_turn<S: Logged, R: Wait>(
     rt: &R,
     desk: &Desk<S>,
     chair: &mut Chair<S>,
     ticket: u64,
 )
-    requires here { (chair.old.table_id ≡ desk.now.table_id) × (desk.now.table_id.words ≡ 3) }
+    requires here { (chair.old.table_id ≡ desk.now.table_id) × (desk.now.table_id.words ≡ 67) }
     requires live { (chair.old.me.0.spent ≡ false) × (chair.old.me.0.held ≡ None) }
     requires queued { (k : ℕ) × (chair.old.me.0.ticket ≡ Some k) × (ticket ≡ k % 2 ^ 64) }
     ensures same { (chair.new.table_id ≡ chair.old.table_id) × (chair.new.id ≡ chair.old.id) }
     ensures turn { IsHanded S.list S.base S.by S.gives chair.old.me chair.new.me }
 {
+    let bell = bell_of(ticket);
     let mut spins = 0;
     for _ in rt.forever() {
+        let rung = desk.peek(bell);
         let found = look_once(desk, chair);
         if found == ticket {
             break;
@@ -75,7 +95,7 @@ pub(crate) fn await_turn<S: Logged, R: Wait>(
             spins += 1;
             hint::spin_loop();
         } else {
-            desk.park(rt, SERVING, (found % (1 << 32)) as u32);
+            desk.park(rt, bell, (rung % (1 << 32)) as u32);
         }
     }
 }
@@ -92,7 +112,7 @@ pub(crate) fn take_out<S: Logged>(desk: &Desk<S>, chair: &mut Chair<S>) -> S
 
 /// Raises the count to the length of the value's list. B tells of the value.
 fn make_raise<B: Told<S>, S: Logged>(desk: &Desk<S>, chair: &mut Chair<S>, value: &S)
-    requires here { (chair.old.table_id ≡ desk.now.table_id) × (desk.now.table_id.words ≡ 3) }
+    requires here { (chair.old.table_id ≡ desk.now.table_id) × (desk.now.table_id.words ≡ 67) }
     requires told { B.told ≡ Some value.now }
     requires live { (chair.old.me.0.spent ≡ false) × (chair.old.me.0.pending ≡ []) }
     requires more { (more : List S.Entry) × MayRaise S.list S.base S.by S.gives value.now more chair.old.me.0 }
@@ -106,7 +126,7 @@ fn make_raise<B: Told<S>, S: Logged>(desk: &Desk<S>, chair: &mut Chair<S>, value
 
 /// Raises the count for a value that is lent: the call picks what it tells of.
 pub(crate) fn raise_for<S: Logged>(desk: &Desk<S>, chair: &mut Chair<S>, value: &S)
-    requires here { (chair.old.table_id ≡ desk.now.table_id) × (desk.now.table_id.words ≡ 3) }
+    requires here { (chair.old.table_id ≡ desk.now.table_id) × (desk.now.table_id.words ≡ 67) }
     requires live { (chair.old.me.0.spent ≡ false) × (chair.old.me.0.pending ≡ []) }
     requires more { (more : List S.Entry) × MayRaise S.list S.base S.by S.gives value.now more chair.old.me.0 }
     ensures same { (chair.new.table_id ≡ chair.old.table_id) × (chair.new.id ≡ chair.old.id) }
@@ -126,22 +146,34 @@ fn put_in<S: Logged>(desk: &Desk<S>, chair: &mut Chair<S>, value: S)
     desk.exchange(chair, VALUE, Some(value));
 }
 
-/// Gives the slot in hand back, serves the next ticket, and wakes those that sleep where somebody may wait.
+/// Rings the bell of those that wait with this ticket, and wakes who sleeps on it.
+fn ring<S: Logged>(desk: &Desk<S>, chair: &mut Chair<S>, ticket: u64)
+    requires here { (chair.old.table_id ≡ desk.now.table_id) × (desk.now.table_id.words ≡ 67) }
+    ensures same { (chair.new.table_id ≡ chair.old.table_id) × (chair.new.id ≡ chair.old.id) }
+    ensures me { chair.new.me ≡ chair.old.me }
+{
+    let bell = bell_of(ticket);
+    desk.fetch_add::<Ring>(chair, bell, 1);
+    desk.wake_all(bell);
+}
+
+/// Gives the slot in hand back, serves the next ticket, and rings for who has it. Where nobody has it yet it doesn't ring:
+/// who draws it later finds it served.
 pub(crate) fn serve_next<S: Logged>(desk: &Desk<S>, chair: &mut Chair<S>)
-    requires here { (chair.old.table_id ≡ desk.now.table_id) × (desk.now.table_id.words ≡ 3) × (desk.now.table_id.slots ≡ 1) }
+    requires here { (chair.old.table_id ≡ desk.now.table_id) × (desk.now.table_id.words ≡ 67) × (desk.now.table_id.slots ≡ 1) }
     requires held { (chair.old.me.0.spent ≡ false) × ((y : S) × (chair.old.me.0.held ≡ Some y) × (chair.old.me.1 ≡ (0, Some y) ∷ [])) }
     ensures same { (chair.new.table_id ≡ chair.old.table_id) × (chair.new.id ≡ chair.old.id) }
     ensures on { chair.new.me ≡ (handed_on S.list S.base S.by S.gives chair.old.me.0, []) }
 {
-    let served = desk.fetch_add::<HandOn>(chair, SERVING, 1);
-    if desk.peek(TICKETS) != served.wrapping_add(1) {
-        desk.wake_all(SERVING);
+    let next = desk.fetch_add::<HandOn>(chair, SERVING, 1).wrapping_add(1);
+    if desk.peek(TICKETS) != next {
+        ring(desk, chair, next);
     }
 }
 
 /// Gives the value back: raises the count, puts the value into the slot and serves the next ticket.
 pub(crate) fn hand_back<S: Logged>(desk: &Desk<S>, chair: &mut Chair<S>, value: S)
-    requires here { (chair.old.table_id ≡ desk.now.table_id) × (desk.now.table_id.words ≡ 3) × (desk.now.table_id.slots ≡ 1) }
+    requires here { (chair.old.table_id ≡ desk.now.table_id) × (desk.now.table_id.words ≡ 67) × (desk.now.table_id.slots ≡ 1) }
     requires live { (chair.old.me.0.spent ≡ false) × (chair.old.me.0.pending ≡ []) }
     requires held { chair.old.me.1 ≡ (0, None) ∷ [] }
     requires more { (more : List S.Entry) × MayRaise S.list S.base S.by S.gives value more chair.old.me.0 }
@@ -156,7 +188,7 @@ pub(crate) fn hand_back<S: Logged>(desk: &Desk<S>, chair: &mut Chair<S>, value: 
 
 /// Tells a seat what another has seen, and lets it look.
 pub(crate) fn learn_from<S: Logged>(desk: &Desk<S>, chair: &mut Chair<S>, other: &mut Chair<S>)
-    requires here { (chair.old.table_id ≡ desk.now.table_id) × (other.old.table_id ≡ desk.now.table_id) × (desk.now.table_id.words ≡ 3) }
+    requires here { (chair.old.table_id ≡ desk.now.table_id) × (other.old.table_id ≡ desk.now.table_id) × (desk.now.table_id.words ≡ 67) }
     requires live { (chair.old.me.0.spent ≡ false) × (other.old.me.0.spent ≡ false) }
     ensures chair { (chair.new.table_id ≡ chair.old.table_id) × (chair.new.id ≡ chair.old.id) }
     ensures other { (other.new.table_id ≡ other.old.table_id) × (other.new.id ≡ other.old.id) × (other.new.me ≡ other.old.me) }
@@ -172,7 +204,7 @@ pub(crate) fn learn_from<S: Logged>(desk: &Desk<S>, chair: &mut Chair<S>, other:
 
 /// Sees what was told.
 fn look_again<S: Logged>(desk: &Desk<S>, chair: &mut Chair<S>)
-    requires here { (chair.old.table_id ≡ desk.now.table_id) × (desk.now.table_id.words ≡ 3) }
+    requires here { (chair.old.table_id ≡ desk.now.table_id) × (desk.now.table_id.words ≡ 67) }
     requires live { chair.old.me.0.spent ≡ false }
     ensures chair { (chair.new.table_id ≡ chair.old.table_id) × (chair.new.id ≡ chair.old.id) }
     ensures seen { chair.new.me ≡ (informed S.list S.base S.by S.gives chair.old.me.0, chair.old.me.1) }
@@ -185,7 +217,7 @@ fn look_again<S: Logged>(desk: &Desk<S>, chair: &mut Chair<S>)
 
 /// Lets a pass that holds nothing go on in the seat of another, which is joined to it.
 pub(crate) fn merge_in<S: Logged>(desk: &Desk<S>, chair: &mut Chair<S>, mut other: Chair<S>)
-    requires here { (chair.old.table_id ≡ desk.now.table_id) × (other.table_id ≡ desk.now.table_id) × (desk.now.table_id.words ≡ 3) }
+    requires here { (chair.old.table_id ≡ desk.now.table_id) × (other.table_id ≡ desk.now.table_id) × (desk.now.table_id.words ≡ 67) }
     requires live { (chair.old.me.0.spent ≡ false) × (other.me.0.spent ≡ false) }
     requires numbers { ((a : ℕ) × (chair.old.me.0.number ≡ Some a)) × ((b : ℕ) × (other.me.0.number ≡ Some b)) }
     requires idle { (chair.old.me.0.ticket ≡ None) × (chair.old.me.0.held ≡ None) × (chair.old.me.1 ≡ []) }

@@ -100,6 +100,10 @@ module _ {S E B : Type 0} (list : S → List E) (base : S → B) (by : E → ℕ
   abbrev pub HandsOn : Step (Option S) → Sits → ℕ → Sits → Type 0
   HandsOn st m r m' = m' ≡ (handed_on m.0, [])
 
+  -- a bell was rung, which tells nothing and changes no view
+  abbrev pub Rings : Step (Option S) → Sits → ℕ → Sits → Type 0
+  Rings st m r m' = m' ≡ m
+
   -- what was told is seen
   abbrev pub informed : View S E B → View S E B
   informed v = record v { seen = longer v.seen v.told; told = [] }

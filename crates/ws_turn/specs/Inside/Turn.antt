@@ -1,5 +1,6 @@
 -- The rule of the lock.
 -- Word 0 is the next ticket, word 1 the ticket that is served, word 2 the length of the history. Slot 0 is the place of the value.
+-- The words from 3 on are the bells that waiters sleep on, of which the rule says nothing.
 -- Tickets are counted here without an end. The words show them up to wrapping.
 use Rattle.std.specs.Prelude.{Bool, true, false, ◌≡◌, ◌≢◌, ◌⊎◌, ◌%◌, ◌^◌, ◌<◌, ◌≤◌, ℕ, List, [], length, slice_index, eqb, Option, Some}
 use Rattle.std.specs.List.{IsDistinct}
@@ -64,7 +65,7 @@ module _ {S E B : Type 0} (list : S → List E) (base : S → B) (by : E → ℕ
 
   pub record Turn (key : B) (s : State (Option S) (View S E B)) : Type 0 where
     pub now : Now E
-    pub wide : length s.words ≡ 3
+    pub wide : length s.words ≡ 67
     pub next_ticket : slice_index s.words 0 ≡ now.drawn % 2 ^ 64
     pub serving : slice_index s.words 1 ≡ now.served % 2 ^ 64
     pub count : slice_index s.words 2 ≡ length now.history

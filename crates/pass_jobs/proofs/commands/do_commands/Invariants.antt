@@ -6,7 +6,7 @@ use Rattle.pass_jobs.specs.Inside.Floors.{IsHere, known}
 use Rattle.pass_jobs.proofs.commands.do_commands.Given as goal
 
 -- the commands so far are done
-abbrev pub invariant-loop-command : goal.invariant-loop-command
-invariant-loop-command g l =
+abbrev pub invariant-loop-index : goal.invariant-loop-index
+invariant-loop-index g l =
     g.R.JobRoom.is_of l.room l.pass × IsHere (g.R.JobRoom.opened l.room) (g.R.Builds.PassBuilds.good (g.R.JobRoom.opened l.room)) (g.R.JobRoom.knows l.pass)
-    × Makes (InTurn (Made (g.R.Builds.PassBuilds.makes (g.R.JobRoom.opened l.room)) (g.R.JobRoom.knows l.fn.pass).number) (take l.command-index l.commands)) (known (g.R.JobRoom.knows l.fn.pass)) (known (g.R.JobRoom.knows l.pass))
+    × Makes (InTurn (Made (g.R.Builds.PassBuilds.makes (g.R.JobRoom.opened l.room)) (g.R.JobRoom.knows l.fn.pass).number) (take l.index l.commands)) (known (g.R.JobRoom.knows l.fn.pass)) (known (g.R.JobRoom.knows l.pass))
