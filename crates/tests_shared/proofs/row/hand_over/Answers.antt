@@ -23,11 +23,11 @@ give-requires-clause-fits g c =
     subst (λ l. Fits d.moment d.left_since d.may_leave d.faults g.V.Vow.fits (opened_by g.B.Builder.tells g.P.Participant.tells o) o.keeper.value l (told_by g.B.Builder.tells g.P.Participant.tells (trio_of c.take-services.result)))
     (sym seen) c.take-services.ensures.fits
 
-pub give-2-requires-clause-round : goal.give-2-requires-clause-round
-give-2-requires-clause-round g c = ap (λ k. (rounds_of k.seen).under) c.meet-2.ensures.other ∙ c.take-services.ensures.round
+pub give-requires-in-Err-clause-round : goal.give-requires-in-Err-clause-round
+give-requires-in-Err-clause-round g c = ap (λ k. (rounds_of k.seen).under) c.meet-2.ensures.other ∙ c.take-services.ensures.round
 
-pub give-2-requires-clause-fits : goal.give-2-requires-clause-fits
-give-2-requires-clause-fits g c =
+pub give-requires-in-Err-clause-fits : goal.give-requires-in-Err-clause-fits
+give-requires-in-Err-clause-fits g c =
     let d = g.D.Disk in
     let o = opening_of c.args.space.now in
     let opened = opened_by g.B.Builder.tells g.P.Participant.tells o in
