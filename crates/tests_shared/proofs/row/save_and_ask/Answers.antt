@@ -1,0 +1,18 @@
+use denote.Exit.{yes}
+use denote.Param.Send.{arg_send, arg_sync, param_send, param_sync, plain_sync, recorded_sync, sendable, shr_sync, struct_sync}
+use Rattle.std.proofs.Crossing.{crosses}
+use Rattle.core_event.specs.contracts.entry.Entry as entry
+use Rattle.pass_turns.proofs.pass.Pass.TheSendSync as of_pass
+use Rattle.tests_shared.proofs.slow.Gate.TheSendSync as of_gate
+use Rattle.tests_shared.proofs.Sent.{slow_locked, slow_opening, slow_space}
+use Rattle.tests_shared.proofs.row.save_and_ask.Goals as goal
+
+pub for_each_mut-requires-send-T : goal.for_each_mut-requires-send-T
+for_each_mut-requires-send-T g c κs within = param_send _ _ (arg_send _ yes _ (of_pass.the_send _ entry.the_row slow_opening _ _ slow_locked))
+
+pub for_each_mut-requires-sync-F : goal.for_each_mut-requires-sync-F
+for_each_mut-requires-sync-F g c κs within =
+    let w = slow_space in
+    let r = c.type_bounds.sync-R in
+    let h = of_gate.the_sync in
+    search (param_sync, arg_sync, recorded_sync, struct_sync, shr_sync, plain_sync, crosses, sendable, tt) depth 40
