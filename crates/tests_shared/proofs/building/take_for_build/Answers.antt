@@ -12,4 +12,4 @@ returns-clause-builds g c =
     let d = g.D.Disk in
     let o = opening_of c.args.space.now in
     builds_got d.moment d.left_since d.may_leave d.faults g.V.Vow.fits (opened_by g.B.Builder.tells g.P.Participant.tells o) o.keeper.value
-        (λ s. told_by g.B.Builder.tells g.P.Participant.tells (trio_of s)) (purposes.Build kinds.Incremental None) c.in-Ok.reply c.in-Ok.services c.in-Some.services c.in-Some.is refl c.in-Ok.ensures.lent (λ found added w. w.lent)
+    (λ s. told_by g.B.Builder.tells g.P.Participant.tells (trio_of s)) (purposes.Build kinds.Incremental None) c.in-Ok.reply c.in-Ok.services c.in-Some.services c.in-Some.is refl c.in-Ok.ensures.lent (λ found added w. w.lent)

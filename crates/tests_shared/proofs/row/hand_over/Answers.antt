@@ -11,13 +11,13 @@ use Rattle.tests_shared.proofs.row.hand_over.Goals as goal
 pub give-requires-clause-round : goal.give-requires-clause-round
 give-requires-clause-round g c =
     let seen = met_again (knows c.args.other.now) (knows c.meet.new.other) (knows c.meet.new.pass) (knows c.take-services.new.pass) (knows c.meet-2.new.pass)
-        c.meet.ensures.begins.1 c.meet.ensures.other c.take-services.ensures.begins c.meet-2.ensures.pass in
+    c.meet.ensures.begins.1 c.meet.ensures.other c.take-services.ensures.begins c.meet-2.ensures.pass in
     ap (λ l. (rounds_of l).under) seen ∙ c.take-services.ensures.round
 
 pub give-requires-clause-fits : goal.give-requires-clause-fits
 give-requires-clause-fits g c =
     let seen = met_again (knows c.args.other.now) (knows c.meet.new.other) (knows c.meet.new.pass) (knows c.take-services.new.pass) (knows c.meet-2.new.pass)
-        c.meet.ensures.begins.1 c.meet.ensures.other c.take-services.ensures.begins c.meet-2.ensures.pass in
+    c.meet.ensures.begins.1 c.meet.ensures.other c.take-services.ensures.begins c.meet-2.ensures.pass in
     let d = g.D.Disk in
     let o = opening_of c.args.space.now in
     subst (λ l. Fits d.moment d.left_since d.may_leave d.faults g.V.Vow.fits (opened_by g.B.Builder.tells g.P.Participant.tells o) o.keeper.value l (told_by g.B.Builder.tells g.P.Participant.tells (trio_of c.take-services.result)))

@@ -18,7 +18,7 @@ pub returns-clause-round : goal.returns-clause-round
 returns-clause-round g c =
     let t = c.in-Ok.ensures.lent in
     ap (λ l. (rounds_of l).under) t.seen
-        ∙ subst (λ o. IfSome o (λ s. (rounds_of (t.found ++ t.added)).under ≡ round_for (purposes.Save kinds.Full))) c.in-Some.is t.did_it.lent.round
+    ∙ subst (λ o. IfSome o (λ s. (rounds_of (t.found ++ t.added)).under ≡ round_for (purposes.Save kinds.Full))) c.in-Some.is t.did_it.lent.round
 
 pub returns-clause-fits : goal.returns-clause-fits
 returns-clause-fits g c =
